@@ -1,0 +1,4 @@
+pub mod CursorLaws
+pub mod NumberLaws
+pub mod ReadLaws
+pub mod CopyLaws

@@ -1,0 +1,5 @@
+pub mod Cursors
+pub mod Reads
+pub mod Numbers
+pub mod Copies
+pub mod Refusals

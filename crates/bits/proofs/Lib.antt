@@ -1,0 +1,5 @@
+pub mod FieldLaws
+pub mod WordLaws
+pub mod RunLaws
+pub mod PackedLaws
+pub mod TwosLaws

@@ -1,0 +1,160 @@
+-- The laws of `bytesOf` and `put`.
+use Prim.Native.Nat.{ℕ, zero, suc, _+_, _-_, _*_, _/_, _%_, _^_, _≤_, _<_, zero-le}
+use mathlib.Core.Path.{_≡_, refl, sym, ap, ap₂, _∙_, subst}
+use mathlib.Core.List.{List, [], _∷_, _++_, append-assoc, append-nil}
+use native.Mathlib.Omega.{arith}
+use native.Mathlib.Nat.{zero-add, add-zero, add-suc, suc-add, add-assoc, div-one}
+use lib.ListN.{length, take, drop, set, length-append, length-drop, take-append-drop}
+use native.Mathlib.Numerals.{add-one, add-two, add-three, add-four, add-five, add-six, add-seven}
+use lib.Seq.{take-at, drop-drop, drop-append-add, length-take-le, sets, sets-eq}
+use lib.Pow.{shr-shr, mod-mod-pow, field}
+use lib.Pow as P
+use Rattle.bits.specs.Bits.{num}
+use Rattle.bits.specs.Bits as B
+use Rattle.bits.proofs.FieldLaws.{field-field, field-high}
+use Rattle.bits.specs.Runs.{bytesOf, bytesFor, put}
+
+pub length-bytesOf : (k N : ℕ) → length (bytesOf k N) ≡ k
+unfolding bytesOf
+length-bytesOf zero N = refl
+length-bytesOf (suc k) N = ap suc (length-bytesOf k (N / 2 ^ 8))
+
+eight-suc : (i : ℕ) → 8 + 8 * i ≡ 8 * suc i
+eight-suc i = omega arith
+
+-- a run of bytes is one run, and then another of what is above it
+pub bytesOf-add : (a b N : ℕ) → bytesOf (a + b) N ≡ bytesOf a N ++ bytesOf b (N / 2 ^ (8 * a))
+unfolding bytesOf
+bytesOf-add zero b N = ap₂ bytesOf (zero-add b) (sym (div-one N))
+bytesOf-add (suc a) b N =
+    ap (λ (k : ℕ). bytesOf k N) (suc-add a b)
+    ∙ ap (λ (l : List ℕ). N % 2 ^ 8 ∷ l)
+    (bytesOf-add a b (N / 2 ^ 8)
+    ∙ ap (λ (x : ℕ). bytesOf a (N / 2 ^ 8) ++ bytesOf b x) (shr-shr N 8 (8 * a) ∙ ap (λ (k : ℕ). N / 2 ^ k) (eight-suc a)))
+
+-- k bytes depend on 8 * k bits alone
+pub bytesOf-mod : (k N : ℕ) → bytesOf k (N % 2 ^ (8 * k)) ≡ bytesOf k N
+unfolding bytesOf
+bytesOf-mod zero N = refl
+bytesOf-mod (suc k) N =
+    ap₂ (λ (x : ℕ) (l : List ℕ). x ∷ l)
+    (ap (λ (j : ℕ). N % 2 ^ j % 2 ^ 8) (turned k) ∙ mod-mod-pow N (8 * k) 8)
+    (ap (bytesOf k) (ap (λ (j : ℕ). N % 2 ^ j / 2 ^ 8) (turned k) ∙ P.field N (8 * k) 8) ∙ bytesOf-mod k (N / 2 ^ 8))
+  where
+    turned : (k : ℕ) → 8 * suc k ≡ 8 * k + 8
+    turned k = omega arith
+
+put-seam : (X Y vs : List ℕ) (k : ℕ) → length X ≡ k → put (X ++ Y) k vs ≡ (X ++ vs) ++ drop (length vs) Y
+unfolding put
+put-seam X Y vs k e =
+    ap₂ (λ (a b : List ℕ). (a ++ vs) ++ b) (take-at X Y k e) (ap (λ (j : ℕ). drop (j + length vs) (X ++ Y)) (sym e) ∙ drop-append-add X Y (length vs))
+
+-- two runs, one after the other, are one
+pub put-put : (d X Y : List ℕ) (i k : ℕ) → i ≤ length d → length X ≡ k → put (put d i X) (i + k) Y ≡ put d i (X ++ Y)
+unfolding put
+put-put d X Y i k h e =
+    put-seam (take i d ++ X) (drop (i + length X) d) Y (i + k) (length-append (take i d) X ∙ ap₂ (λ (a b : ℕ). a + b) (length-take-le i d h) e)
+    ∙ ap₂ (λ (l r : List ℕ). l ++ r) (append-assoc (take i d) X Y)
+    (drop-drop (length Y) (i + length X) d ∙ ap (λ (j : ℕ). drop j d) (add-assoc i (length X) (length Y) ∙ ap (λ (j : ℕ). i + j) (sym (length-append X Y))))
+
+-- after k bytes of N, the next m
+pub put-next : (d : List ℕ) (i k m N w : ℕ) → i ≤ length d → bytesOf m w ≡ bytesOf m (N / 2 ^ (8 * k))
+    → put (put d i (bytesOf k N)) (i + k) (bytesOf m w) ≡ put d i (bytesOf (k + m) N)
+put-next d i k m N w h e =
+    put-put d (bytesOf k N) (bytesOf m w) i k h (length-bytesOf k N)
+    ∙ ap (λ (l : List ℕ). put d i l) (ap (λ (v : List ℕ). bytesOf k N ++ v) e ∙ sym (bytesOf-add k m N))
+
+-- the same from the front
+pub put-front : (d : List ℕ) (k m N w : ℕ) → bytesOf m w ≡ bytesOf m (N / 2 ^ (8 * k))
+    → put (put d 0 (bytesOf k N)) k (bytesOf m w) ≡ put d 0 (bytesOf (k + m) N)
+put-front d k m N w e =
+    ap (λ (j : ℕ). put (put d 0 (bytesOf k N)) j (bytesOf m w)) (sym (zero-add k)) ∙ put-next d 0 k m N w zero-le e
+
+-- the bytes of a word of F: as many as there are bits for, or all that is left
+pub word-bytes : (F o w : ℕ) → w ≡ B.field F (8 * o) 64 → bytesOf 8 w ≡ bytesOf 8 (F / 2 ^ (8 * o))
+unfolding B.field
+word-bytes F o w e = ap (bytesOf 8) e ∙ bytesOf-mod 8 (F / 2 ^ (8 * o))
+
+pub put-none : (d : List ℕ) (i N : ℕ) → d ≡ put d i (bytesOf 0 N)
+unfolding put bytesOf
+put-none d i N =
+    sym (ap (λ (k : ℕ). take i d ++ [] ++ drop k d) (add-zero i) ∙ ap (λ (r : List ℕ). r ++ drop i d) (append-nil (take i d)) ∙ take-append-drop i d)
+
+pub length-put : (d vs : List ℕ) (i : ℕ) → i + length vs ≤ length d → length (put d i vs) ≡ length d
+unfolding put
+length-put d vs i h =
+    let l₁ = length-append (take i d ++ vs) (drop (i + length vs) d) in
+    let l₂ = length-append (take i d) vs in
+    let l₃ : i ≤ length d = omega arith in
+    omega (arith, l₁, l₂, length-take-le i d l₃, length-drop (i + length vs) d)
+
+pub length-put-bytes : (d : List ℕ) (i k N : ℕ) → i + k ≤ length d → length (put d i (bytesOf k N)) ≡ length d
+length-put-bytes d i k N h = length-put d (bytesOf k N) i (subst (λ (j : ℕ). i + j ≤ length d) (sym (length-bytesOf k N)) h)
+
+-- eight stores of one byte each are a word
+pub put-word : (d : List ℕ) (i w : ℕ) → i + 8 ≤ length d
+    → set (set (set (set (set (set (set (set d i (w % 2 ^ 8)) (i + 1) (w / 2 ^ 8 % 2 ^ 8)) (i + 2) (w / 2 ^ 8 / 2 ^ 8 % 2 ^ 8))
+    (i + 3) (w / 2 ^ 8 / 2 ^ 8 / 2 ^ 8 % 2 ^ 8)) (i + 4) (w / 2 ^ 8 / 2 ^ 8 / 2 ^ 8 / 2 ^ 8 % 2 ^ 8))
+    (i + 5) (w / 2 ^ 8 / 2 ^ 8 / 2 ^ 8 / 2 ^ 8 / 2 ^ 8 % 2 ^ 8)) (i + 6) (w / 2 ^ 8 / 2 ^ 8 / 2 ^ 8 / 2 ^ 8 / 2 ^ 8 / 2 ^ 8 % 2 ^ 8))
+    (i + 7) (w / 2 ^ 8 / 2 ^ 8 / 2 ^ 8 / 2 ^ 8 / 2 ^ 8 / 2 ^ 8 / 2 ^ 8 % 2 ^ 8)
+    ≡ put d i (bytesOf 8 w)
+unfolding put bytesOf
+put-word d i w h = simp (add-one, add-two, add-three, add-four, add-five, add-six, add-seven) (sets-eq (bytesOf 8 w) d i h)
+
+-- one store is a byte
+pub put-byte : (d : List ℕ) (i w : ℕ) → i < length d → set d i (w % 2 ^ 8) ≡ put d i (bytesOf 1 w)
+unfolding put bytesOf
+put-byte d i w h = sets-eq (bytesOf 1 w) d i (subst (λ (k : ℕ). k ≤ length d) (sym (add-one i)) h)
+
+-- one more byte of w
+pub tail-step : (d₀ d : List ℕ) (i j w v : ℕ) → i + j < length d₀ → length d ≡ length d₀ → d ≡ put d₀ i (bytesOf j w) → v ≡ w / 2 ^ (8 * j)
+    → (set d (i + j) (v % 2 ^ 8) ≡ put d₀ i (bytesOf (j + 1) w)) × (v / 2 ^ 8 ≡ w / 2 ^ (8 * (j + 1)))
+tail-step d₀ d i j w v h l e ev =
+    let h₁ : i + j < length d = omega arith in
+    let h₂ : i ≤ length d₀ = omega arith in
+    let e₂ : 8 * j + 8 ≡ 8 * (j + 1) = omega arith in (
+      put-byte d (i + j) v h₁
+          ∙ ap (λ (x : List ℕ). put x (i + j) (bytesOf 1 v)) e
+          ∙ put-next d₀ i j 1 w v h₂ (ap (bytesOf 1) ev),
+      ap (λ (x : ℕ). x / 2 ^ 8) ev ∙ shr-shr w (8 * j) 8 ∙ ap (λ (k : ℕ). w / 2 ^ k) e₂,
+    )
+
+-- one more word of a field
+pub words-step : (d₀ : List ℕ) (N at count k w : ℕ) → 64 * k + 64 ≤ count → w ≡ B.field N (at + 64 * k) 64
+    → put (put d₀ 0 (bytesOf (8 * k) (B.field N at count))) (8 * k) (bytesOf 8 w) ≡ put d₀ 0 (bytesOf (8 * (k + 1)) (B.field N at count))
+words-step d₀ N at count k w h e =
+    let e₁ : 64 * k ≡ 8 * (8 * k) = omega arith in
+    let e₂ : 8 * k + 8 ≡ 8 * (k + 1) = omega arith in
+    let F = B.field N at count in
+    put-front d₀ (8 * k) 8 F w
+    (word-bytes F (8 * k) w (e ∙ sym (field-field N at count (64 * k) 64 h) ∙ ap (λ (p : ℕ). B.field F p 64) e₁))
+    ∙ ap (λ (j : ℕ). put d₀ 0 (bytesOf j F)) e₂
+
+-- the last bits of a field
+pub words-last : (d₀ : List ℕ) (N at count w : ℕ) → w ≡ B.field N (at + 64 * (count / 64)) (count % 64)
+    → put (put d₀ 0 (bytesOf (8 * (count / 64)) (B.field N at count))) (8 * (count / 64)) (bytesOf ((count % 64 + 7) / 8) w)
+    ≡ put d₀ 0 (bytesOf (bytesFor count) (B.field N at count))
+words-last d₀ N at count w e =
+    let q = 64 * (count / 64) in
+    let l : q ≤ count = omega arith in
+    let e₁ : count % 64 ≡ count - q = omega arith in
+    let e₂ : q ≡ 8 * (8 * (count / 64)) = omega arith in
+    let e₃ : 8 * (count / 64) + (count % 64 + 7) / 8 ≡ (count + 7) / 8 = omega arith in
+    let F = B.field N at count in
+    put-front d₀ (8 * (count / 64)) ((count % 64 + 7) / 8) F w
+    (ap (bytesOf ((count % 64 + 7) / 8))
+    (e ∙ ap (λ (n : ℕ). B.field N (at + q) n) e₁ ∙ sym (field-high N at count q l) ∙ ap (λ (k : ℕ). F / 2 ^ k) e₂))
+    ∙ ap (λ (j : ℕ). put d₀ 0 (bytesOf j F)) e₃
+
+-- the same two, as a chain of equations, which is how code leaves them
+pub words-more : (d₀ d d′ : List ℕ) (N at count k w : ℕ) → 64 * k + 64 ≤ count → w ≡ B.field N (at + 64 * k) 64
+    → d ≡ put d₀ 0 (bytesOf (8 * k) (B.field N at count)) → d′ ≡ put d (8 * k) (bytesOf 8 w)
+    → d′ ≡ put d₀ 0 (bytesOf (8 * (k + 1)) (B.field N at count))
+words-more d₀ d d′ N at count k w h ew e e′ =
+    e′ ∙ ap (λ (x : List ℕ). put x (8 * k) (bytesOf 8 w)) e ∙ words-step d₀ N at count k w h ew
+
+pub words-end : (d₀ d d′ : List ℕ) (N at count w : ℕ) → w ≡ B.field N (at + 64 * (count / 64)) (count % 64)
+    → d ≡ put d₀ 0 (bytesOf (8 * (count / 64)) (B.field N at count)) → d′ ≡ put d (8 * (count / 64)) (bytesOf ((count % 64 + 7) / 8) w)
+    → d′ ≡ put d₀ 0 (bytesOf (bytesFor count) (B.field N at count))
+words-end d₀ d d′ N at count w ew e e′ =
+    e′ ∙ ap (λ (x : List ℕ). put x (8 * (count / 64)) (bytesOf ((count % 64 + 7) / 8) w)) e ∙ words-last d₀ N at count w ew

@@ -1,0 +1,18 @@
+-- Bytes as one number, and a field of bits of a number. Bit k of some bytes is bit k mod 8 of byte k div 8, counted from the low end
+-- (`field-bit` in proofs/FieldLaws), and the first bit of a field is its lowest.
+use Prim.Native.Nat.{ℕ, _+_, _*_, _/_, _%_, _^_, _<_}
+use mathlib.Core.List.{List, [], _∷_}
+use lib.ListN.{getD}
+
+-- the bytes as one number, the first byte lowest
+unfoldable pub num : List ℕ → ℕ
+num [] = 0
+num (b ∷ s) = b + 2 ^ 8 * num s
+
+-- n bits of the number N from bit p, the first bit lowest
+unfoldable pub field : (N p n : ℕ) → ℕ
+field N p n = N / 2 ^ p % 2 ^ n
+
+-- every element is a byte
+abbrev pub Bytes : List ℕ → Type 0
+Bytes s = (i : ℕ) → getD s i 0 < 2 ^ 8

@@ -1,0 +1,5 @@
+pub mod Choice
+pub mod Bits
+pub mod Runs
+pub mod Packed
+pub mod TwosComplement

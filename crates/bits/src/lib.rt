@@ -1,0 +1,23 @@
+// Bits of byte slices: the loads, field reads, copies and numbers that the readers and walkers are made of
+// (vrf-bitio/src/lib.rs). The functions here ask for room by a `requires` and test nothing twice; the crate bitio has the
+// same reads as calls that take any cursor.
+//
+// A position is a bit of the slice: bit k is bit k mod 8 of byte k div 8, counted from the low end.
+
+pub mod copy;
+pub mod field;
+pub mod integer;
+pub mod load;
+pub mod number;
+
+// What stands where a packed number is due.
+pub enum Packed {
+    // The number, and how many bytes it takes.
+    Whole(u32, u64),
+    // The window ends inside the byte after so many whole ones.
+    Cut(u64),
+    // The fifth byte says that another follows.
+    Endless,
+    // The fifth byte holds more than 15.
+    Overflow,
+}
