@@ -1,0 +1,5 @@
+pub mod Tables
+pub mod Labels
+pub mod Layout
+pub mod Spans
+pub mod TwelveLevels

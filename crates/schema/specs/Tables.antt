@@ -1,0 +1,77 @@
+-- Schema and declared tables, and what they say of a handle (01, Tables and outputs; schema.rs).
+use Prim.Native.Nat.{ℕ, zero, suc, _+_, _*_, _/_}
+use mathlib.Core.Bool.{Bool, _&&_}
+use mathlib.Core.List.{List, []}
+use lib.ListN.{length, getD}
+use lib.Dec.{ltb, eqb}
+use Rattle.bits.specs.Choice.{if_then_else_}
+use Rattle.schema.specs.declared.Row.{Row}
+use Rattle.schema.specs.declared.Row.the-variants as Row
+use Rattle.schema.specs.declared.Child.{Child}
+use Rattle.schema.specs.declared.Child.the-variants.{Array, Leaf}
+use Rattle.schema.specs.declared.Name.{Name}
+use Rattle.schema.specs.declared.Name.the-variants.{At, Unnamed}
+
+pub record Tables : Type 0 where
+  pub rows : List ℕ  -- schema rows of five numbers: level, kind, handle, a, b
+  pub names : List ℕ  -- the schema's name pool
+  pub declared : List ℕ  -- for each handle the start and the length of its declared name
+  pub declaredNames : List ℕ  -- the declared name pool
+
+abbrev pub noTables : Tables
+noTables = record { rows = []; names = []; declared = []; declaredNames = [] }
+
+-- the root level that means no schema, and the start that means no declared name: what is absent
+abbrev pub absent : ℕ
+absent = 4294967295
+
+abbrev pub rowSize : ℕ
+rowSize = 5
+
+-- kind 0: an array, of level a; kind 1: a name, at a, of b bytes
+abbrev pub arrayKind : ℕ
+arrayKind = 0
+
+abbrev pub nameKind : ℕ
+nameKind = 1
+
+-- number j of row i
+abbrev pub cell : (rows : List ℕ) (i j : ℕ) → ℕ
+cell rows i j = getD rows (rowSize * i + j) 0
+
+abbrev pub fits : (rows : List ℕ) (level kind handle i : ℕ) → Bool
+fits rows level kind handle i = eqb (cell rows i 0) level && eqb (cell rows i 1) kind && eqb (cell rows i 2) handle
+
+-- the first of the `left` rows from i on that fits
+unfoldable pub firstRow : (left : ℕ) (rows : List ℕ) (level kind handle i : ℕ) → Row
+firstRow zero rows level kind handle i = Row.Missing
+firstRow (suc left) rows level kind handle i =
+    if fits rows level kind handle i then Row.At i else firstRow left rows level kind handle (i + 1)
+
+abbrev pub rowCount : List ℕ → ℕ
+rowCount rows = length rows / rowSize
+
+abbrev pub rowOf : (rows : List ℕ) (level kind handle : ℕ) → Row
+rowOf rows level kind handle = firstRow (rowCount rows) rows level kind handle 0
+
+abbrev pub childAt : (rows : List ℕ) → Row → Child
+childAt rows Row.Missing = Leaf
+childAt rows (Row.At i) = Array (cell rows i 3)
+
+abbrev pub nameAt : (rows : List ℕ) → Row → Name
+nameAt rows Row.Missing = Unnamed
+nameAt rows (Row.At i) = At (cell rows i 3) (cell rows i 4)
+
+-- whether the schema calls a handle of a level an array, and of which level its elements are
+unfoldable pub child : (rows : List ℕ) (level handle : ℕ) → Child
+child rows level handle = childAt rows (rowOf rows level arrayKind handle)
+
+-- where the schema's name of a handle stands in its pool
+unfoldable pub schemaName : (rows : List ℕ) (level handle : ℕ) → Name
+schemaName rows level handle = nameAt rows (rowOf rows level nameKind handle)
+
+-- where the declared name of a handle stands in the declared pool; a handle past the table has absent
+unfoldable pub declaredName : (declared : List ℕ) (handle : ℕ) → Name
+declaredName declared handle =
+    if eqb (getD declared (2 * handle) absent) absent then Unnamed else
+    At (getD declared (2 * handle) absent) (getD declared (2 * handle + 1) 0)

@@ -1,0 +1,30 @@
+// Schema and declared tables (array/schema.rs): the layout that they keep, what they say of a handle, and labels.
+//
+// A schema row is five u32: level, kind, handle, a, b. Kind 0 says that the handle is an array whose elements have level
+// a; kind 1 that its name stands at a in the name pool, b bytes long. A declared row is a handle's start and length in the
+// declared name pool.
+
+// The first row that fits.
+pub enum Row {
+    At(usize),
+    Missing,
+}
+
+// Whether a handle is an array, and the level of its elements.
+pub enum Child {
+    Array(u32),
+    Leaf,
+}
+
+// Where a name stands in its pool: start, length.
+pub enum Name {
+    At(u32, u32),
+    Unnamed,
+}
+
+// A label: a part of the declared pool, a part of the schema's pool, or `_h` and the handle.
+pub enum Label {
+    Declared(u32, u32),
+    Named(u32, u32),
+    Plain,
+}
