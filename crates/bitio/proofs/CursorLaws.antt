@@ -5,7 +5,7 @@ use mathlib.Core.List.{List}
 use mathlib.Core.Bool.{Bool, true, false, not, _&&_}
 use native.Mathlib.Omega.{arith}
 use lib.Dec.{leb}
-use borrow.Author.Tests.{le-leb, lt-leb, leb-true, not-true, not-false}
+use borrow.Author.Tests.{le-leb, lt-leb, leb-true, lt-ltb, le-ltb, not-true, not-false}
 use Rattle.bits.specs.Bits.{num, field}
 use Rattle.bits.proofs.FieldLaws.{field-field}
 use Rattle.bitio.specs.Cursors.{bitsOf, good, window, badCursor, atCursor, asking}
@@ -70,8 +70,8 @@ module _ (s : List ℕ) (c : Cursor) where
 module _ {A : Type 0} (len pos n : ℕ) (refused : Refusal → A) (enough : A) where
   pub asking-few : len < pos + n → asking len pos n refused enough ≡ refused (TooFew pos len n)
   unfolding asking
-  asking-few h = simp (lt-leb _ _ h)
+  asking-few h = simp (lt-ltb _ _ h)
 
   pub asking-enough : pos + n ≤ len → asking len pos n refused enough ≡ enough
   unfolding asking
-  asking-enough h = simp (le-leb _ _ h)
+  asking-enough h = simp (le-ltb _ _ h)

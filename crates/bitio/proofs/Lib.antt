@@ -2,3 +2,4 @@ pub mod CursorLaws
 pub mod NumberLaws
 pub mod ReadLaws
 pub mod CopyLaws
+pub mod Promises

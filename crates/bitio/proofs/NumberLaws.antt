@@ -27,9 +27,9 @@ halvings-is (suc k) (suc j) n h l u =
     let h₂ : j < k = omega arith in
     simp (lt-leb _ _ z) (ap suc (halvings-is k j (n / 2) h₂ l₂ u₂))
 
-pub log2-is : (j n : ℕ) → j < 64 → 2 ^ j ≤ n → n < 2 ^ suc j → log2 n ≡ j
+pub log2-is : (j n : ℕ) → j < 32 → 2 ^ j ≤ n → n < 2 ^ suc j → log2 n ≡ j
 unfolding log2
-log2-is j n h l u = halvings-is 64 j n h l u
+log2-is j n h l u = halvings-is 32 j n h l u
 
 -- of a u32 it is 31 less the leading zeros
 pub log2-zeros : (m : ℕ) → 0 < m → m < 2 ^ 32 → (31 - leadingZeros 32 m ≡ log2 m) × (log2 m < 32) × (2 ^ log2 m ≤ m) × (m < 2 ^ suc (log2 m))

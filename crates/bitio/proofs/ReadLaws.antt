@@ -16,7 +16,7 @@ use Rattle.bitio.proofs.CursorLaws.{at-bad, at-good, asking-few}
 use Rattle.bitio.specs.declared.Cursor.{Cursor}
 use Rattle.bitio.specs.declared.Refusal.the-variants.{TooFew}
 use Rattle.bitio.specs.declared.Skipped.{Skipped}
-use Rattle.bitio.specs.declared.Skipped.the-variants as S
+use Rattle.bitio.specs.declared.Skipped.the-variants as Skip
 use Rattle.bitio.specs.declared.U64Read.the-variants as U64
 
 pub by-cases : {A : Type 0} (b : Bool) → (b ≡ true → A) → (b ≡ false → A) → A
@@ -27,22 +27,22 @@ never : _≡_ {A = ℕ} 0 1 → ⊥
 never z = omega arith
 
 -- bits that were skipped lie in the window
-pub skip-done : (s : List ℕ) (c : Cursor) (n next : ℕ) → skipped s c n ≡ S.Done next → (good s c ≡ true) × (c .pos + n ≤ c .len)
+pub skip-done : (s : List ℕ) (c : Cursor) (n next : ℕ) → skipped s c n ≡ Skip.Done next → (good s c ≡ true) × (c .pos + n ≤ c .len)
 skip-done s c n next e =
     by-cases (good s c)
     (λ g. by-cases (leb (c .pos + n) (c .len))
     (λ h. (g, leb-true _ _ h))
-    (λ h. let few : skipped s c n ≡ S.Refused (TooFew (c .pos) (c .len) n)
-    = at-good s c S.Refused (λ W. asking (c .len) (c .pos) n S.Refused (S.Done (c .pos + n))) g ∙ asking-few (c .len) (c .pos) n S.Refused _ (leb-false _ _ h) in
+    (λ h. let few : skipped s c n ≡ Skip.Refused (TooFew (c .pos) (c .len) n)
+    = at-good s c Skip.Refused (λ W. asking (c .len) (c .pos) n Skip.Refused (Skip.Done (c .pos + n))) g ∙ asking-few (c .len) (c .pos) n Skip.Refused _ (leb-false _ _ h) in
     let z : _≡_ {A = ℕ} 0 1 = cc in absurd (never z)))
-    (λ g. let bad : skipped s c n ≡ S.Refused (badCursor s c)
-    = at-bad s c S.Refused (λ W. asking (c .len) (c .pos) n S.Refused (S.Done (c .pos + n))) g in
+    (λ g. let bad : skipped s c n ≡ Skip.Refused (badCursor s c)
+    = at-bad s c Skip.Refused (λ W. asking (c .len) (c .pos) n Skip.Refused (Skip.Done (c .pos + n))) g in
     let z : _≡_ {A = ℕ} 0 1 = cc in absurd (never z))
 
 seen-value : (x y next : ℕ) (k : Skipped) → seen x k ≡ U64.Value y next → y ≡ x
 unfolding seen
-seen-value x y next (S.Done n) e = cc
-seen-value x y next (S.Refused r) e = let z : _≡_ {A = ℕ} 0 1 = cc in omega arith
+seen-value x y next (Skip.Done n) e = cc
+seen-value x y next (Skip.Refused r) e = let z : _≡_ {A = ℕ} 0 1 = cc in omega arith
 
 -- a number that was taken has the width that was asked
 pub taken-lt : (s : List ℕ) (c : Cursor) (n x next : ℕ) → taken s c n ≡ U64.Value x next → x < 2 ^ n

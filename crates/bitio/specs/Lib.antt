@@ -3,3 +3,4 @@ pub mod Reads
 pub mod Numbers
 pub mod Copies
 pub mod Refusals
+pub mod Order

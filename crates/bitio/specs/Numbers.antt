@@ -6,22 +6,23 @@ use Rattle.bits.specs.Choice.{if_then_else_}
 use Rattle.bits.specs.Bits.{field}
 use Rattle.bits.specs.Packed.{packed}
 use Rattle.bits.specs.declared.Packed.{Packed}
-use Rattle.bits.specs.declared.Packed.the-variants as N
+use Rattle.bits.specs.declared.Packed.the-variants as Num
 use Rattle.bitio.specs.Cursors.{atCursor, asking}
 use Rattle.bitio.specs.declared.Cursor.{Cursor}
 use Rattle.bitio.specs.declared.Refusal.the-variants.{TooFew, GoesOn, Overflows, NoMaximum}
 use Rattle.bitio.specs.declared.PackedRead.{PackedRead}
 use Rattle.bitio.specs.declared.PackedRead.the-variants as P
 use Rattle.bitio.specs.declared.SerializedRead.{SerializedRead}
-use Rattle.bitio.specs.declared.SerializedRead.the-variants as S
+use Rattle.bitio.specs.declared.SerializedRead.the-variants as Ser
 
 -- A packed number that starts at bit pos of len. Cut short, it asks 8 bits after its whole bytes; 8 and 9 give its start.
 unfoldable pub packedAnswer : (len pos : ℕ) → Packed → PackedRead
-packedAnswer len pos (N.Whole v n) = P.Value v (pos + 8 * n)
-packedAnswer len pos (N.Cut n) = P.Refused (TooFew (pos + 8 * n) len 8)
-packedAnswer len pos N.Endless = P.Refused (GoesOn pos)
-packedAnswer len pos N.Overflow = P.Refused (Overflows pos)
+packedAnswer len pos (Num.Whole v n) = P.Value v (pos + 8 * n)
+packedAnswer len pos (Num.Cut n) = P.Refused (TooFew (pos + 8 * n) len 8)
+packedAnswer len pos Num.GoesOn = P.Refused (GoesOn pos)
+packedAnswer len pos Num.Overflows = P.Refused (Overflows pos)
 
+-- `read_int_packed`
 abbrev pub readIntPacked : List ℕ → Cursor → PackedRead
 readIntPacked s c = atCursor s c P.Refused (λ W. packedAnswer (c .len) (c .pos) (packed W (c .len) (c .pos)))
 
@@ -30,21 +31,22 @@ unfoldable pub halvings : (k n : ℕ) → ℕ
 halvings zero n = 0
 halvings (suc k) n = if leb n 1 then 0 else suc (halvings k (n / 2))
 
--- the logarithm to the base 2, rounded down, of a number from 1 to 2 ^ 64 - 1
+-- the logarithm to the base 2, rounded down, of a u32 above 0
 unfoldable pub log2 : ℕ → ℕ
-log2 n = halvings 64 n
+log2 n = halvings 32 n
 
 -- A serialized integer with maximum m, of which b bits v are read, up to pos: if v + 2 ^ b reaches m the answer is v, else one more bit
 -- adds 2 ^ b.
 unfoldable pub serializedTop : (W len m b v pos : ℕ) → SerializedRead
 serializedTop W len m b v pos =
-    if leb m (v + 2 ^ b) then S.Value v pos else asking len pos 1 S.Refused (S.Value (v + field W pos 1 * 2 ^ b) (pos + 1))
+    if leb m (v + 2 ^ b) then Ser.Value v pos else asking len pos 1 Ser.Refused (Ser.Value (v + field W pos 1 * 2 ^ b) (pos + 1))
 
--- 10 for the maximum 0; else its first bits, as many as log2 m, and then the rest
+-- 10 for the maximum 0, before any read; else as many low bits as log2 m, then, where the maximum leaves it open, the top bit
 unfoldable pub serializedAt : (W len m pos : ℕ) → SerializedRead
 serializedAt W len m pos =
-    if eqb m 0 then S.Refused NoMaximum else
-    asking len pos (log2 m) S.Refused (serializedTop W len m (log2 m) (field W pos (log2 m)) (pos + log2 m))
+    if eqb m 0 then Ser.Refused NoMaximum else
+    asking len pos (log2 m) Ser.Refused (serializedTop W len m (log2 m) (field W pos (log2 m)) (pos + log2 m))
 
+-- `read_serialized_int`
 abbrev pub readSerializedInt : List ℕ → Cursor → (m : ℕ) → SerializedRead
-readSerializedInt s c m = atCursor s c S.Refused (λ W. serializedAt W (c .len) m (c .pos))
+readSerializedInt s c m = atCursor s c Ser.Refused (λ W. serializedAt W (c .len) m (c .pos))

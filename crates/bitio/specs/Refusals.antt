@@ -1,6 +1,7 @@
 -- Document 01's refusal numbers: for each refusal the number, and the values that 01's table names, in its order; a value that it doesn't name
--- is 0. And where the cursor stands after it.
-use Prim.Native.Nat.{ℕ, _+_}
+-- is 0. And where the cursor stands after it. Positions count from the window's first bit.
+use Prim.Native.Nat.{ℕ, _+_, _*_}
+use Rattle.bits.specs.Packed.{mostBytes}
 use Rattle.bitio.specs.declared.Refusal.{Refusal}
 use Rattle.bitio.specs.declared.Refusal.the-variants.{TooLong, TooFew, GoesOn, Overflows, NoMaximum, TooMany, Past}
 
@@ -10,24 +11,25 @@ pub record Numbered : Type 0 where
   pub second : ℕ
   pub third : ℕ
 
-abbrev pub with : (number first second third : ℕ) → Numbered
-with n a b c = record { number = n; first = a; second = b; third = c }
+abbrev pub refusal : (number first second third : ℕ) → Numbered
+refusal n a b c = record { number = n; first = a; second = b; third = c }
 
 abbrev pub numbered : Refusal → Numbered
-numbered TooLong = with 1 0 0 0
-numbered (TooFew position length asked) = with 7 position length asked
-numbered (GoesOn start) = with 8 start 0 0
-numbered (Overflows start) = with 9 start 0 0
-numbered NoMaximum = with 10 0 0 0
-numbered TooMany = with 13 0 0 0
-numbered (Past asked available) = with 14 asked available 0
+numbered TooLong = refusal 1 0 0 0
+numbered (TooFew position length asked) = refusal 7 position length asked
+numbered (GoesOn number) = refusal 8 number 0 0
+numbered (Overflows number) = refusal 9 number 0 0
+numbered NoMaximum = refusal 10 0 0 0
+numbered TooMany = refusal 13 0 0 0
+numbered (Past asked available) = refusal 14 asked available 0
 
--- The cursor, which stood at `at`: bits that lacked were asked where it stands; 8 and 9 leave it 40 bits on; the others come before any read.
+-- The cursor, which stood at `at`: after 7 it stands where the part that lacks bits begins, after 8 and 9 behind the number's five bytes, after
+-- the others where it stood. (A reader that is not opened has none.)
 abbrev pub standsAfter : (at : ℕ) → Refusal → ℕ
 standsAfter at TooLong = at
 standsAfter at (TooFew position length asked) = position
-standsAfter at (GoesOn start) = start + 40
-standsAfter at (Overflows start) = start + 40
+standsAfter at (GoesOn number) = number + 8 * mostBytes
+standsAfter at (Overflows number) = number + 8 * mostBytes
 standsAfter at NoMaximum = at
 standsAfter at TooMany = at
 standsAfter at (Past asked available) = at

@@ -223,7 +223,7 @@ pub fn at_end(bytes: &[u8], c: Cursor) -> Ended
     if !is_good(bytes, c) {
         return Ended::Refused(bad_cursor(bytes, c));
     }
-    Ended::Value(c.len <= c.pos)
+    Ended::Value(c.pos == c.len)
 }
 
 // Past the next `count` bits.
@@ -301,17 +301,21 @@ pub fn read_bit(bytes: &[u8], c: Cursor) -> BitRead
 pub fn read_bits(bytes: &[u8], c: Cursor, count: u64) -> BitsRead
     ensures { λ r. ⌜ r ≡ readBits (now (bytes .entry)) c count ⌝ }
 {
+    if !is_good(bytes, c) {
+        return BitsRead::Refused(bad_cursor(bytes, c));
+    }
     if 64 < count {
-        if !is_good(bytes, c) {
-            return BitsRead::Refused(bad_cursor(bytes, c));
-        }
         return BitsRead::Refused(Refusal::TooMany);
     }
-    let got = take(bytes, c, count);
-    match got {
-        U64Read::Value(x, next) => BitsRead::Value(x, next),
-        U64Read::Refused(r) => BitsRead::Refused(r),
+    let start = c.start;
+    let pos = c.pos;
+    let len = c.len;
+    if len - pos < count {
+        return BitsRead::Refused(Refusal::TooFew(pos, len, count));
     }
+    let x = bits::field::field_of(bytes, start + pos, count);
+    let next = pos + count;
+    BitsRead::Value(x, next)
 }
 
 pub fn read_u8(bytes: &[u8], c: Cursor) -> U8Read
@@ -397,8 +401,8 @@ pub fn read_int_packed(bytes: &[u8], c: Cursor) -> PackedRead
             let stop = pos + 8 * n;
             PackedRead::Refused(Refusal::TooFew(stop, len, 8))
         }
-        Packed::Endless => PackedRead::Refused(Refusal::GoesOn(pos)),
-        Packed::Overflow => PackedRead::Refused(Refusal::Overflows(pos)),
+        Packed::GoesOn => PackedRead::Refused(Refusal::GoesOn(pos)),
+        Packed::Overflows => PackedRead::Refused(Refusal::Overflows(pos)),
     }
 }
 

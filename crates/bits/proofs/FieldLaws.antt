@@ -202,3 +202,15 @@ field-empty N p n e = sym (ap (λ (k : ℕ). field N p k) e ∙ field-none N p)
 -- two fields that both reach the number's last bit are the same
 pub field-all : (N p n k m : ℕ) → N < 2 ^ m → m ≤ p + n → m ≤ p + k → field N p n ≡ field N p k
 field-all N p n k m h l₁ l₂ = field-rest N p n m h l₁ ∙ sym (field-rest N p k m h l₂)
+
+-- one more bit on top
+pub field-suc : (N p n : ℕ) → field N p (suc n) ≡ field N p n + 2 ^ n * field N (p + n) 1
+field-suc N p n = ap (λ (k : ℕ). field N p k) (sym (add-one n)) ∙ field-split N p n 1
+
+-- two fields whose bits are the same are the same
+pub field-same : (N M p q n : ℕ) → ((k : ℕ) → k < n → field N (p + k) 1 ≡ field M (q + k) 1) → field N p n ≡ field M q n
+field-same N M p q zero h = field-none N p ∙ sym (field-none M q)
+field-same N M p q (suc n) h =
+    field-suc N p n
+    ∙ ap₂ (λ (x b : ℕ). x + 2 ^ n * b) (field-same N M p q n (λ k l. h k (omega arith))) (h n (omega arith))
+    ∙ sym (field-suc M q n)

@@ -11,7 +11,7 @@ use Rattle.bits.specs.Bits.{field}
 use Rattle.bits.specs.Packed.{after, earlierByte, fifthByte, packedFrom, packed}
 use Rattle.bits.proofs.FieldLaws.{field-field}
 use Rattle.bits.specs.declared.Packed.{Packed}
-use Rattle.bits.specs.declared.Packed.the-variants.{Whole, Cut, Endless, Overflow}
+use Rattle.bits.specs.declared.Packed.the-variants.{Whole, Cut, GoesOn, Overflows}
 
 -- a group above n others
 group-above : (n v g x : ℕ) → v + 2 ^ (7 * n) * (g + 2 ^ (7 * 1) * x) ≡ v + g * 2 ^ (7 * n) + 2 ^ (7 * (n + 1)) * x
@@ -30,8 +30,8 @@ pub after-after : (n v g : ℕ) (rest : Packed) → after n v (after 1 g rest) �
 unfolding after
 after-after n v g (Whole x m) = ap₂ Whole (group-above n v g x) (sym (add-assoc n 1 m))
 after-after n v g (Cut m) = ap Cut (sym (add-assoc n 1 m))
-after-after n v g Endless = refl
-after-after n v g Overflow = refl
+after-after n v g GoesOn = refl
+after-after n v g Overflows = refl
 
 -- The number of which n bytes worth v are read, and whose next byte stands at bit p.
 module _ (n v W len p : ℕ) where
@@ -64,11 +64,11 @@ module _ (n v W len p : ℕ) where
     byte-follows left l e = ap (after n v) (one-less left l) ∙ follows′ (left - 1) e
 
     -- that byte is the fifth
-    pub fifth-endless : b % 2 ≡ 1 → after n v (packedFrom 0 W len p) ≡ Endless
+    pub fifth-goes-on : b % 2 ≡ 1 → after n v (packedFrom 0 W len p) ≡ GoesOn
     unfolding after packedFrom fifthByte
-    fifth-endless e = simp (le-leb _ _ h, ← eb, ne-eqb (b % 2) 0 (λ z. omega arith))
+    fifth-goes-on e = simp (le-leb _ _ h, ← eb, ne-eqb (b % 2) 0 (λ z. omega arith))
 
-    pub fifth-over : (b % 2 ≡ 1 → ⊥) → 15 < b / 2 → after n v (packedFrom 0 W len p) ≡ Overflow
+    pub fifth-over : (b % 2 ≡ 1 → ⊥) → 15 < b / 2 → after n v (packedFrom 0 W len p) ≡ Overflows
     unfolding after packedFrom fifthByte
     fifth-over e k = let z : b % 2 ≡ 0 = omega arith in simp (le-leb _ _ h, ← eb, eq-eqb _ _ z, lt-leb _ _ k)
 
@@ -81,8 +81,8 @@ nothing-before : (r : Packed) → after 0 0 r ≡ r
 unfolding after
 nothing-before (Whole x m) = ap₂ Whole (omega arith) (omega arith)
 nothing-before (Cut m) = ap Cut (omega arith)
-nothing-before Endless = refl
-nothing-before Overflow = refl
+nothing-before GoesOn = refl
+nothing-before Overflows = refl
 
 module _ (W len p : ℕ) where
   from-start : after 0 0 (packedFrom 4 W len p) ≡ packed W len p
@@ -143,15 +143,15 @@ packed-window N start len p = from-window 4 N start len p
 abbrev pub bytesRead : (left : ℕ) → Packed → ℕ
 bytesRead left (Whole v n) = n
 bytesRead left (Cut n) = n
-bytesRead left Endless = left + 1
-bytesRead left Overflow = left + 1
+bytesRead left GoesOn = left + 1
+bytesRead left Overflows = left + 1
 
 read-after : (left g : ℕ) (rest : Packed) → bytesRead (suc left) (after 1 g rest) ≡ 1 + bytesRead left rest
 unfolding after
 read-after left g (Whole v n) = refl
 read-after left g (Cut n) = refl
-read-after left g Endless = omega arith
-read-after left g Overflow = omega arith
+read-after left g GoesOn = omega arith
+read-after left g Overflows = omega arith
 
 read-fifth : (b : ℕ) → bytesRead 0 (fifthByte b) ≡ 1
 unfolding fifthByte
@@ -188,8 +188,8 @@ module _ (W len p : ℕ) (h : p ≤ len) where
   cut-within n e = within (Cut n) e
 
   -- 8 and 9 come after five bytes
-  pub endless-within : packed W len p ≡ Endless → p + 40 ≤ len
-  endless-within e = within Endless e
+  pub goes-on-within : packed W len p ≡ GoesOn → p + 40 ≤ len
+  goes-on-within e = within GoesOn e
 
-  pub overflow-within : packed W len p ≡ Overflow → p + 40 ≤ len
-  overflow-within e = within Overflow e
+  pub overflows-within : packed W len p ≡ Overflows → p + 40 ≤ len
+  overflows-within e = within Overflows e

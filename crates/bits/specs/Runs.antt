@@ -12,6 +12,6 @@ bytesOf (suc k) N = N % 2 ^ 8 ∷ bytesOf k (N / 2 ^ 8)
 abbrev pub bytesFor : ℕ → ℕ
 bytesFor n = (n + 7) / 8
 
--- the buffer d with the run vs from index i on
+-- the buffer d with the run vs from index i on, where it fits
 unfoldable pub put : List ℕ → ℕ → List ℕ → List ℕ
 put d i vs = take i d ++ vs ++ drop (i + length vs) d

@@ -17,7 +17,7 @@ pub enum Packed {
     // The window ends inside the byte after so many whole ones.
     Cut(u64),
     // The fifth byte says that another follows.
-    Endless,
+    GoesOn,
     // The fifth byte holds more than 15.
-    Overflow,
+    Overflows,
 }

@@ -56,11 +56,11 @@ fn packed_fifth(s: &[u8], at: u64, end: u64, value: u64) -> Packed
     }
     let b = byte_at(s, at);
     if b % 2 == 1 {
-        return Packed::Endless;
+        return Packed::GoesOn;
     }
     let group = b / 2;
     if 15 < group {
-        return Packed::Overflow;
+        return Packed::Overflows;
     }
     let top = 0x1000_0000 * group;
     let whole = (value + top) as u32;

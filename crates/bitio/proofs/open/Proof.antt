@@ -3,7 +3,7 @@ use borrow.Author.Needs.{needs}
 use mathlib.Core.Path.{_≡_, sym, ap, _∙_}
 use native.Mathlib.Omega.{arith}
 use Prim.Native.Nat.{ℕ}
-use borrow.Author.Tests.{le-leb, lt-leb}
+use borrow.Author.Tests.{le-ltb, lt-ltb}
 use Rattle.bitio.specs.Cursors.{opened}
 use Rattle.bitio.specs.declared.Opened.the-variants.{Refused}
 use Rattle.bitio.specs.declared.Refusal.the-variants.{Past}
@@ -12,7 +12,7 @@ use Rattle.bitio.proofs.open.Tie as tie
 
 returns : tie.Need-returns
 unfolding opened
-returns c = simp (lt-leb _ _ (c .if1 .taken))
+returns c = simp (lt-ltb _ _ (c .if1 .taken))
 
 bits-of-requires : tie.Need-bits-of-requires
 bits-of-requires c κs = search needs
@@ -22,14 +22,14 @@ unfolding opened
 returns-2 c =
     let h = c .if2 .taken in
     let e = c .before .bits-of .ensures in
-    simp (le-leb _ _ (c .before .before .if1 .left), lt-leb _ _ (rw e at h)) (ap (λ (n : ℕ). Refused (Past (c .before .before .before .before .args .count) n)) e)
+    simp (le-ltb _ _ (c .before .before .if1 .left), lt-ltb _ _ (rw e at h)) (ap (λ (n : ℕ). Refused (Past (c .before .before .before .before .args .count) n)) e)
 
 returns-3 : tie.Need-returns-3
 unfolding opened
 returns-3 c =
     let h = c .if2 .left in
     let e = c .before .bits-of .ensures in
-    simp (le-leb _ _ (c .before .before .if1 .left), le-leb _ _ (rw e at h))
+    simp (le-ltb _ _ (c .before .before .if1 .left), le-ltb _ _ (rw e at h))
 
 pub open-spec : {M : Type 1} → statement M
 open-spec = tie.close (tie.spec returns bits-of-requires returns-2 returns-3)

@@ -3,7 +3,7 @@ use borrow.Author.Needs.{needs}
 use mathlib.Core.Path.{sym}
 use native.Mathlib.Omega.{arith}
 use Rattle.bits.proofs.FieldLaws.{bound}
-use Rattle.bits.proofs.PackedLaws.{byte-cut, fifth-endless, fifth-over, fifth-ends}
+use Rattle.bits.proofs.PackedLaws.{byte-cut, fifth-goes-on, fifth-over, fifth-ends}
 use Rattle.bits.proofs.number.packed_fifth.Statement.{statement}
 use Rattle.bits.proofs.number.packed_fifth.Tie as tie
 
@@ -17,7 +17,7 @@ byte-at-requires : tie.Need-byte-at-requires
 byte-at-requires c κs = search needs
 
 returns-2 : tie.Need-returns-2
-returns-2 c = sym (fifth-endless _ _ _ _ _ _ (omega arith) (c .before .byte-at .ensures) (c .if2 .taken))
+returns-2 c = sym (fifth-goes-on _ _ _ _ _ _ (omega arith) (c .before .byte-at .ensures) (c .if2 .taken))
 
 returns-3 : tie.Need-returns-3
 returns-3 c = sym (fifth-over _ _ _ _ _ _ (omega arith) (c .before .before .byte-at .ensures) (c .before .if2 .left) (c .if3 .taken))
