@@ -2,4 +2,5 @@ pub mod FieldLaws
 pub mod WordLaws
 pub mod RunLaws
 pub mod PackedLaws
+pub mod PackedWindows
 pub mod TwosLaws

@@ -1,6 +1,7 @@
 -- `bitio::bits_remaining` meets its contract: a bad cursor gets 14; a good one stands in its length.
 use borrow.Author.Needs.{needs}
 use mathlib.Core.Path.{refl}
+use native.Mathlib.Omega.{arith}
 use Rattle.bitio.proofs.CursorLaws.{bad-way, good-way, passed, good-le}
 use Rattle.bitio.specs.declared.Measured.the-variants.{Refused}
 use Rattle.bitio.proofs.bits_remaining.Statement.{statement}
@@ -16,7 +17,9 @@ returns : tie.Need-returns
 returns c = bad-way _ _ Refused _ _ _ (c .before .before .is-good .ensures) (c .before .if1 .taken) (c .bad-cursor .ensures)
 
 sub-left : tie.Need-sub-left
-sub-left c = good-le _ _ (passed _ _ _ (c .before .before .is-good .ensures) (c .before .if1 .left)) .0
+sub-left c =
+    let l = good-le _ _ (passed _ _ _ (c .before .before .is-good .ensures) (c .before .if1 .left)) in
+    omega arith
 
 returns-2 : tie.Need-returns-2
 returns-2 c = good-way _ _ Refused _ _ _ (c .before .before .is-good .ensures) (c .before .if1 .left) refl

@@ -1,0 +1,277 @@
+-- Demand 3, of the definitions.
+use mathlib.Core.Path.{_≡_, refl, sym, ap, _∙_, subst}
+use mathlib.Core.Bool.{Bool, true, false, _&&_}
+use mathlib.Core.List.{List, [], _∷_, _++_}
+use Prim.Native.Nat.{ℕ, zero, suc, _+_, _-_, _*_, _/_, _%_, _^_, _≤_, _<_}
+use native.Mathlib.Omega.{arith}
+use lib.Dec.{ltb, leb, eqb}
+use lib.ListN.{length}
+use lib.Pow as Pow
+use borrow.Author.Tests.{ltb-true, ltb-false, lt-ltb, le-ltb, eqb-true, eqb-false, eq-eqb, ne-eqb}
+use Rattle.bits.specs.Choice.{if_then_else_}
+use Rattle.bits.specs.Bits.{num, field}
+use Rattle.bits.specs.Packed.{packed}
+use Rattle.bits.proofs.FieldLaws.{field-low, field-same}
+use Rattle.bits.proofs.PackedWindows as PW
+use Rattle.bits.specs.declared.Packed.{Packed}
+use Rattle.bits.specs.declared.Packed.the-variants.{Whole, Cut, GoesOn, Overflows}
+use Rattle.framing.specs.Windows.{Window, windowOf, part, opening, Reading, got, failed, readingOf, reading}
+use Rattle.framing.specs.Events.{Leaf, rawHandle, Pair, Number, numbers, Event, number, element, leaf, pair, truncation, error, implicit, nested, root, over, leaves, pairs, Trace}
+use Rattle.framing.specs.Counters.{Counters, counters, tally, faults, isClean}
+use Rattle.framing.specs.Walk.{Sink, trailerBits, trailerOf, closing, level}
+use Rattle.framing.specs.Sinks.{structSink, objectSink, Walk, struct, exact, object, sinkOf, silent, walkWindow, walk}
+use Rattle.framing.specs.Demand.{dropTail, Opens, Excused, nothing-sent, lacks-trailer, CutOf}
+use Rattle.framing.proofs.Shorter.{Reads, agree, short, reads}
+use Rattle.framing.proofs.Cut as Cuts
+use Rattle.framing.proofs.Cut.{Tail, skipped, kept, too-long, Broken, read, at-implicit, at-error, at-truncation, breaks, ending, same, level-cut}
+
+-- ---- leaves and pairs
+
+opens-cons : {A : Type 0} (x : A) {xs ys : List A} → Opens xs ys → Opens (x ∷ xs) (x ∷ ys)
+opens-cons x o = record { rest = o .rest; whole = ap (λ l. x ∷ l) (o .whole) }
+
+opens-nil : {A : Type 0} (ys : List A) → Opens [] ys
+opens-nil ys = record { rest = ys; whole = refl }
+
+opens-drop : (x : Leaf) (xs : List Leaf) {ys : List Leaf} → Opens (dropTail xs) ys → Opens (dropTail (x ∷ xs)) (x ∷ ys)
+unfolding dropTail
+opens-drop x [] {ys} o = go (eqb (x .handle) rawHandle) refl
+  where
+    go : (b : Bool) → eqb (x .handle) rawHandle ≡ b → Opens (dropTail (x ∷ [])) (x ∷ ys)
+    go true e = rw e (opens-nil (x ∷ ys))
+    go false e = rw e (record { rest = ys; whole = refl })
+opens-drop x (y ∷ xs) o = opens-cons x o
+
+tail-leaves : {t : Trace} → Tail t → dropTail (leaves t) ≡ []
+unfolding dropTail
+tail-leaves skipped = refl
+tail-leaves (kept {x = x} e) = rw (eq-eqb (x .handle) rawHandle e)
+tail-leaves too-long = refl
+
+broken-leaves : {t : Trace} → Broken t → dropTail (leaves t) ≡ []
+unfolding dropTail
+broken-leaves (read h) = broken-leaves h
+broken-leaves at-implicit = refl
+broken-leaves at-error = refl
+broken-leaves (at-truncation h) = tail-leaves h
+
+broken-pairs : {t : Trace} → Broken t → pairs t ≡ []
+broken-pairs (read h) = broken-pairs h
+broken-pairs at-implicit = refl
+broken-pairs at-error = refl
+broken-pairs (at-truncation skipped) = refl
+broken-pairs (at-truncation (kept e)) = refl
+broken-pairs (at-truncation too-long) = refl
+
+-- ---- the verdict
+
+pub clean-rest : (e : Event) (t : Trace) → isClean (counters (e ∷ t)) ≡ true → isClean (counters t) ≡ true
+clean-rest e t h = eq-eqb (faults (counters t)) 0 (let f = eqb-true (faults (counters (e ∷ t))) 0 h in omega arith)
+
+pub broken-unclean : {t : Trace} → Broken t → isClean (counters t) ≡ true → ⊥
+broken-unclean (read {x = x} {t = t} h) c = broken-unclean h (clean-rest (number x) t c)
+broken-unclean at-implicit c = let f = eqb-true (faults (counters (implicit ∷ []))) 0 c in omega arith
+broken-unclean at-error c = let f = eqb-true (faults (counters (error ∷ []))) 0 c in omega arith
+broken-unclean (at-truncation {t = t} h) c = let f = eqb-true (faults (counters (truncation ∷ t))) 0 c in omega arith
+
+root-clean : (n : ℕ) → isClean (counters (root n ∷ [])) ≡ true → n ≡ 0
+root-clean n c = let f = eqb-true (faults (counters (root n ∷ []))) 0 c in omega arith
+
+-- ---- behind both terminators
+
+pub and-true : (a b : Bool) → a && b ≡ true → (a ≡ true) × (b ≡ true)
+and-true true b e = (refl, e)
+and-true false b e = (e, cc)
+
+record Ends (s : Sink) (w : Window) (m : ℕ) (a b : Trace) : Type 0 where
+  no-leaves : leaves a ≡ []
+  no-pairs : pairs a ≡ []
+  verdict : isClean (counters b) ≡ true → m < w .size → isClean (counters a) ≡ true
+    → (s .trailer ≡ true) × (m + 8 ≡ w .size) × (field (w .bits) m 8 ≡ 0)
+
+-- with the trailer's bits left, a number that is zero is a zero byte
+zero-byte : (w : Window) (q v b : ℕ) → q + 8 ≡ w .size → reading w q ≡ got v b → v ≡ 0 → field (w .bits) q 8 ≡ 0
+unfolding reading
+zero-byte w q v b fit e z = go (packed (w .bits) (w .size) q) refl e
+  where
+    go : (r : Packed) → packed (w .bits) (w .size) q ≡ r → readingOf r ≡ got v b → field (w .bits) q 8 ≡ 0
+    go (Whole x n) p f = let val : x ≡ 0 = (let f′ : x ≡ v = cc in f′ ∙ z) in PW.zero-byte (w .bits) (w .size) q x n fit p val
+    go (Cut n) p f = let no-way : _≡_ {A = ℕ} 0 1 = cc in omega arith
+    go GoesOn p f = let no-way : _≡_ {A = ℕ} 0 1 = cc in omega arith
+    go Overflows p f = let no-way : _≡_ {A = ℕ} 0 1 = cc in omega arith
+
+-- the shorter's end took a trailer, or left bits; the sink counts them at the root
+module _ (s : Sink) (w : Window) (m : ℕ) (mn : m ≤ w .size) (tells : (n : ℕ) → s .leftover n ≡ root n) where
+  left-over : (v : Window) (q : ℕ) → s .trailer && eqb (v .size - q) 8 ≡ false → closing s v q ≡ root (v .size - q) ∷ []
+  unfolding closing
+  left-over v q e = rw (e, tells (v .size - q))
+
+  taken : (v : Window) (q : ℕ) → s .trailer && eqb (v .size - q) 8 ≡ true → closing s v q ≡ trailerOf s v q (reading v q)
+  unfolding closing
+  taken v q e = rw e
+
+  -- a clean end with eight bits left is a zero byte
+  trailer-zero : (q : ℕ) → q + 8 ≡ w .size → (r : Reading) → reading w q ≡ r → isClean (counters (trailerOf s w q r)) ≡ true → field (w .bits) q 8 ≡ 0
+  trailer-zero q fit failed e c = absurd (broken-unclean at-error c)
+  trailer-zero q fit (got v b) e c = go (eqb v 0) refl c
+    where
+      go : (x : Bool) → eqb v 0 ≡ x → isClean (counters (trailerOf s w q (got v b))) ≡ true → field (w .bits) q 8 ≡ 0
+      go true t c = zero-byte w q v b fit e (eqb-true v 0 t)
+      go false t c =
+          let c′ : isClean (counters (root 8 ∷ [])) ≡ true = rw (t, tells 8) at c in
+          let f = root-clean 8 c′ in
+          omega arith
+
+  -- the shorter ends with nothing left at q, which is m
+  at-q : (q : ℕ) → q ≡ m → m < w .size → isClean (counters (closing s w q)) ≡ true
+      → (s .trailer ≡ true) × (q + 8 ≡ w .size) × (field (w .bits) q 8 ≡ 0)
+  unfolding closing
+  at-q q e lt c = go (s .trailer && eqb (w .size - q) 8) refl
+    where
+      go : (x : Bool) → s .trailer && eqb (w .size - q) 8 ≡ x → (s .trailer ≡ true) × (q + 8 ≡ w .size) × (field (w .bits) q 8 ≡ 0)
+      go true t =
+          let ts = and-true (s .trailer) (eqb (w .size - q) 8) t in
+          let d = eqb-true (w .size - q) 8 (ts .1) in
+          let fit : q + 8 ≡ w .size = omega arith in
+          (ts .0, fit, trailer-zero q fit (reading w q) refl (rw t at c))
+      go false t =
+          let f = root-clean (w .size - q) (rw (left-over w q t) at c) in
+          absurd (omega arith)
+
+  -- the shorter took its last eight bits, so the longer leaves more than eight
+  past-q : (q : ℕ) → m - q ≡ 8 → m < w .size → isClean (counters (closing s w q)) ≡ true → ⊥
+  past-q q d lt c = go (s .trailer && eqb (w .size - q) 8) refl
+    where
+      go : (x : Bool) → s .trailer && eqb (w .size - q) 8 ≡ x → ⊥
+      go true t = let d′ = eqb-true (w .size - q) 8 (and-true (s .trailer) (eqb (w .size - q) 8) t .1) in omega arith
+      go false t = let f = root-clean (w .size - q) (rw (left-over w q t) at c) in omega arith
+
+  took : (q : ℕ) → m - q ≡ 8 → {r t : Reading} → Reads m q r t → Cuts.Cut (Ends s w m) (trailerOf s (opening m w) q r) (closing s w q)
+  took q d short = breaks at-error
+  took q d (agree {v = v} {b = b} h) = go (eqb v 0) refl
+    where
+      go : (x : Bool) → eqb v 0 ≡ x → Cuts.Cut (Ends s w m) (trailerOf s (opening m w) q (got v b)) (closing s w q)
+      go true e =
+          rw (e, tells 0)
+          (ending (record { no-leaves = refl; no-pairs = refl; verdict = λ c lt c′. absurd (past-q q d lt c) }))
+      go false e =
+          rw (e, tells 8)
+          (ending {a = root 8 ∷ []} {b = closing s w q} (record { no-leaves = refl; no-pairs = refl; verdict = λ c lt c′. let f = root-clean 8 c′ in absurd (omega arith) }))
+
+  closing-cut : (q : ℕ) → q ≤ m → Cuts.Cut (Ends s w m) (closing s (opening m w) q) (closing s w q)
+  closing-cut q h = go (s .trailer && eqb (m - q) 8) refl
+    where
+      go : (x : Bool) → s .trailer && eqb (m - q) 8 ≡ x → Cuts.Cut (Ends s w m) (closing s (opening m w) q) (closing s w q)
+      go true t =
+          rw (taken (opening m w) q t)
+          (took q (eqb-true (m - q) 8 (and-true (s .trailer) (eqb (m - q) 8) t .1)) (reads w m mn q))
+      go false t =
+          rw (left-over (opening m w) q t)
+          (ending {a = root (m - q) ∷ []} {b = closing s w q} (record { no-leaves = refl; no-pairs = refl; verdict = λ c lt c′. let e : q ≡ m = (let f = root-clean (m - q) c′ in omega arith) in rw e at (at-q q e lt c) }))
+
+-- ---- the projections of two traces that agree until the shorter breaks off or both end
+
+module _ (s : Sink) (w : Window) (m : ℕ) where
+  cut-leaves : {a b : Trace} → Cuts.Cut (Ends s w m) a b → Opens (dropTail (leaves a)) (leaves b)
+  unfolding dropTail
+  cut-leaves {a} {b} (breaks h) = rw (broken-leaves h) (opens-nil (leaves b))
+  cut-leaves {a} {b} (ending e) = rw (e .no-leaves) (opens-nil (leaves b))
+  cut-leaves (same {e = number x} c) = cut-leaves c
+  cut-leaves (same {e = element i} c) = cut-leaves c
+  cut-leaves (same {e = leaf x} {a = a} c) = opens-drop x (leaves a) (cut-leaves c)
+  cut-leaves (same {e = pair x} c) = cut-leaves c
+  cut-leaves (same {e = truncation} c) = cut-leaves c
+  cut-leaves (same {e = error} c) = cut-leaves c
+  cut-leaves (same {e = implicit} c) = cut-leaves c
+  cut-leaves (same {e = nested n} c) = cut-leaves c
+  cut-leaves (same {e = root n} c) = cut-leaves c
+  cut-leaves (same {e = over} c) = cut-leaves c
+
+  cut-pairs : {a b : Trace} → Cuts.Cut (Ends s w m) a b → Opens (pairs a) (pairs b)
+  cut-pairs {a} {b} (breaks h) = rw (broken-pairs h) (opens-nil (pairs b))
+  cut-pairs {a} {b} (ending e) = rw (e .no-pairs) (opens-nil (pairs b))
+  cut-pairs (same {e = number x} c) = cut-pairs c
+  cut-pairs (same {e = element i} c) = cut-pairs c
+  cut-pairs (same {e = leaf x} c) = cut-pairs c
+  cut-pairs (same {e = pair x} c) = opens-cons x (cut-pairs c)
+  cut-pairs (same {e = truncation} c) = cut-pairs c
+  cut-pairs (same {e = error} c) = cut-pairs c
+  cut-pairs (same {e = implicit} c) = cut-pairs c
+  cut-pairs (same {e = nested n} c) = cut-pairs c
+  cut-pairs (same {e = root n} c) = cut-pairs c
+  cut-pairs (same {e = over} c) = cut-pairs c
+
+  cut-verdict : {a b : Trace} → Cuts.Cut (Ends s w m) a b → isClean (counters b) ≡ true → m < w .size → isClean (counters a) ≡ true
+      → (s .trailer ≡ true) × (m + 8 ≡ w .size) × (field (w .bits) m 8 ≡ 0)
+  cut-verdict (breaks h) l lt c = absurd (broken-unclean h c)
+  cut-verdict (ending e) l lt c = e .verdict l lt c
+  cut-verdict (same {e = e} {a = a} {b = b} k) l lt c = cut-verdict k (clean-rest e b l) lt (clean-rest e a c)
+
+-- ---- the walks
+
+root-told : (k : Walk) (n : ℕ) → (sinkOf k) .leftover n ≡ root n
+unfolding sinkOf structSink objectSink
+root-told (struct t l) n = refl
+root-told (exact d p) n = refl
+root-told object n = refl
+
+loud-mono : (k : Walk) (m n : ℕ) → m ≤ n → silent k m ≡ false → silent k n ≡ false
+loud-mono (struct t l) m n h e = let f = eqb-false m 0 e in ne-eqb n 0 (λ z. f (omega arith))
+loud-mono (exact d p) m n h e = let f = eqb-false m 0 e in ne-eqb n 0 (λ z. f (omega arith))
+loud-mono object m n h e = refl
+
+-- Demand 3 of a window and its first m bits.
+pub demand3-window : (k : Walk) (w : Window) (m : ℕ) → m ≤ w .size → CutOf k w m (walkWindow k (opening m w)) (walkWindow k w)
+unfolding walkWindow dropTail
+demand3-window k w m mn = go (silent k m) refl
+  where
+    go : (x : Bool) → silent k m ≡ x → CutOf k w m (walkWindow k (opening m w)) (walkWindow k w)
+    go true e =
+        rw e
+        (record { same-leaves = opens-nil (leaves (walkWindow k w)); same-pairs = opens-nil (pairs (walkWindow k w)); not-clean = λ l lt c. nothing-sent e })
+    go false e =
+        let s = sinkOf k in
+        let c = level-cut s w m mn (Ends s w m) (closing-cut s w m mn (root-told k)) [] in
+        rw (e, loud-mono k m (w .size) mn e)
+        (record {
+          same-leaves = cut-leaves s w m c;
+          same-pairs = cut-pairs s w m c;
+          not-clean = λ l lt d. let v = cut-verdict s w m c l lt d in lacks-trailer (v .0) (v .1) (v .2)
+        })
+
+walk-inside : (k : Walk) (bytes : List ℕ) (n : ℕ) → n ≤ 8 * length bytes → walk k bytes n ≡ walkWindow k (windowOf bytes n)
+unfolding walk walkWindow
+walk-inside k bytes n h = go (silent k n) refl
+  where
+    go : (x : Bool) → silent k n ≡ x → walk k bytes n ≡ walkWindow k (windowOf bytes n)
+    go true e = rw e
+    go false e = rw (e, le-ltb (8 * length bytes) n h)
+
+opening-of : (longer shorter : List ℕ) (n m : ℕ) → m ≤ n → field (num shorter) 0 m ≡ field (num longer) 0 m
+    → windowOf shorter m ≡ opening m (windowOf longer n)
+opening-of longer shorter n m mn e =
+    let bits : field (num shorter) 0 m ≡ field (num longer) 0 n % 2 ^ m = e ∙ sym (field-low (num longer) 0 m n mn) in
+    λ i. record { bits = bits i; size = m; origin = 0 }
+
+-- Demand 3 of two slices whose first m bits are the same, walked the same way: without a last kept tail the shorter's leaves open the longer's
+-- list unchanged, and so do pairs; and if the longer is clean and the shorter strictly shorter, the shorter is not clean, but for the empty window
+-- of a struct or exact walk and the window that lacks exactly the zero trailer.
+pub demand3 : (k : Walk) (longer shorter : List ℕ) (n m : ℕ) → m ≤ n → n ≤ 8 * length longer → m ≤ 8 * length shorter
+    → field (num shorter) 0 m ≡ field (num longer) 0 m → CutOf k (windowOf longer n) m (walk k shorter m) (walk k longer n)
+demand3 k longer shorter n m mn fits-longer fits-shorter e =
+    rw (walk-inside k longer n fits-longer, walk-inside k shorter m fits-shorter, opening-of longer shorter n m mn e)
+    (demand3-window k (windowOf longer n) m mn)
+
+-- the same, with the bits compared one by one
+pub demand3-bits : (k : Walk) (longer shorter : List ℕ) (n m : ℕ) → m ≤ n → n ≤ 8 * length longer → m ≤ 8 * length shorter
+    → ((i : ℕ) → i < m → field (num shorter) (0 + i) 1 ≡ field (num longer) (0 + i) 1) → CutOf k (windowOf longer n) m (walk k shorter m) (walk k longer n)
+demand3-bits k longer shorter n m mn fits-longer fits-shorter h =
+    demand3 k longer shorter n m mn fits-longer fits-shorter (field-same (num shorter) (num longer) 0 0 m h)
+
+-- Bits outside the window alter nothing: two slices that hold it and have its bits give the same trace.
+pub outside-alters-nothing : (k : Walk) (a b : List ℕ) (n : ℕ) → n ≤ 8 * length a → n ≤ 8 * length b
+    → ((i : ℕ) → i < n → field (num a) (0 + i) 1 ≡ field (num b) (0 + i) 1) → walk k a n ≡ walk k b n
+outside-alters-nothing k a b n ha hb h =
+    walk-inside k a n ha
+    ∙ ap (λ (x : ℕ). walkWindow k (record { bits = x; size = n; origin = 0 })) (field-same (num a) (num b) 0 0 n h)
+    ∙ sym (walk-inside k b n hb)

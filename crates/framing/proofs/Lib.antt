@@ -1,0 +1,10 @@
+pub mod Shorter
+pub mod Cut
+pub mod Demand3
+pub mod CasesProved
+pub mod TraceLaws
+pub mod StepLaws
+pub mod RecordLaws
+pub mod Induct
+pub mod Bounded
+pub mod PairOrder

@@ -1,0 +1,102 @@
+-- Rule 8 of document 01 gives an element's pair behind its fields. In the definitions the pair stands at the field that gives it. No answer shows
+-- the difference: moving the pairs of a trace behind its other events changes no leaf, no pair, no counter.
+use mathlib.Core.Path.{_≡_, refl, sym, ap, ap₂, _∙_}
+use mathlib.Core.List.{List, [], _∷_, _++_, append-nil}
+use Prim.Native.Nat.{ℕ, _+_}
+use native.Mathlib.Omega.{arith}
+use native.Mathlib.Nat.{add-zero}
+use Rattle.framing.specs.Events.{Event, Pair, number, element, leaf, pair, truncation, error, implicit, nested, root, over, leaves, pairs, overs, Trace}
+use Rattle.framing.specs.Counters.{Counters, counted, counters, sums, tally}
+use Rattle.framing.specs.Walk.{Run, done, stopped}
+use Rattle.framing.proofs.TraceLaws.{counters-append, leaves-append, pairs-append, overs-append, sums-zero, sums-assoc}
+
+-- the other events, and the pairs as events
+abbrev pub others : Trace → Trace
+others [] = []
+others (pair x ∷ t) = others t
+others (number x ∷ t) = number x ∷ others t
+others (element i ∷ t) = element i ∷ others t
+others (leaf x ∷ t) = leaf x ∷ others t
+others (truncation ∷ t) = truncation ∷ others t
+others (error ∷ t) = error ∷ others t
+others (implicit ∷ t) = implicit ∷ others t
+others (nested n ∷ t) = nested n ∷ others t
+others (root n ∷ t) = root n ∷ others t
+others (over ∷ t) = over ∷ others t
+
+abbrev pub asEvents : List Pair → Trace
+asEvents [] = []
+asEvents (x ∷ l) = pair x ∷ asEvents l
+
+-- the pairs behind all else
+abbrev pub late : Trace → Trace
+late t = others t ++ asEvents (pairs t)
+
+others-leaves : (t : Trace) → leaves (others t) ≡ leaves t
+others-leaves [] = refl
+others-leaves (pair x ∷ t) = others-leaves t
+others-leaves (number x ∷ t) = others-leaves t
+others-leaves (element i ∷ t) = others-leaves t
+others-leaves (leaf x ∷ t) = ap (λ l. x ∷ l) (others-leaves t)
+others-leaves (truncation ∷ t) = others-leaves t
+others-leaves (error ∷ t) = others-leaves t
+others-leaves (implicit ∷ t) = others-leaves t
+others-leaves (nested n ∷ t) = others-leaves t
+others-leaves (root n ∷ t) = others-leaves t
+others-leaves (over ∷ t) = others-leaves t
+
+others-pairs : (t : Trace) → pairs (others t) ≡ []
+others-pairs [] = refl
+others-pairs (pair x ∷ t) = others-pairs t
+others-pairs (number x ∷ t) = others-pairs t
+others-pairs (element i ∷ t) = others-pairs t
+others-pairs (leaf x ∷ t) = others-pairs t
+others-pairs (truncation ∷ t) = others-pairs t
+others-pairs (error ∷ t) = others-pairs t
+others-pairs (implicit ∷ t) = others-pairs t
+others-pairs (nested n ∷ t) = others-pairs t
+others-pairs (root n ∷ t) = others-pairs t
+others-pairs (over ∷ t) = others-pairs t
+
+events-leaves : (l : List Pair) → leaves (asEvents l) ≡ []
+events-leaves [] = refl
+events-leaves (x ∷ l) = events-leaves l
+
+events-pairs : (l : List Pair) → pairs (asEvents l) ≡ l
+events-pairs [] = refl
+events-pairs (x ∷ l) = ap (λ m. x ∷ m) (events-pairs l)
+
+pub late-leaves : (t : Trace) → leaves (late t) ≡ leaves t
+late-leaves t =
+    leaves-append (others t) (asEvents (pairs t))
+    ∙ ap₂ (λ a b. a ++ b) (others-leaves t) (events-leaves (pairs t))
+    ∙ append-nil (leaves t)
+
+pub late-pairs : (t : Trace) → pairs (late t) ≡ pairs t
+late-pairs t = pairs-append (others t) (asEvents (pairs t)) ∙ ap₂ (λ a b. a ++ b) (others-pairs t) (events-pairs (pairs t))
+
+-- counters: the events that are no pairs, and one field for each pair
+one-field : (c : Counters) (d : Counters) → sums c (sums (counted 0 1 0 0 0 0 0) d) ≡ sums (counted 0 1 0 0 0 0 0) (sums c d)
+one-field c d =
+    λ i. counted (swap (c .elements) 0 (d .elements) i) (swap (c .fields) 1 (d .fields) i) (swap (c .truncations) 0 (d .truncations) i)
+      (swap (c .errors) 0 (d .errors) i) (swap (c .nestedBits) 0 (d .nestedBits) i) (swap (c .rootBits) 0 (d .rootBits) i) (swap (c .implicits) 0 (d .implicits) i)
+  where
+    swap : (a k b : ℕ) → a + (k + b) ≡ k + (a + b)
+    swap a k b = omega arith
+
+late-split : (t : Trace) → counters t ≡ sums (counters (others t)) (counters (asEvents (pairs t)))
+late-split [] = refl
+late-split (pair x ∷ t) =
+    ap (λ c. sums (counted 0 1 0 0 0 0 0) c) (late-split t) ∙ sym (one-field (counters (others t)) (counters (asEvents (pairs t))))
+late-split (number x ∷ t) = ap (λ c. sums (tally (number x)) c) (late-split t) ∙ sym (sums-assoc (tally (number x)) (counters (others t)) (counters (asEvents (pairs t))))
+late-split (element i ∷ t) = ap (λ c. sums (tally (element i)) c) (late-split t) ∙ sym (sums-assoc (tally (element i)) (counters (others t)) (counters (asEvents (pairs t))))
+late-split (leaf x ∷ t) = ap (λ c. sums (tally (leaf x)) c) (late-split t) ∙ sym (sums-assoc (tally (leaf x)) (counters (others t)) (counters (asEvents (pairs t))))
+late-split (truncation ∷ t) = ap (λ c. sums (tally truncation) c) (late-split t) ∙ sym (sums-assoc (tally truncation) (counters (others t)) (counters (asEvents (pairs t))))
+late-split (error ∷ t) = ap (λ c. sums (tally error) c) (late-split t) ∙ sym (sums-assoc (tally error) (counters (others t)) (counters (asEvents (pairs t))))
+late-split (implicit ∷ t) = ap (λ c. sums (tally implicit) c) (late-split t) ∙ sym (sums-assoc (tally implicit) (counters (others t)) (counters (asEvents (pairs t))))
+late-split (nested n ∷ t) = ap (λ c. sums (tally (nested n)) c) (late-split t) ∙ sym (sums-assoc (tally (nested n)) (counters (others t)) (counters (asEvents (pairs t))))
+late-split (root n ∷ t) = ap (λ c. sums (tally (root n)) c) (late-split t) ∙ sym (sums-assoc (tally (root n)) (counters (others t)) (counters (asEvents (pairs t))))
+late-split (over ∷ t) = ap (λ c. sums (tally over) c) (late-split t) ∙ sym (sums-assoc (tally over) (counters (others t)) (counters (asEvents (pairs t))))
+
+pub late-counters : (t : Trace) → counters (late t) ≡ counters t
+late-counters t = counters-append (others t) (asEvents (pairs t)) ∙ sym (late-split t)

@@ -1,0 +1,69 @@
+-- The laws of traces: counters, leaves and pairs of two traces one behind the other.
+use mathlib.Core.Path.{_≡_, refl, sym, ap, _∙_}
+use mathlib.Core.List.{List, [], _∷_, _++_}
+use Prim.Native.Nat.{ℕ, suc, _+_}
+use native.Mathlib.Nat.{zero-add, suc-add, add-assoc}
+use Rattle.framing.specs.Events.{Event, number, element, leaf, pair, truncation, error, implicit, nested, root, over, leaves, pairs, overs, Trace}
+use Rattle.framing.specs.Counters.{Counters, counted, counters, sums, tally}
+
+pub sums-zero : (c : Counters) → sums (counted 0 0 0 0 0 0 0) c ≡ c
+sums-zero c =
+    λ i. record {
+      elements = zero-add (c .elements) i; fields = zero-add (c .fields) i; truncations = zero-add (c .truncations) i; errors = zero-add (c .errors) i;
+      nestedBits = zero-add (c .nestedBits) i; rootBits = zero-add (c .rootBits) i; implicits = zero-add (c .implicits) i
+    }
+
+pub sums-assoc : (a b c : Counters) → sums (sums a b) c ≡ sums a (sums b c)
+sums-assoc a b c =
+    λ i. record {
+      elements = add-assoc (a .elements) (b .elements) (c .elements) i;
+      fields = add-assoc (a .fields) (b .fields) (c .fields) i;
+      truncations = add-assoc (a .truncations) (b .truncations) (c .truncations) i;
+      errors = add-assoc (a .errors) (b .errors) (c .errors) i;
+      nestedBits = add-assoc (a .nestedBits) (b .nestedBits) (c .nestedBits) i;
+      rootBits = add-assoc (a .rootBits) (b .rootBits) (c .rootBits) i;
+      implicits = add-assoc (a .implicits) (b .implicits) (c .implicits) i
+    }
+
+pub counters-append : (t u : Trace) → counters (t ++ u) ≡ sums (counters t) (counters u)
+counters-append [] u = sym (sums-zero (counters u))
+counters-append (e ∷ t) u = ap (λ c. sums (tally e) c) (counters-append t u) ∙ sym (sums-assoc (tally e) (counters t) (counters u))
+
+pub leaves-append : (t u : Trace) → leaves (t ++ u) ≡ leaves t ++ leaves u
+leaves-append [] u = refl
+leaves-append (number x ∷ t) u = leaves-append t u
+leaves-append (element x ∷ t) u = leaves-append t u
+leaves-append (leaf x ∷ t) u = ap (λ l. x ∷ l) (leaves-append t u)
+leaves-append (pair x ∷ t) u = leaves-append t u
+leaves-append (truncation ∷ t) u = leaves-append t u
+leaves-append (error ∷ t) u = leaves-append t u
+leaves-append (implicit ∷ t) u = leaves-append t u
+leaves-append (nested x ∷ t) u = leaves-append t u
+leaves-append (root x ∷ t) u = leaves-append t u
+leaves-append (over ∷ t) u = leaves-append t u
+
+pub pairs-append : (t u : Trace) → pairs (t ++ u) ≡ pairs t ++ pairs u
+pairs-append [] u = refl
+pairs-append (number x ∷ t) u = pairs-append t u
+pairs-append (element x ∷ t) u = pairs-append t u
+pairs-append (leaf x ∷ t) u = pairs-append t u
+pairs-append (pair x ∷ t) u = ap (λ l. x ∷ l) (pairs-append t u)
+pairs-append (truncation ∷ t) u = pairs-append t u
+pairs-append (error ∷ t) u = pairs-append t u
+pairs-append (implicit ∷ t) u = pairs-append t u
+pairs-append (nested x ∷ t) u = pairs-append t u
+pairs-append (root x ∷ t) u = pairs-append t u
+pairs-append (over ∷ t) u = pairs-append t u
+
+pub overs-append : (t u : Trace) → overs (t ++ u) ≡ overs t + overs u
+overs-append [] u = sym (zero-add (overs u))
+overs-append (number x ∷ t) u = overs-append t u
+overs-append (element x ∷ t) u = overs-append t u
+overs-append (leaf x ∷ t) u = overs-append t u
+overs-append (pair x ∷ t) u = overs-append t u
+overs-append (truncation ∷ t) u = overs-append t u
+overs-append (error ∷ t) u = overs-append t u
+overs-append (implicit ∷ t) u = overs-append t u
+overs-append (nested x ∷ t) u = overs-append t u
+overs-append (root x ∷ t) u = overs-append t u
+overs-append (over ∷ t) u = ap suc (overs-append t u) ∙ sym (suc-add (overs t) (overs u))

@@ -1,0 +1,47 @@
+-- The seven counters of a walk, and its verdict.
+use Prim.Native.Nat.{ℕ, _+_}
+use mathlib.Core.Bool.{Bool}
+use mathlib.Core.List.{List, [], _∷_}
+use lib.Dec.{eqb}
+use Rattle.framing.specs.Events.{Event, number, element, leaf, pair, truncation, error, implicit, nested, root, over, Trace}
+
+pub record Counters : Type 0 where
+  pub elements : ℕ
+  pub fields : ℕ          -- leaves, kept tails among them; in an object walk pairs
+  pub truncations : ℕ
+  pub errors : ℕ
+  pub nestedBits : ℕ
+  pub rootBits : ℕ
+  pub implicits : ℕ
+
+abbrev pub counted : (elements fields truncations errors nestedBits rootBits implicits : ℕ) → Counters
+counted e f t r n b i = record { elements = e; fields = f; truncations = t; errors = r; nestedBits = n; rootBits = b; implicits = i }
+
+abbrev pub sums : Counters → Counters → Counters
+sums a b =
+    counted (a .elements + b .elements) (a .fields + b .fields) (a .truncations + b .truncations) (a .errors + b .errors)
+    (a .nestedBits + b .nestedBits) (a .rootBits + b .rootBits) (a .implicits + b .implicits)
+
+-- what one event adds
+abbrev pub tally : Event → Counters
+tally (number x) = counted 0 0 0 0 0 0 0
+tally (element i) = counted 1 0 0 0 0 0 0
+tally (leaf x) = counted 0 1 0 0 0 0 0
+tally (pair x) = counted 0 1 0 0 0 0 0
+tally truncation = counted 0 0 1 0 0 0 0
+tally error = counted 0 0 0 1 0 0 0
+tally (nested n) = counted 0 0 0 0 n 0 0
+tally (root n) = counted 0 0 0 0 0 n 0
+tally implicit = counted 0 0 0 0 0 0 1
+tally over = counted 0 0 0 0 0 0 0
+
+abbrev pub counters : Trace → Counters
+counters [] = counted 0 0 0 0 0 0 0
+counters (e ∷ t) = sums (tally e) (counters t)
+
+-- clean: the last five counters are 0
+abbrev pub faults : Counters → ℕ
+faults c = c .truncations + c .errors + c .nestedBits + c .rootBits + c .implicits
+
+abbrev pub isClean : Counters → Bool
+isClean c = eqb (faults c) 0

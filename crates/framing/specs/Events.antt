@@ -1,0 +1,84 @@
+-- What a walk gives: a list of events, in reading order.
+use Prim.Native.Nat.{ℕ, suc}
+use mathlib.Core.List.{List, [], _∷_}
+
+-- path: bytes. start: the payload's first bit, counted from the root window's first. payload: its bits as a number
+pub record Leaf : Type 0 where
+  pub path : List ℕ
+  pub handle : ℕ
+  pub start : ℕ
+  pub width : ℕ
+  pub payload : ℕ
+
+pub record Pair : Type 0 where
+  pub index : ℕ
+  pub guid : ℕ
+
+-- a packed number: its first bit, counted from the root window's first, the bytes that it took, its value
+pub record Number : Type 0 where
+  pub start : ℕ
+  pub bytes : ℕ
+  pub value : ℕ
+
+pub data Event : Type 0 where
+  number : Number → Event                    -- a packed number was taken, also where a rule then turned its value away
+  element : (index : ℕ) → Event              -- an element was entered
+  leaf : Leaf → Event
+  pair : Pair → Event
+  truncation : Event                         -- a limit was met
+  error : Event                              -- a read failed, or a rule was broken
+  implicit : Event                           -- the window ended where a terminator was due
+  nested : (bits : ℕ) → Event                -- bits of a payload that were stepped past
+  root : (bits : ℕ) → Event                  -- bits left at the root
+  over : Event                               -- a working path would pass its size: refusal 5
+
+abbrev pub Trace : Type 0
+Trace = List Event
+
+-- the handle of a kept tail; a field's handle is smaller
+abbrev pub rawHandle : ℕ
+rawHandle = 4294967295
+
+abbrev pub numbers : List Number → Trace
+numbers [] = []
+numbers (x ∷ xs) = number x ∷ numbers xs
+
+abbrev pub leaves : Trace → List Leaf
+leaves [] = []
+leaves (leaf x ∷ t) = x ∷ leaves t
+leaves (number x ∷ t) = leaves t
+leaves (element i ∷ t) = leaves t
+leaves (pair x ∷ t) = leaves t
+leaves (truncation ∷ t) = leaves t
+leaves (error ∷ t) = leaves t
+leaves (implicit ∷ t) = leaves t
+leaves (nested n ∷ t) = leaves t
+leaves (root n ∷ t) = leaves t
+leaves (over ∷ t) = leaves t
+
+abbrev pub pairs : Trace → List Pair
+pairs [] = []
+pairs (pair x ∷ t) = x ∷ pairs t
+pairs (number x ∷ t) = pairs t
+pairs (element i ∷ t) = pairs t
+pairs (leaf x ∷ t) = pairs t
+pairs (truncation ∷ t) = pairs t
+pairs (error ∷ t) = pairs t
+pairs (implicit ∷ t) = pairs t
+pairs (nested n ∷ t) = pairs t
+pairs (root n ∷ t) = pairs t
+pairs (over ∷ t) = pairs t
+
+-- how many working paths would have passed their size
+abbrev pub overs : Trace → ℕ
+overs [] = 0
+overs (over ∷ t) = suc (overs t)
+overs (number x ∷ t) = overs t
+overs (element i ∷ t) = overs t
+overs (leaf x ∷ t) = overs t
+overs (pair x ∷ t) = overs t
+overs (truncation ∷ t) = overs t
+overs (error ∷ t) = overs t
+overs (implicit ∷ t) = overs t
+overs (nested n ∷ t) = overs t
+overs (root n ∷ t) = overs t

@@ -1,0 +1,10 @@
+pub mod Windows
+pub mod Events
+pub mod Counters
+pub mod Paths
+pub mod Walk
+pub mod Sinks
+pub mod Records
+pub mod Refusing
+pub mod Demand
+pub mod Cases

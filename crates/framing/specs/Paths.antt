@@ -1,0 +1,21 @@
+-- The working path: it grows by `[index]` and `.label`, and never past its size (01, Sizes; refusal 5).
+use Prim.Native.Nat.{ℕ}
+use mathlib.Core.List.{List, [], _∷_}
+use lib.ListN.{length}
+use lib.Dec.{leb}
+use Rattle.bits.specs.Choice.{if_then_else_}
+use Rattle.framing.specs.Events.{Leaf, leaf, over, Trace}
+
+abbrev pub longestPath : ℕ
+longestPath = 1024
+
+-- the path as it goes on, and the event where it would be too long
+unfoldable pub grown : (path longer : List ℕ) → List ℕ
+grown path longer = if leb (length longer) longestPath then longer else path
+
+unfoldable pub noted : (longer : List ℕ) → Trace
+noted longer = if leb (length longer) longestPath then [] else over ∷ []
+
+-- a leaf, whose path is a working path too
+unfoldable pub given : Leaf → Trace
+given x = if leb (length (x .path)) longestPath then leaf x ∷ [] else over ∷ []

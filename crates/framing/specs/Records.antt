@@ -1,0 +1,45 @@
+-- Leaves and pairs as records, path bytes and payload bytes (01, Tables and outputs).
+use Prim.Native.Nat.{ℕ, _+_}
+use mathlib.Core.List.{List, [], _∷_, _++_}
+use lib.ListN.{length, drop}
+use Rattle.bits.specs.Runs.{bytesOf, bytesFor}
+use Rattle.framing.specs.Events.{Leaf, Pair}
+
+-- a payload's bytes; padding bits are 0
+abbrev pub payloadOf : Leaf → List ℕ
+payloadOf x = bytesOf (bytesFor (x .width)) (x .payload)
+
+-- records: the one place that says how many numbers a leaf and a pair have, and which
+abbrev pub leafWords : ℕ
+leafWords = 5
+
+-- pathAt, payloadAt: where the leaf's path and payload start in their buffers
+abbrev pub leafRecord : (pathAt payloadAt : ℕ) → Leaf → List ℕ
+leafRecord pathAt payloadAt x = pathAt ∷ length (x .path) ∷ x .handle ∷ x .width ∷ payloadAt ∷ []
+
+abbrev pub pairWords : ℕ
+pairWords = 2
+
+abbrev pub pairRecord : Pair → List ℕ
+pairRecord x = x .index ∷ x .guid ∷ []
+
+unfoldable pub pathBytes : List Leaf → List ℕ
+pathBytes [] = []
+pathBytes (x ∷ l) = x .path ++ pathBytes l
+
+unfoldable pub payloadBytes : List Leaf → List ℕ
+payloadBytes [] = []
+payloadBytes (x ∷ l) = payloadOf x ++ payloadBytes l
+
+-- paths and payloads follow one another without gaps
+unfoldable pub leafRecords : (pathAt payloadAt : ℕ) → List Leaf → List ℕ
+leafRecords a b [] = []
+leafRecords a b (x ∷ l) = leafRecord a b x ++ leafRecords (a + length (x .path)) (b + length (payloadOf x)) l
+
+unfoldable pub pairRecords : List Pair → List ℕ
+pairRecords [] = []
+pairRecords (x ∷ l) = pairRecord x ++ pairRecords l
+
+-- a lent buffer after a walk fills its front with `new`
+abbrev pub filled : (new old : List ℕ) → List ℕ
+filled new old = new ++ drop (length new) old

@@ -1,0 +1,44 @@
+-- When a walk is refused, and what it needs (01, Refusal numbers): stated once for all three walks.
+use Prim.Native.Nat.{ℕ}
+use mathlib.Core.Bool.{Bool, true, false, not, _&&_}
+use mathlib.Core.List.{List}
+use lib.ListN.{length}
+use lib.Dec.{leb, ltb}
+use Rattle.bits.specs.Choice.{if_then_else_}
+use Rattle.bitio.specs.Cursors.{longestWindow}
+use Rattle.framing.specs.Events.{leaves, overs, Trace}
+use Rattle.framing.specs.Counters.{Counters, counters}
+use Rattle.framing.specs.Records.{pathBytes, payloadBytes}
+
+-- what a struct or exact walk needs of each output, or what is lent
+pub record Room : Type 0 where
+  pub leaves : ℕ
+  pub pathBytes : ℕ
+  pub payloadBytes : ℕ
+
+abbrev pub noRoom : Room
+noRoom = record { leaves = 0; pathBytes = 0; payloadBytes = 0 }
+
+unfoldable pub needed : Trace → Room
+needed t =
+    record {
+      leaves = length (leaves t);
+      pathBytes = length (pathBytes (leaves t));
+      payloadBytes = length (payloadBytes (leaves t))
+    }
+
+abbrev pub within : (need lent : Room) → Bool
+within need lent = leb (need .leaves) (lent .leaves) && leb (need .pathBytes) (lent .pathBytes) && leb (need .payloadBytes) (lent .payloadBytes)
+
+-- refused: 01's number, and the needs where it is 3, else none. accepted: the counters, and how much of each output is filled
+pub data Answer (Need : Type 0) : Type 0 where
+  refused : (number : ℕ) (need : Need) → Answer Need
+  accepted : Counters → (need : Need) → Answer Need
+
+-- The order 1, 2, 5, 3. laid: the tables keep their layout; enough: the outputs hold what is needed.
+unfoldable pub decided : {Need : Type 0} → (bits : ℕ) (laid : Bool) (trace : Trace) (nothing need : Need) (enough : Bool) → Answer Need
+decided bits laid trace nothing need enough =
+    if ltb longestWindow bits then refused 1 nothing else
+    (if not laid then refused 2 nothing else
+    (if ltb 0 (overs trace) then refused 5 nothing else
+    (if not enough then refused 3 need else accepted (counters trace) need)))

@@ -1,0 +1,112 @@
+-- The three walks (array.rs; 01, Walking an array, rules 6, 8 and 9).
+use Prim.Native.Nat.{ℕ, zero, suc, _*_, _-_}
+use mathlib.Core.Bool.{Bool, true, false}
+use mathlib.Core.List.{List, [], _∷_, _++_}
+use lib.ListN.{length}
+use lib.Dec.{ltb, eqb}
+use Rattle.bits.specs.Choice.{if_then_else_}
+use Rattle.schema.specs.Tables.{Tables, absent, child}
+use Rattle.schema.specs.Labels.{containerLabel, leafLabel, labelBytes, dot}
+use Rattle.schema.specs.declared.Child.{Child}
+use Rattle.schema.specs.declared.Child.the-variants.{Array, Leaf}
+use Rattle.framing.specs.Windows.{Window, windowOf, Reading, got, failed, reading}
+use Rattle.framing.specs.Events as Ev
+use Rattle.framing.specs.Events.{Event, number, pair, truncation, error, nested, root, Trace}
+use Rattle.framing.specs.Counters.{Counters, isClean}
+use Rattle.framing.specs.Paths.{grown, noted, given}
+use Rattle.framing.specs.Walk.{Sink, numberAt, level}
+
+-- 01, Sizes: levels of nesting, of depths 0 to 11
+abbrev pub maxLevels : ℕ
+maxLevels = 12
+
+-- ---- the struct walk
+
+-- a payload as a leaf
+abbrev pub leafOf : (path : List ℕ) (handle : ℕ) → Window → Ev.Leaf
+leafOf path handle w = record { path = path; handle = handle; start = w .origin; width = w .size; payload = w .bits }
+
+-- Rule 6. A field that is no array is a leaf, also with no payload. An array with no payload gives nothing; with one, `inside` walks it, given
+-- the level of its elements, the path so far and the path with the array's label.
+abbrev pub onChild : Tables → (lvl : ℕ) → (inside : (below : ℕ) (path longer : List ℕ) (handle : ℕ) → Window → Trace)
+    → (path : List ℕ) (handle : ℕ) → Window → Child → Trace
+onChild t lvl inside path handle w Leaf = given (leafOf (dot path (labelBytes t handle (leafLabel t lvl handle))) handle w)
+onChild t lvl inside path handle w (Array below) =
+    if eqb (w .size) 0 then [] else inside below path (dot path (labelBytes t handle (containerLabel t lvl handle))) handle w
+
+abbrev pub structSinkOver : (inside : ℕ → List ℕ → List ℕ → ℕ → Window → Trace) → Tables → (trailer : Bool) (leftover : ℕ → Event) (lvl : ℕ) → Sink
+structSinkOver inside t trailer leftover lvl =
+    record {
+      trailer = trailer;
+      flattens = true;
+      leftover = leftover;
+      field = λ i path first handle w. onChild t lvl inside path handle w (child (t .rows) lvl handle)
+    }
+
+-- too deep: one truncation, and the array as a leaf
+abbrev pub tooDeep : (below : ℕ) (path longer : List ℕ) (handle : ℕ) → Window → Trace
+tooDeep below path longer handle w = truncation ∷ given (leafOf longer handle w)
+
+-- deeper: how many levels may stand below this one. What a child leaves is nested unconsumed bits.
+unfoldable pub structSink : (deeper : ℕ) → Tables → (trailer : Bool) (leftover : ℕ → Event) (lvl : ℕ) → Sink
+structSink zero t trailer leftover lvl = structSinkOver tooDeep t trailer leftover lvl
+structSink (suc deeper) t trailer leftover lvl =
+    structSinkOver (λ below path longer handle w. noted longer ++ level (structSink deeper t trailer nested below) w (grown path longer)) t trailer leftover lvl
+
+-- ---- the object walk
+
+-- Rule 8. An element's first non-empty field is one packed number that fills its payload. Its pair stands here at the field that gives it; 01
+-- gives it behind the element's fields, which makes no difference to any answer (proofs/PairOrder).
+abbrev pub guidOf : (index : ℕ) → Window → Reading → Trace
+guidOf index w failed = error ∷ []
+guidOf index w (got v b) =
+    if eqb (8 * b) (w .size) then number (numberAt w 0 b v) ∷ pair (record { index = index; guid = v }) ∷ [] else
+    number (numberAt w 0 b v) ∷ error ∷ []
+
+-- an empty field gives nothing; one behind the first non-empty one is stepped past
+abbrev pub objectField : (index : ℕ) (first : Bool) → Window → Trace
+objectField index first w =
+    if eqb (w .size) 0 then [] else (if first then guidOf index w (reading w 0) else nested (w .size) ∷ [])
+
+unfoldable pub objectSink : Sink
+objectSink = record { trailer = true; flattens = false; leftover = root; field = λ i path first handle w. objectField i first w }
+
+-- ---- the three walks of a window
+
+pub data Walk : Type 0 where
+  struct : Tables → (rootLevel : ℕ) → Walk
+  exact : (declared declaredNames : List ℕ) → Walk
+  object : Walk
+
+abbrev pub declaredOnly : (declared declaredNames : List ℕ) → Tables
+declaredOnly d n = record { rows = []; names = []; declared = d; declaredNames = n }
+
+-- the exact walk has no schema and takes no trailer
+unfoldable pub sinkOf : Walk → Sink
+sinkOf (struct t lvl) = structSink (maxLevels - 1) t true root lvl
+sinkOf (exact d n) = structSink (maxLevels - 1) (declaredOnly d n) false root absent
+sinkOf object = objectSink
+
+-- Rule 9: a struct or exact walk of no bits counts nothing
+abbrev pub silent : Walk → (bits : ℕ) → Bool
+silent (struct t lvl) n = eqb n 0
+silent (exact d m) n = eqb n 0
+silent object n = false
+
+unfoldable pub walkWindow : Walk → Window → Trace
+walkWindow k w = if silent k (w .size) then [] else level (sinkOf k) w []
+
+-- the first n bits of some bytes; a window past its bytes counts one error
+unfoldable pub walk : Walk → (bytes : List ℕ) (n : ℕ) → Trace
+walk k bytes n =
+    if silent k n then [] else (if ltb (8 * length bytes) n then error ∷ [] else walkWindow k (windowOf bytes n))
+
+-- ---- the verdict
+
+pub data Verdict : Type 0 where
+  clean : Verdict
+  partial : Verdict
+
+-- of a walk of so many bits that gave these counters
+unfoldable pub verdictOf : Walk → (bits : ℕ) → Counters → Verdict
+verdictOf k bits c = if isClean c then clean else partial
