@@ -1,4 +1,4 @@
--- The seven counters of a walk of n bits add up to at most n + 1: no counter of a walk overflows.
+-- The seven counters of a walk of n bits, and the paths that would be too long, add up to at most n + 1: no counter of a walk overflows.
 use mathlib.Core.Path.{_≡_, refl, sym, ap, _∙_}
 use mathlib.Core.Bool.{Bool, true, false, _&&_}
 use mathlib.Core.List.{List, [], _∷_, _++_}
@@ -14,25 +14,25 @@ use Rattle.schema.specs.declared.Child.{Child}
 use Rattle.schema.specs.declared.Child.the-variants.{Array, Leaf}
 use Rattle.framing.specs.Windows.{Window, windowOf, part, Reading, got, failed, reading}
 use Rattle.framing.specs.Events as Ev
-use Rattle.framing.specs.Events.{Event, Number, number, element, pair, truncation, error, implicit, nested, root, over, Trace}
+use Rattle.framing.specs.Events.{Event, Number, number, element, pair, truncation, error, implicit, nested, root, over, overs, Trace}
 use Rattle.framing.specs.Counters.{Counters, counters, sums, tally}
 use Rattle.framing.specs.Paths.{longestPath, grown, noted, given}
 use Rattle.framing.specs.Walk.{Sink, numberAt, rawLeaf, tail, inItem, entering, level}
 use Rattle.framing.specs.Sinks.{maxLevels, leafOf, onChild, structSinkOver, structSink, tooDeep, guidOf, objectField, objectSink, Walk, struct, exact, object, declaredOnly, sinkOf, silent, walkWindow, walk}
-use Rattle.framing.proofs.TraceLaws.{counters-append}
+use Rattle.framing.proofs.TraceLaws.{counters-append, overs-append}
 use Rattle.framing.proofs.Demand3.{and-true}
 use Rattle.framing.proofs.Induct.{Read, Here, Scheme, level-holds}
 
 abbrev pub total : Counters → ℕ
 total c = c .elements + c .fields + c .truncations + c .errors + c .nestedBits + c .rootBits + c .implicits
 
-pub total-append : (t u : Trace) → total (counters (t ++ u)) ≡ total (counters t) + total (counters u)
-total-append t u = rw counters-append (omega arith)
-
 abbrev pub cost : Trace → ℕ
-cost t = total (counters t)
+cost t = total (counters t) + overs t
 
--- a leaf counts at most once, and a path that would be too long not at all
+pub cost-append : (t u : Trace) → cost (t ++ u) ≡ cost t + cost u
+cost-append t u = rw (counters-append, overs-append) (omega arith)
+
+-- a leaf counts at most once, and so does a path that would be too long
 given-cost : (x : Ev.Leaf) → cost (given x) ≤ 1
 unfolding given
 given-cost x = go (leb (length (x .path)) longestPath) refl
@@ -41,21 +41,21 @@ given-cost x = go (leb (length (x .path)) longestPath) refl
     go true e = rw e (omega arith)
     go false e = rw e (omega arith)
 
-noted-cost : (longer : List ℕ) → cost (noted longer) ≡ 0
+noted-cost : (longer : List ℕ) → cost (noted longer) ≤ 1
 unfolding noted
 noted-cost longer = go (leb (length longer) longestPath) refl
   where
-    go : (b : Bool) → leb (length longer) longestPath ≡ b → cost (noted longer) ≡ 0
-    go true e = rw e refl
-    go false e = rw e refl
+    go : (b : Bool) → leb (length longer) longestPath ≡ b → cost (noted longer) ≤ 1
+    go true e = rw e (omega arith)
+    go false e = rw e (omega arith)
 
-entering-cost : (s : Sink) (path : List ℕ) (i : ℕ) → cost (entering s path i) ≡ 0
+entering-cost : (s : Sink) (path : List ℕ) (i : ℕ) → cost (entering s path i) ≤ 1
 unfolding entering
 entering-cost s path i = go (s .flattens) refl
   where
-    go : (b : Bool) → s .flattens ≡ b → cost (entering s path i) ≡ 0
+    go : (b : Bool) → s .flattens ≡ b → cost (entering s path i) ≤ 1
     go true e = rw e (noted-cost (atIndex path i))
-    go false e = rw e refl
+    go false e = rw e (omega arith)
 
 -- what is asked of a sink
 pub record Frugal (s : Sink) : Type 0 where
@@ -80,7 +80,7 @@ module _ (s : Sink) (ok : Frugal s) (w : Window) (path : List ℕ) where
   AtLast p t = p + cost t ≤ w .size + 1
 
   within-join : (p q r : ℕ) (t u : Trace) → p + cost t ≤ q → q + cost u ≤ r → p + cost (t ++ u) ≤ r
-  within-join p q r t u f g = let z = total-append t u in omega arith
+  within-join p q r t u f g = let z = cost-append t u in omega arith
 
   within-given : (x y : Number) (i h p q r k : ℕ) (first : Bool) → Read w x p q → Read w y q r
       → p + cost (number x ∷ number y ∷ s .field i (inItem s path i) first h (part w r k)) ≤ r + k
@@ -100,7 +100,7 @@ module _ (s : Sink) (ok : Frugal s) (w : Window) (path : List ℕ) where
         ended = λ h k. omega arith;
         failed = λ h. omega arith;
         limited = λ {p} {place} h here. let z = tail-cost s w place p h in omega arith;
-        left = λ {p} h. let z = ok .of-rest (w .size - p) in omega arith
+        left = λ {p} h. let z = ok .of-rest (w .size - p) in omega arith;
       }
 
   pub level-cost : cost (level s w path) ≤ w .size + 1
@@ -125,7 +125,7 @@ deep-cost : (below : ℕ) (path longer : List ℕ) (h : ℕ) (w : Window) → co
 deep-cost below path longer h w = let z = given-cost (leafOf longer h w) in omega arith
 
 noted-level : (longer : List ℕ) (t : Trace) (n : ℕ) → cost t ≤ n + 1 → cost (noted longer ++ t) ≤ n + 2
-noted-level longer t n h = let z = total-append (noted longer) t in omega (arith, noted-cost longer)
+noted-level longer t n h = let z = cost-append (noted longer) t in omega (arith, noted-cost longer)
 
 struct-frugal : (t : Tables) (deeper lvl : ℕ) (trailer : Bool) (leftover : ℕ → Event) → ((n : ℕ) → cost (leftover n ∷ []) ≤ n)
     → Frugal (structSink deeper t trailer leftover lvl)
@@ -135,12 +135,12 @@ struct-frugal t zero lvl trailer leftover rest =
 struct-frugal t (suc deeper) lvl trailer leftover rest =
     record {
       of-field = λ i path first h w.
-        child-cost t lvl (λ below path longer h w. noted longer ++ level (structSink deeper t trailer nested below) w (grown path longer))
-        (λ below path longer h w.
+          child-cost t lvl (λ below path longer h w. noted longer ++ level (structSink deeper t trailer nested below) w (grown path longer))
+          (λ below path longer h w.
           noted-level longer _ (w .size)
           (level-cost (structSink deeper t trailer nested below) (struct-frugal t deeper below trailer nested (λ n. omega arith)) w (grown path longer)))
-        path h w (child (t .rows) lvl h);
-      of-rest = rest
+          path h w (child (t .rows) lvl h);
+      of-rest = rest;
     }
 
 guid-cost : (i : ℕ) (w : Window) (r : Reading) → cost (guidOf i w r) ≤ w .size + 2
@@ -165,11 +165,11 @@ frugal (struct t lvl) = struct-frugal t 11 lvl true root (λ n. omega arith)
 frugal (exact d n) = struct-frugal (declaredOnly d n) 11 absent false root (λ n. omega arith)
 frugal object = record { of-field = λ i path first h w. object-cost i first w; of-rest = λ n. omega arith }
 
-pub walk-cost : (k : Walk) (bytes : List ℕ) (n : ℕ) → total (counters (walk k bytes n)) ≤ n + 1
+pub walk-cost : (k : Walk) (bytes : List ℕ) (n : ℕ) → total (counters (walk k bytes n)) + overs (walk k bytes n) ≤ n + 1
 unfolding walk walkWindow
 walk-cost k bytes n = go (silent k n) (ltb (8 * length bytes) n) refl refl
   where
-    go : (x y : Bool) → silent k n ≡ x → ltb (8 * length bytes) n ≡ y → total (counters (walk k bytes n)) ≤ n + 1
+    go : (x y : Bool) → silent k n ≡ x → ltb (8 * length bytes) n ≡ y → total (counters (walk k bytes n)) + overs (walk k bytes n) ≤ n + 1
     go true y e f = rw e (omega arith)
     go false true e f = rw (e, f) (omega arith)
     go false false e f = rw (e, f) (level-cost (sinkOf k) (frugal k) (windowOf bytes n) [])

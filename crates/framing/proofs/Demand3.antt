@@ -87,7 +87,7 @@ record Ends (s : Sink) (w : Window) (m : ℕ) (a b : Trace) : Type 0 where
   no-leaves : leaves a ≡ []
   no-pairs : pairs a ≡ []
   verdict : isClean (counters b) ≡ true → m < w .size → isClean (counters a) ≡ true
-    → (s .trailer ≡ true) × (m + 8 ≡ w .size) × (field (w .bits) m 8 ≡ 0)
+      → (s .trailer ≡ true) × (m + 8 ≡ w .size) × (field (w .bits) m 8 ≡ 0)
 
 -- with the trailer's bits left, a number that is zero is a zero byte
 zero-byte : (w : Window) (q v b : ℕ) → q + 8 ≡ w .size → reading w q ≡ got v b → v ≡ 0 → field (w .bits) q 8 ≡ 0
@@ -236,7 +236,7 @@ demand3-window k w m mn = go (silent k m) refl
         (record {
           same-leaves = cut-leaves s w m c;
           same-pairs = cut-pairs s w m c;
-          not-clean = λ l lt d. let v = cut-verdict s w m c l lt d in lacks-trailer (v .0) (v .1) (v .2)
+          not-clean = λ l lt d. let v = cut-verdict s w m c l lt d in lacks-trailer (v .0) (v .1) (v .2);
         })
 
 walk-inside : (k : Walk) (bytes : List ℕ) (n : ℕ) → n ≤ 8 * length bytes → walk k bytes n ≡ walkWindow k (windowOf bytes n)

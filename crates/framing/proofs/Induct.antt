@@ -50,6 +50,7 @@ lead-of-in w p lt (inside {v = v} {b = b} h pos) = go (eqb v 0) refl
   where
     took : Read w (numberAt w p b v) p (p + 8 * b)
     took = record { starts = refl; runs = refl; some = pos; fits = h }
+
     go : (x : Bool) → eqb v 0 ≡ x → LeadIn w p (leadOf w p (got v b))
     go true e = rw e (in-zero took)
     go false e = rw e (in-more took)
@@ -76,6 +77,7 @@ width-in w p x h q took (inside {v = k} {b = b} l pos) = go (ltb (w .size) (q + 
   where
     next : Read w (numberAt w q b k) q (q + 8 * b)
     next = record { starts = refl; runs = refl; some = pos; fits = l }
+
     go : (z : Bool) → ltb (w .size) (q + 8 * b + k) ≡ z → DueIn w p (widthOf w x h q (got k b))
     go true t = rw t (in-fail₂ took next)
     go false t = rw t (in-field took next (ltb-false (w .size) (q + 8 * b + k) t))
@@ -104,7 +106,7 @@ pub record Scheme (s : Sink) (w : Window) (path : List ℕ) (Good : ℕ → ℕ 
   pub read : {x : Number} {p q : ℕ} → Read w x p q → Good p q (number x ∷ [])
   pub entered : {x : Number} {i p q : ℕ} → Read w x p q → i < maxElements → Good p q (number x ∷ element i ∷ entering s path i)
   pub given : {x y : Number} {i h p q r k : ℕ} {first : Bool} → i < maxElements → Read w x p q → Read w y q r → r + k ≤ w .size
-    → Good p (r + k) (number x ∷ number y ∷ s .field i (inItem s path i) first h (part w r k))
+      → Good p (r + k) (number x ∷ number y ∷ s .field i (inItem s path i) first h (part w r k))
   pub ended : {p : ℕ} → w .size ≤ p → p ≤ w .size → Stop p (implicit ∷ [])
   pub failed : {p : ℕ} → p ≤ w .size → Stop p (error ∷ [])
   pub limited : {p : ℕ} {place : List ℕ} → p ≤ w .size → Here s path place → Stop p (truncation ∷ tail s w place p)
@@ -147,8 +149,10 @@ module _ (s : Sink) (w : Window) (path : List ℕ) (Good : ℕ → ℕ → Trace
     where
       took : Read w (numberAt w p b v) p (w .size)
       took = record { starts = refl; runs = omega arith; some = pos; fits = omega arith }
+
       rest : (q n : ℕ) → q ≤ w .size → w .size - q ≡ n → Stop q (s .leftover n ∷ [])
       rest q n h e = rw e at (𝓢 .left h)
+
       go : (x : Bool) → eqb v 0 ≡ x → Stop p (trailerOf s w p (got v b))
       go true e = rw e (𝓢 .halt (𝓢 .read took) (rest (w .size) 0 (omega arith) (omega arith)))
       go false e = rw e (rest p 8 (omega arith) (omega arith))
@@ -199,6 +203,7 @@ module _ (s : Sink) (w : Window) (path : List ℕ) (Good : ℕ → ℕ → Trace
     where
       took : Read w (numberAt w 0 b v) 0 (8 * b)
       took = record { starts = refl; runs = omega arith; some = pos; fits = omega arith }
+
       go : (x : Bool) → ltb maxElements v ≡ x → Stop 0 (onCount s w path (got v b))
       go true e = rw e (𝓢 .halt (𝓢 .read took) (𝓢 .limited (took .fits) at-level))
       go false e = rw e (𝓢 .halt (𝓢 .read took) (elements-hold v (ltb-false maxElements v e) maxElements (8 * b) (took .fits)))

@@ -8,3 +8,4 @@ pub mod RecordLaws
 pub mod Induct
 pub mod Bounded
 pub mod PairOrder
+pub mod RefusingLaws

@@ -79,7 +79,7 @@ late-pairs t = pairs-append (others t) (asEvents (pairs t)) ∙ ap₂ (λ a b. a
 one-field : (c : Counters) (d : Counters) → sums c (sums (counted 0 1 0 0 0 0 0) d) ≡ sums (counted 0 1 0 0 0 0 0) (sums c d)
 one-field c d =
     λ i. counted (swap (c .elements) 0 (d .elements) i) (swap (c .fields) 1 (d .fields) i) (swap (c .truncations) 0 (d .truncations) i)
-      (swap (c .errors) 0 (d .errors) i) (swap (c .nestedBits) 0 (d .nestedBits) i) (swap (c .rootBits) 0 (d .rootBits) i) (swap (c .implicits) 0 (d .implicits) i)
+    (swap (c .errors) 0 (d .errors) i) (swap (c .nestedBits) 0 (d .nestedBits) i) (swap (c .rootBits) 0 (d .rootBits) i) (swap (c .implicits) 0 (d .implicits) i)
   where
     swap : (a k b : ℕ) → a + (k + b) ≡ k + (a + b)
     swap a k b = omega arith

@@ -46,7 +46,7 @@ module _ (s : Sink) (w : Window) where
   -- a field that is present
   pub fields-present : (i : ℕ) (path : List ℕ) (left p : ℕ) (first : Bool) (ns : List Number) (h q k : ℕ) → fieldAt w p ≡ present ns h q k
       → fields s w i path (suc left) p first
-          ≡ prepend (numbers ns ++ s .field i path first h (part w q k)) (fields s w i path left (q + k) (first && eqb k 0))
+      ≡ prepend (numbers ns ++ s .field i path first h (part w q k)) (fields s w i path left (q + k) (first && eqb k 0))
   fields-present i path left p first ns h q k e = rw (fields-step, e)
 
   pub elements-last : (path : List ℕ) (count p : ℕ) → elements s w path count 0 p ≡ onLastIndex s w path p (lead w p)
@@ -75,7 +75,7 @@ behind-prepend more t (stopped u) = refl
 module _ (s : Sink) (w : Window) (i : ℕ) (path : List ℕ) (t : Trace) (p : ℕ) (first : Bool) where
   pub loop-field : (left : ℕ) (ns : List Number) (h q k : ℕ) → fieldAt w p ≡ present ns h q k
       → prepend t (fields s w i path (suc left) p first)
-          ≡ prepend (t ++ (numbers ns ++ s .field i path first h (part w q k))) (fields s w i path left (q + k) (first && eqb k 0))
+      ≡ prepend (t ++ (numbers ns ++ s .field i path first h (part w q k))) (fields s w i path left (q + k) (first && eqb k 0))
   loop-field left ns h q k e = rw (fields-step, e) (prepend-prepend t (numbers ns ++ s .field i path first h (part w q k)) (fields s w i path left (q + k) (first && eqb k 0)))
 
   pub loop-closed : (left : ℕ) (x : Number) (q : ℕ) → fieldAt w p ≡ closed x q

@@ -9,8 +9,13 @@ use Rattle.framing.specs.Counters.{Counters, counted, counters, sums, ta
 pub sums-zero : (c : Counters) → sums (counted 0 0 0 0 0 0 0) c ≡ c
 sums-zero c =
     λ i. record {
-      elements = zero-add (c .elements) i; fields = zero-add (c .fields) i; truncations = zero-add (c .truncations) i; errors = zero-add (c .errors) i;
-      nestedBits = zero-add (c .nestedBits) i; rootBits = zero-add (c .rootBits) i; implicits = zero-add (c .implicits) i
+      elements = zero-add (c .elements) i;
+      fields = zero-add (c .fields) i;
+      truncations = zero-add (c .truncations) i;
+      errors = zero-add (c .errors) i;
+      nestedBits = zero-add (c .nestedBits) i;
+      rootBits = zero-add (c .rootBits) i;
+      implicits = zero-add (c .implicits) i;
     }
 
 pub sums-assoc : (a b c : Counters) → sums (sums a b) c ≡ sums a (sums b c)
@@ -22,7 +27,7 @@ sums-assoc a b c =
       errors = add-assoc (a .errors) (b .errors) (c .errors) i;
       nestedBits = add-assoc (a .nestedBits) (b .nestedBits) (c .nestedBits) i;
       rootBits = add-assoc (a .rootBits) (b .rootBits) (c .rootBits) i;
-      implicits = add-assoc (a .implicits) (b .implicits) (c .implicits) i
+      implicits = add-assoc (a .implicits) (b .implicits) (c .implicits) i;
     }
 
 pub counters-append : (t u : Trace) → counters (t ++ u) ≡ sums (counters t) (counters u)

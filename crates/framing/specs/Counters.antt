@@ -7,7 +7,7 @@ use Rattle.framing.specs.Events.{Event, number, element, leaf, pair, tru
 
 pub record Counters : Type 0 where
   pub elements : ℕ
-  pub fields : ℕ          -- leaves, kept tails among them; in an object walk pairs
+  pub fields : ℕ  -- leaves, kept tails among them; in an object walk pairs
   pub truncations : ℕ
   pub errors : ℕ
   pub nestedBits : ℕ

@@ -21,16 +21,16 @@ pub record Number : Type 0 where
   pub value : ℕ
 
 pub data Event : Type 0 where
-  number : Number → Event                    -- a packed number was taken, also where a rule then turned its value away
-  element : (index : ℕ) → Event              -- an element was entered
+  number : Number → Event  -- a packed number was taken, also where a rule then turned its value away
+  element : (index : ℕ) → Event  -- an element was entered
   leaf : Leaf → Event
   pair : Pair → Event
-  truncation : Event                         -- a limit was met
-  error : Event                              -- a read failed, or a rule was broken
-  implicit : Event                           -- the window ended where a terminator was due
-  nested : (bits : ℕ) → Event                -- bits of a payload that were stepped past
-  root : (bits : ℕ) → Event                  -- bits left at the root
-  over : Event                               -- a working path would pass its size: refusal 5
+  truncation : Event  -- a limit was met
+  error : Event  -- a read failed, or a rule was broken
+  implicit : Event  -- the window ended where a terminator was due
+  nested : (bits : ℕ) → Event  -- bits of a payload that were stepped past
+  root : (bits : ℕ) → Event  -- bits left at the root
+  over : Event  -- a working path would pass its size: refusal 5
 
 abbrev pub Trace : Type 0
 Trace = List Event

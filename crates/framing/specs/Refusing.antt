@@ -24,7 +24,7 @@ needed t =
     record {
       leaves = length (leaves t);
       pathBytes = length (pathBytes (leaves t));
-      payloadBytes = length (payloadBytes (leaves t))
+      payloadBytes = length (payloadBytes (leaves t));
     }
 
 abbrev pub within : (need lent : Room) → Bool

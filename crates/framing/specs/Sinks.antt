@@ -40,7 +40,7 @@ structSinkOver inside t trailer leftover lvl =
       trailer = trailer;
       flattens = true;
       leftover = leftover;
-      field = λ i path first handle w. onChild t lvl inside path handle w (child (t .rows) lvl handle)
+      field = λ i path first handle w. onChild t lvl inside path handle w (child (t .rows) lvl handle);
     }
 
 -- too deep: one truncation, and the array as a leaf

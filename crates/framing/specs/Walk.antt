@@ -24,9 +24,9 @@ trailerBits = 8
 
 -- What the walks differ in.
 pub record Sink : Type 0 where
-  pub trailer : Bool                   -- takes the optional trailer behind an index terminator
-  pub flattens : Bool                  -- gives leaves with paths, and keeps a tail as one; else skips it
-  pub leftover : ℕ → Event             -- what bits left behind the terminator count as
+  pub trailer : Bool  -- takes the optional trailer behind an index terminator
+  pub flattens : Bool  -- gives leaves with paths, and keeps a tail as one; else skips it
+  pub leftover : ℕ → Event  -- what bits left behind the terminator count as
   -- a field of the element `index`, whose path it gets; first: no field before it had a payload
   pub field : (index : ℕ) (path : List ℕ) (first : Bool) (handle : ℕ) → Window → Trace
 

@@ -1,0 +1,9 @@
+pub mod Paste
+pub mod After
+pub mod Gives
+pub mod ShortPaths
+pub mod NoWrap
+pub mod Passes
+pub mod Fronts
+pub mod Padding
+pub mod Example

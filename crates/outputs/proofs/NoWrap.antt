@@ -1,0 +1,144 @@
+-- The code's additions wrap; in a walk of a window none does.
+use mathlib.Core.Path.{_≡_, refl, sym, ap, _∙_}
+use mathlib.Core.List.{List, [], _∷_}
+use Prim.Native.Nat.{ℕ, _+_, _*_, _%_, _≤_, _<_}
+use native.Mathlib.Nat.{mod-eq-of-lt}
+use native.Mathlib.Omega.{arith}
+use lib.ListN.{length}
+use Rattle.bitio.specs.Cursors.{longestWindow}
+use Rattle.framing.specs.Events.{Event, number, element, leaf, pair, truncation, error, implicit, nested, root, over, leaves, pairs, overs, Trace}
+use Rattle.framing.specs.Counters.{Counters, counted, counters, sums}
+use Rattle.framing.specs.Sinks.{Walk, walk}
+use Rattle.framing.specs.Records.{leafRecord, pairRecord, payloadOf}
+use Rattle.framing.proofs.Bounded.{total, walk-cost}
+use Rattle.outputs.specs.World.{plain, wrapping, Out, put, World, count, counting, onEvent, apply, fresh}
+use Rattle.outputs.proofs.After.{counters-after, counters-fresh, overs-after, words-at, text-at, load-at, records-length}
+use Rattle.outputs.proofs.Gives.{payload-bound}
+use Rattle.outputs.proofs.ShortPaths.{walk-short, path-bound}
+
+-- every number that is added up is below m
+pub record Fits (m : ℕ) (w : World) : Type 0 where
+  pub counters : total (w .counters) < m
+  pub overs : w .overs < m
+  pub words : w .words .at < m
+  pub text : w .text .at < m
+  pub load : w .load .at < m
+
+-- what fits at the end fitted before
+pub fits-before : (m : ℕ) (t : Trace) (w : World) → Fits m (apply plain t w) → Fits m w
+fits-before m t w h =
+    record {
+      counters = let e : total ((apply plain t w) .counters) ≡ total (sums (w .counters) (counters t)) = ap total (counters-after t w) in let f = h .counters in omega arith;
+      overs = let e = overs-after t w in let f = h .overs in omega arith;
+      words = let e = words-at t w in let f = h .words in omega arith;
+      text = let e = text-at t w in let f = h .text in omega arith;
+      load = let e = load-at t w in let f = h .load in omega arith;
+    }
+
+put-fits : (m : ℕ) (run : List ℕ) (o : Out) → o .at + length run < m → put (wrapping m) run o ≡ put plain run o
+put-fits m run o h = let e : (o .at + length run) % m ≡ o .at + length run = mod-eq-of-lt h in λ i. record { at = e i; held = (put plain run o) .held }
+
+count-fits : (m : ℕ) (e : Event) (c : Counters) → total (count plain e c) < m → count (wrapping m) e c ≡ count plain e c
+count-fits m (number x) c h = refl
+count-fits m over c h = refl
+count-fits m (element n) c h =
+    let e : (c .elements + 1) % m ≡ c .elements + 1 = mod-eq-of-lt (omega arith) in
+    λ i. counted (e i) (c .fields) (c .truncations) (c .errors) (c .nestedBits) (c .rootBits) (c .implicits)
+count-fits m (leaf x) c h =
+    let e : (c .fields + 1) % m ≡ c .fields + 1 = mod-eq-of-lt (omega arith) in
+    λ i. counted (c .elements) (e i) (c .truncations) (c .errors) (c .nestedBits) (c .rootBits) (c .implicits)
+count-fits m (pair x) c h =
+    let e : (c .fields + 1) % m ≡ c .fields + 1 = mod-eq-of-lt (omega arith) in
+    λ i. counted (c .elements) (e i) (c .truncations) (c .errors) (c .nestedBits) (c .rootBits) (c .implicits)
+count-fits m truncation c h =
+    let e : (c .truncations + 1) % m ≡ c .truncations + 1 = mod-eq-of-lt (omega arith) in
+    λ i. counted (c .elements) (c .fields) (e i) (c .errors) (c .nestedBits) (c .rootBits) (c .implicits)
+count-fits m error c h =
+    let e : (c .errors + 1) % m ≡ c .errors + 1 = mod-eq-of-lt (omega arith) in
+    λ i. counted (c .elements) (c .fields) (c .truncations) (e i) (c .nestedBits) (c .rootBits) (c .implicits)
+count-fits m implicit c h =
+    let e : (c .implicits + 1) % m ≡ c .implicits + 1 = mod-eq-of-lt (omega arith) in
+    λ i. counted (c .elements) (c .fields) (c .truncations) (c .errors) (c .nestedBits) (c .rootBits) (e i)
+count-fits m (nested n) c h =
+    let e : (c .nestedBits + n) % m ≡ c .nestedBits + n = mod-eq-of-lt (omega arith) in
+    λ i. counted (c .elements) (c .fields) (c .truncations) (c .errors) (e i) (c .rootBits) (c .implicits)
+count-fits m (root n) c h =
+    let e : (c .rootBits + n) % m ≡ c .rootBits + n = mod-eq-of-lt (omega arith) in
+    λ i. counted (c .elements) (c .fields) (c .truncations) (c .errors) (c .nestedBits) (e i) (c .implicits)
+
+event-fits : (m : ℕ) (e : Event) (w : World) → Fits m (onEvent plain e w) → onEvent (wrapping m) e w ≡ onEvent plain e w
+event-fits m (leaf x) w h =
+    let c = count-fits m (leaf x) (w .counters) (h .counters) in
+    let p = put-fits m (leafRecord (w .text .at) (w .load .at) x) (w .words) (h .words) in
+    let q = put-fits m (x .path) (w .text) (h .text) in
+    let r = put-fits m (payloadOf x) (w .load) (h .load) in
+    λ i. record { counters = c i; overs = w .overs; words = p i; text = q i; load = r i }
+event-fits m (pair x) w h =
+    let c = count-fits m (pair x) (w .counters) (h .counters) in
+    let p = put-fits m (pairRecord x) (w .words) (h .words) in
+    λ i. record { counters = c i; overs = w .overs; words = p i; text = w .text; load = w .load }
+event-fits m over w h =
+    let e : (w .overs + 1) % m ≡ w .overs + 1 = mod-eq-of-lt (h .overs) in
+    λ i. record { counters = w .counters; overs = e i; words = w .words; text = w .text; load = w .load }
+event-fits m (number x) w h = ap (λ (c : Counters). counting c w) (count-fits m (number x) (w .counters) (h .counters))
+event-fits m (element n) w h = ap (λ (c : Counters). counting c w) (count-fits m (element n) (w .counters) (h .counters))
+event-fits m truncation w h = ap (λ (c : Counters). counting c w) (count-fits m truncation (w .counters) (h .counters))
+event-fits m error w h = ap (λ (c : Counters). counting c w) (count-fits m error (w .counters) (h .counters))
+event-fits m implicit w h = ap (λ (c : Counters). counting c w) (count-fits m implicit (w .counters) (h .counters))
+event-fits m (nested n) w h = ap (λ (c : Counters). counting c w) (count-fits m (nested n) (w .counters) (h .counters))
+event-fits m (root n) w h = ap (λ (c : Counters). counting c w) (count-fits m (root n) (w .counters) (h .counters))
+
+-- Where the plain world stays below m, the wrapping one is the plain one.
+pub no-wrap : (m : ℕ) (t : Trace) (w : World) → Fits m (apply plain t w) → apply (wrapping m) t w ≡ apply plain t w
+unfolding apply
+no-wrap m [] w h = refl
+no-wrap m (e ∷ t) w h =
+    ap (apply (wrapping m) t) (event-fits m e w (fits-before m t (onEvent plain e w) h))
+    ∙ no-wrap m t (onEvent plain e w) h
+
+-- ---- a walk of a window that is not too long stays below 2 ^ 32
+
+pub fields-count : (t : Trace) → (counters t) .fields ≡ length (leaves t) + length (pairs t)
+fields-count [] = refl
+fields-count (leaf x ∷ t) = let z = fields-count t in omega arith
+fields-count (pair x ∷ t) = let z = fields-count t in omega arith
+fields-count (number x ∷ t) = let z = fields-count t in omega arith
+fields-count (element n ∷ t) = let z = fields-count t in omega arith
+fields-count (truncation ∷ t) = let z = fields-count t in omega arith
+fields-count (error ∷ t) = let z = fields-count t in omega arith
+fields-count (implicit ∷ t) = let z = fields-count t in omega arith
+fields-count (nested n ∷ t) = let z = fields-count t in omega arith
+fields-count (root n ∷ t) = let z = fields-count t in omega arith
+fields-count (over ∷ t) = let z = fields-count t in omega arith
+
+-- what the numbers of such a walk stay below
+abbrev pub word : ℕ
+word = 4294967296
+
+module _ (k : Walk) (bytes : List ℕ) (n : ℕ) (small : n ≤ longestWindow) (l p y : List ℕ) where
+  pub walk-fits : Fits word (apply plain (walk k bytes n) (fresh l p y))
+  walk-fits =
+      let t = walk k bytes n in
+      let cost = walk-cost k bytes n in
+      let gave = fields-count t in
+      record {
+        counters = let e = ap total (counters-fresh t l p y) in omega arith;
+        overs = let e = overs-after t (fresh l p y) in omega arith;
+        words = let e = words-at t (fresh l p y) in let f = records-length 0 0 t in omega arith;
+        text = let e = text-at t (fresh l p y) in let f = path-bound t (walk-short k bytes n) in omega arith;
+        load = let e = load-at t (fresh l p y) in let f = payload-bound k bytes n in omega arith;
+      }
+
+  fits-more : (m : ℕ) → word ≤ m → (w : World) → Fits word w → Fits m w
+  fits-more m h w f =
+      record {
+        counters = let z = f .counters in omega arith;
+        overs = let z = f .overs in omega arith;
+        words = let z = f .words in omega arith;
+        text = let z = f .text in omega arith;
+        load = let z = f .load in omega arith;
+      }
+
+  -- the code's world is the plain one, for words of 32 bits and more
+  pub walk-exact : (m : ℕ) → word ≤ m → apply (wrapping m) (walk k bytes n) (fresh l p y) ≡ apply plain (walk k bytes n) (fresh l p y)
+  walk-exact m h = no-wrap m (walk k bytes n) (fresh l p y) (fits-more m h (apply plain (walk k bytes n) (fresh l p y)) walk-fits)

@@ -1,0 +1,106 @@
+-- What a public walk answers and what it leaves in the lent buffers, as functions of the call's inputs alone.
+use Prim.Native.Nat.{ℕ, _/_}
+use mathlib.Core.Path.{_≡_}
+use mathlib.Core.Bool.{Bool, true}
+use mathlib.Core.List.{List}
+use lib.ListN.{length}
+use lib.Dec.{leb}
+use Rattle.schema.specs.Tables.{absent}
+use Rattle.schema.specs.Layout.{laidOut}
+use Rattle.framing.specs.Events.{Leaf, leaves, pairs, Trace}
+use Rattle.framing.specs.Sinks.{Walk, struct, exact, object, declaredOnly, walk}
+use Rattle.framing.specs.Records.{leafWords, pairWords, pathBytes, payloadBytes, leafRecords, pairRecords, filled}
+use Rattle.framing.specs.Refusing.{Room, noRoom, needed, within, Answer, refused, accepted, decided}
+use Rattle.framing.specs.Demand.{dropTail, Opens}
+use Rattle.outputs.specs.World.{World}
+
+-- a buffer at the end: the new contents and behind them what was lent; if the call is refused, what was lent
+abbrev pub left : {N : Type 0} → Answer N → (new lent : List ℕ) → List ℕ
+left (accepted c n) new lent = filled new lent
+left (refused k n) new lent = lent
+
+-- ---- struct and exact walks
+
+pub record Call : Type 0 where
+  pub how : Walk
+  pub levels : ℕ  -- how many levels the schema has
+  pub bytes : List ℕ
+  pub bits : ℕ
+
+pub record Lent : Type 0 where
+  pub leaves : List ℕ
+  pub paths : List ℕ
+  pub payloads : List ℕ
+
+-- refusal 2: the tables that the walk has keep their layout
+abbrev pub laid : Walk → (levels : ℕ) → Bool
+laid (struct t root) levels = laidOut t levels root
+laid (exact d n) levels = laidOut (declaredOnly d n) 0 absent
+laid object levels = true
+
+abbrev pub traceOf : Call → Trace
+traceOf c = walk (c .how) (c .bytes) (c .bits)
+
+-- room in whole records: a ragged end is never written
+abbrev pub roomOf : Lent → Room
+roomOf b = record { leaves = length (b .leaves) / leafWords; pathBytes = length (b .paths); payloadBytes = length (b .payloads) }
+
+unfoldable pub answer : Call → Lent → Answer Room
+answer c b =
+    decided (c .bits) (laid (c .how) (c .levels)) (traceOf c) noRoom (needed (traceOf c)) (within (needed (traceOf c)) (roomOf b))
+
+unfoldable pub finalLeaves : Call → Lent → List ℕ
+finalLeaves c b = left (answer c b) (leafRecords 0 0 (leaves (traceOf c))) (b .leaves)
+
+unfoldable pub finalPaths : Call → Lent → List ℕ
+finalPaths c b = left (answer c b) (pathBytes (leaves (traceOf c))) (b .paths)
+
+unfoldable pub finalPayloads : Call → Lent → List ℕ
+finalPayloads c b = left (answer c b) (payloadBytes (leaves (traceOf c))) (b .payloads)
+
+abbrev pub final : Call → Lent → Lent
+final c b = record { leaves = finalLeaves c b; paths = finalPaths c b; payloads = finalPayloads c b }
+
+-- the contract of the struct and exact walks: r is the answer, and `end` what the buffers hold at the exit
+pub record Answered (c : Call) (b : Lent) (r : Answer Room) (end : Lent) : Type 0 where
+  pub says : r ≡ answer c b
+  pub leaves : end .leaves ≡ finalLeaves c b
+  pub paths : end .paths ≡ finalPaths c b
+  pub payloads : end .payloads ≡ finalPayloads c b
+
+-- what a measuring pass found
+abbrev pub measured : World → Room
+measured w = record { leaves = w .words .at / leafWords; pathBytes = w .text .at; payloadBytes = w .load .at }
+
+-- ---- the object walk: pairs only
+
+abbrev pub pairTrace : (bytes : List ℕ) (bits : ℕ) → Trace
+pairTrace bytes bits = walk object bytes bits
+
+unfoldable pub pairAnswer : (bytes : List ℕ) (bits : ℕ) (lent : List ℕ) → Answer ℕ
+pairAnswer bytes bits lent =
+    decided bits true (pairTrace bytes bits) 0 (length (pairs (pairTrace bytes bits)))
+    (leb (length (pairs (pairTrace bytes bits))) (length lent / pairWords))
+
+unfoldable pub finalPairs : (bytes : List ℕ) (bits : ℕ) (lent : List ℕ) → List ℕ
+finalPairs bytes bits lent = left (pairAnswer bytes bits lent) (pairRecords (pairs (pairTrace bytes bits))) lent
+
+pub record PairsAnswered (bytes : List ℕ) (bits : ℕ) (lent : List ℕ) (r : Answer ℕ) (end : List ℕ) : Type 0 where
+  pub says : r ≡ pairAnswer bytes bits lent
+  pub pairs : end ≡ finalPairs bytes bits lent
+
+-- ---- demand 3, of buffers
+
+abbrev pub wasAccepted : {N : Type 0} → Answer N → Type 0
+wasAccepted (accepted c n) = Unit
+wasAccepted (refused k n) = ⊥
+
+-- the leaves that a cut window's walk shares with the whole window's
+abbrev pub shared : Call → List Leaf
+shared short = dropTail (leaves (traceOf short))
+
+-- their records, path bytes and payload bytes stand at the front of the buffers
+pub record Front (l : List Leaf) (end : Lent) : Type 0 where
+  pub leaves : Opens (leafRecords 0 0 l) (end .leaves)
+  pub paths : Opens (pathBytes l) (end .paths)
+  pub payloads : Opens (payloadBytes l) (end .payloads)

@@ -1,0 +1,146 @@
+-- What a walk's events do to the counters and the lent buffers.
+-- The code is proved equal to `apply (wrapping m) events world`, m the numbers of its words; the meaning is `apply plain events world`; proofs/NoWrap
+-- shows that the two coincide.
+use Prim.Native.Nat.{ℕ, _+_, _%_}
+use mathlib.Core.List.{List, [], _∷_, _++_}
+use lib.ListN.{length, take, drop}
+use lib.Dec.{leb}
+use Rattle.bits.specs.Choice.{if_then_else_}
+use Rattle.bits.specs.Runs as Runs
+use Rattle.framing.specs.Events.{Leaf, Pair, Event, number, element, leaf, pair, truncation, error, implicit, nested, root, over, leaves, overs, Trace}
+use Rattle.framing.specs.Counters.{Counters, counted, counters, sums}
+use Rattle.framing.specs.Records.{leafRecord, pairRecord, payloadOf, pathBytes, payloadBytes}
+
+-- How positions and counters are added up: exactly, or as the code does on numbers below m.
+abbrev pub Adding : Type 0
+Adding = ℕ → ℕ → ℕ
+
+abbrev pub plain : Adding
+plain n k = n + k
+
+abbrev pub wrapping : ℕ → Adding
+wrapping m n k = (n + k) % m
+
+-- ---- a lent buffer: its contents, and the position of the next write
+
+pub record Out : Type 0 where
+  pub at : ℕ
+  pub held : List ℕ
+
+-- A run is written whole; one that does not fit is not written.
+abbrev pub store : List ℕ → ℕ → List ℕ → List ℕ
+store l i run = if leb (i + length run) (length l) then Runs.put l i run else l
+
+-- The position passes the run in either case, so that a walk lent nothing measures.
+abbrev pub put : Adding → List ℕ → Out → Out
+put add run o = record { at = add (o .at) (length run); held = store (o .held) (o .at) run }
+
+-- ---- the world: counters and three buffers; words holds leaf records, in an object walk pairs
+
+pub record World : Type 0 where
+  pub counters : Counters
+  pub overs : ℕ  -- working paths that would have passed their size
+  pub words : Out
+  pub text : Out
+  pub load : Out
+
+-- what an event adds to the counters; those that it does not touch stay as they are
+abbrev pub count : Adding → Event → Counters → Counters
+count add (number x) c = c
+count add (element i) c = counted (add (c .elements) 1) (c .fields) (c .truncations) (c .errors) (c .nestedBits) (c .rootBits) (c .implicits)
+count add (leaf x) c = counted (c .elements) (add (c .fields) 1) (c .truncations) (c .errors) (c .nestedBits) (c .rootBits) (c .implicits)
+count add (pair x) c = counted (c .elements) (add (c .fields) 1) (c .truncations) (c .errors) (c .nestedBits) (c .rootBits) (c .implicits)
+count add truncation c = counted (c .elements) (c .fields) (add (c .truncations) 1) (c .errors) (c .nestedBits) (c .rootBits) (c .implicits)
+count add error c = counted (c .elements) (c .fields) (c .truncations) (add (c .errors) 1) (c .nestedBits) (c .rootBits) (c .implicits)
+count add (nested n) c = counted (c .elements) (c .fields) (c .truncations) (c .errors) (add (c .nestedBits) n) (c .rootBits) (c .implicits)
+count add (root n) c = counted (c .elements) (c .fields) (c .truncations) (c .errors) (c .nestedBits) (add (c .rootBits) n) (c .implicits)
+count add over c = c
+count add implicit c = counted (c .elements) (c .fields) (c .truncations) (c .errors) (c .nestedBits) (c .rootBits) (add (c .implicits) 1)
+
+-- the same buffers, other counters
+abbrev pub counting : Counters → World → World
+counting c w = record { counters = c; overs = w .overs; words = w .words; text = w .text; load = w .load }
+
+abbrev pub onLeaf : Adding → Leaf → World → World
+onLeaf add x w =
+    record {
+      counters = w .counters;
+      overs = w .overs;
+      words = put add (leafRecord (w .text .at) (w .load .at) x) (w .words);
+      text = put add (x .path) (w .text);
+      load = put add (payloadOf x) (w .load);
+    }
+
+abbrev pub onPair : Adding → Pair → World → World
+onPair add x w = record { counters = w .counters; overs = w .overs; words = put add (pairRecord x) (w .words); text = w .text; load = w .load }
+
+abbrev pub onOver : Adding → World → World
+onOver add w = record { counters = w .counters; overs = add (w .overs) 1; words = w .words; text = w .text; load = w .load }
+
+-- what an event does to the buffers
+abbrev pub written : Adding → Event → World → World
+written add (leaf x) w = onLeaf add x w
+written add (pair x) w = onPair add x w
+written add over w = onOver add w
+written add (number x) w = w
+written add (element i) w = w
+written add truncation w = w
+written add error w = w
+written add implicit w = w
+written add (nested n) w = w
+written add (root n) w = w
+
+abbrev pub onEvent : Adding → Event → World → World
+onEvent add e w = counting (count add e (w .counters)) (written add e w)
+
+unfoldable pub apply : Adding → Trace → World → World
+apply add [] w = w
+apply add (e ∷ t) w = apply add t (onEvent add e w)
+
+-- a call's world at its start: nothing counted, nothing written
+abbrev pub fresh : (words text load : List ℕ) → World
+fresh words text load =
+    record {
+      counters = counted 0 0 0 0 0 0 0;
+      overs = 0;
+      words = record { at = 0; held = words };
+      text = record { at = 0; held = text };
+      load = record { at = 0; held = load };
+    }
+
+-- ---- what a trace leaves, all at once
+
+-- all records of a trace, the first path at pathAt and the first payload at payloadAt
+unfoldable pub records : (pathAt payloadAt : ℕ) → Trace → List ℕ
+records a b [] = []
+records a b (leaf x ∷ t) = leafRecord a b x ++ records (a + length (x .path)) (b + length (payloadOf x)) t
+records a b (pair x ∷ t) = pairRecord x ++ records a b t
+records a b (number x ∷ t) = records a b t
+records a b (element i ∷ t) = records a b t
+records a b (truncation ∷ t) = records a b t
+records a b (error ∷ t) = records a b t
+records a b (implicit ∷ t) = records a b t
+records a b (nested n ∷ t) = records a b t
+records a b (root n ∷ t) = records a b t
+records a b (over ∷ t) = records a b t
+
+-- what a trace adds to the counters and the positions, whatever the buffers hold
+pub record Tally : Type 0 where
+  pub counters : Counters
+  pub overs : ℕ
+  pub words : ℕ
+  pub text : ℕ
+  pub load : ℕ
+
+abbrev pub tallyOf : World → Tally
+tallyOf w = record { counters = w .counters; overs = w .overs; words = w .words .at; text = w .text .at; load = w .load .at }
+
+abbrev pub tallied : Trace → Tally → Tally
+tallied t s =
+    record {
+      counters = sums (s .counters) (counters t);
+      overs = s .overs + overs t;
+      words = s .words + length (records (s .text) (s .load) t);
+      text = s .text + length (pathBytes (leaves t));
+      load = s .load + length (payloadBytes (leaves t));
+    }

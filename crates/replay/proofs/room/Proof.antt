@@ -1,0 +1,9 @@
+use Rattle.replay.proofs.FillLaws.{filled}
+use Rattle.replay.proofs.room.Statement.{statement}
+use Rattle.replay.proofs.room.Tie as tie
+
+returns : tie.Need-returns
+returns c = filled 4194304 0
+
+pub room-spec : {M : Type 1} → statement M
+room-spec = tie.close (tie.spec returns)

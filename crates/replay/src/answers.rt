@@ -1,0 +1,160 @@
+// Answers of a read, ours and the recorded one, and what comes of a case.
+ghost use mathlib.Core.Path.{_≡_};
+ghost use Prim.Native.Nat.{_%_, _^_};
+ghost use Rattle.bitio.specs.Refusals.{numbered, standsAfter, with};
+ghost use Rattle.replay.specs.Says.{Says};
+use crate::fields;
+use crate::say;
+use bitio::Cursor;
+use bitio::Opened;
+use bitio::Refusal;
+use bitio::Skipped;
+
+pub struct Answer {
+    pub number: u64,
+    pub first: u64,
+    pub second: u64,
+    pub third: u64,
+    pub cursor: u64,
+}
+
+// A recorded answer, and the place after it.
+pub struct Expected {
+    pub answer: Answer,
+    pub next: usize,
+}
+
+// Why a case can't be replayed.
+pub enum Fault {
+    None,
+    // A read of the file fails.
+    Unread,
+    // The file ends inside the case.
+    Cut,
+    // The case is larger than the part of the file that is held at once.
+    Large,
+    Kind,
+    // The parts of the case don't fill it exactly.
+    Layout,
+    // A number that the kind doesn't take.
+    Number,
+}
+
+pub enum Outcome {
+    Same,
+    // The line that says so is printed.
+    Differs,
+    Damaged(Fault),
+}
+
+// A cursor where a read is to begin, or the answer of the call that refused it.
+pub enum Placed {
+    Ready(Cursor),
+    Refused(Answer),
+}
+
+fn answer_of(number: u64, first: u64, second: u64, third: u64, cursor: u64) -> Answer
+    ensures says { λ a. ⌜ Says a (with number first second third) ⌝ }
+    ensures stands { λ a. ⌜ a .cursor ≡ cursor ⌝ }
+{
+    Answer {
+        number,
+        first,
+        second,
+        third,
+        cursor,
+    }
+}
+
+pub fn accepted(value: u64, cursor: u64) -> Answer {
+    answer_of(0, value, 0, 0, cursor)
+}
+
+// What a refusal says, and where the cursor that stood at `at` stands after it (bitio's specs/Refusals).
+pub fn refused(r: Refusal, at: u64) -> Answer
+    ensures says { λ a. ⌜ Says a (numbered r) ⌝ }
+    ensures stands { λ a. ⌜ a .cursor ≡ standsAfter at r % 2 ^ 64 ⌝ }
+{
+    match r {
+        Refusal::TooLong => answer_of(1, 0, 0, 0, at),
+        Refusal::TooFew(position, length, asked) => answer_of(7, position, length, asked, position),
+        Refusal::GoesOn(start) => {
+            let stop = std::num::wrapping_add_u64(start, 40);
+            answer_of(8, start, 0, 0, stop)
+        }
+        Refusal::Overflows(start) => {
+            let stop = std::num::wrapping_add_u64(start, 40);
+            answer_of(9, start, 0, 0, stop)
+        }
+        Refusal::NoMaximum => answer_of(10, 0, 0, 0, at),
+        Refusal::TooMany => answer_of(13, 0, 0, 0, at),
+        Refusal::Past(asked, available) => answer_of(14, asked, available, 0, at),
+    }
+}
+
+// The window of the first `bits` bits, with the cursor at bit `skip`.
+pub fn place(bytes: &[u8], bits: u64, skip: u64) -> Placed {
+    let opened = bitio::open(bytes, bits);
+    match opened {
+        Opened::Reader(c) => {
+            let moved = bitio::skip_bits(bytes, c, skip);
+            match moved {
+                Skipped::Done(pos) => {
+                    let start = c.start;
+                    let len = c.len;
+                    Placed::Ready(Cursor { start, pos, len })
+                }
+                Skipped::Refused(r) => {
+                    let answer = refused(r, c.pos);
+                    Placed::Refused(answer)
+                }
+            }
+        }
+        Opened::Refused(r) => {
+            let answer = refused(r, 0);
+            Placed::Refused(answer)
+        }
+    }
+}
+
+pub fn recorded(s: &[u8], at: usize) -> Expected {
+    let number = fields::number(s, at);
+    let first = fields::number(s, number.next);
+    let second = fields::number(s, first.next);
+    let third = fields::number(s, second.next);
+    let cursor = fields::number(s, third.next);
+    let answer = answer_of(
+        number.value,
+        first.value,
+        second.value,
+        third.value,
+        cursor.value,
+    );
+    let next = cursor.next;
+    Expected { answer, next }
+}
+
+pub fn same(a: Answer, b: Answer) -> bool {
+    a.number == b.number
+        && a.first == b.first
+        && a.second == b.second
+        && a.third == b.third
+        && a.cursor == b.cursor
+}
+
+// The outcome of a case whose last part is the recorded answer.
+pub fn judge(s: &[u8], expected: Expected, got: Answer) -> Outcome {
+    if expected.next != s.len() {
+        return Outcome::Damaged(Fault::Layout);
+    }
+    let answer = expected.answer;
+    if same(answer, got) {
+        return Outcome::Same;
+    }
+    say::case(s);
+    say::answer(answer);
+    say::text(b", got ");
+    say::answer(got);
+    say::text(b"\n");
+    Outcome::Differs
+}

@@ -1,0 +1,93 @@
+// Kind C: a copy of bits to a target.
+ghost use mathlib.Core.Path.{_≡_};
+ghost use lib.ListN.{length};
+use crate::answers;
+use crate::answers::Answer;
+use crate::answers::Expected;
+use crate::answers::Fault;
+use crate::answers::Outcome;
+use crate::answers::Placed;
+use crate::fields;
+use crate::say;
+use bitio::Copied;
+
+// Targets before the copy. The small one takes less time to make; a window has at most 65,536 bytes.
+
+fn small() -> [u8; 512]
+    ensures { λ r. ⌜ 512 ≡ length r ⌝ }
+{
+    [0xee; 512]
+}
+
+fn large() -> [u8; 131072]
+    ensures { λ r. ⌜ 131072 ≡ length r ⌝ }
+{
+    [0xee; 131072]
+}
+
+fn answer(bytes: &[u8], bits: u64, skip: u64, count: u64, target: &mut [u8]) -> Answer {
+    let placed = answers::place(bytes, bits, skip);
+    match placed {
+        Placed::Ready(c) => {
+            let copy = bitio::copy_bits_to(bytes, c, count, target);
+            match copy {
+                Copied::Done(next) => answers::accepted(0, next),
+                Copied::Refused(r) => answers::refused(r, c.pos),
+            }
+        }
+        Placed::Refused(a) => a,
+    }
+}
+
+fn judge(s: &[u8], expected: Expected, after: &[u8], got: Answer, target: &[u8]) -> Outcome {
+    let recorded = expected.answer;
+    if answers::same(recorded, got) && fields::equal(after, target) {
+        return Outcome::Same;
+    }
+    say::case(s);
+    say::answer(recorded);
+    say::text(b" target ");
+    say::hex(after);
+    say::text(b", got ");
+    say::answer(got);
+    say::text(b" target ");
+    say::hex(target);
+    say::text(b"\n");
+    Outcome::Differs
+}
+
+// The case, with the front of `space` as the target.
+fn replay_in(s: &[u8], at: usize, space: &mut [u8]) -> Outcome {
+    let count = fields::number(s, at);
+    let room = fields::number(s, count.next);
+    let skip = fields::number(s, room.next);
+    let bits = fields::number(s, skip.next);
+    let bytes = fields::run(s, bits.next);
+    let end = fields::after_run(s, bits.next);
+    let expected = answers::recorded(s, end);
+    let after = fields::rest(s, expected.next);
+    let n = after.len();
+    if s.len() < expected.next {
+        return Outcome::Damaged(Fault::Layout);
+    }
+    if n as u64 != room.value {
+        return Outcome::Damaged(Fault::Layout);
+    }
+    if space.len() < n {
+        return Outcome::Damaged(Fault::Number);
+    }
+    let target = &mut space[0..n];
+    let got = answer(bytes, bits.value, skip.value, count.value, target);
+    judge(s, expected, after, got, target)
+}
+
+pub fn replay(s: &[u8], at: usize) -> Outcome {
+    let count = fields::number(s, at);
+    let room = fields::number(s, count.next);
+    if room.value <= 512 {
+        let mut space = small();
+        return replay_in(s, at, &mut space);
+    }
+    let mut space = large();
+    replay_in(s, at, &mut space)
+}

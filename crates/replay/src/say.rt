@@ -1,0 +1,93 @@
+// What the program prints.
+use crate::answers::Answer;
+use crate::answers::Fault;
+use crate::fields;
+use libc::STDOUT_FILENO;
+
+pub fn text(s: &[u8]) {
+    io::write_all(STDOUT_FILENO, s);
+}
+
+pub fn number(x: u64) {
+    io::print_decimal(STDOUT_FILENO, x);
+}
+
+fn wide(x: u8) -> u64 {
+    x as u64
+}
+
+// The bytes in hex, or `-` for none.
+pub fn hex(s: &[u8]) {
+    if s.len() == 0 {
+        text(b"-");
+    }
+    let mut i = 0;
+    while i < s.len() {
+        io::print_hex(STDOUT_FILENO, wide(s[i]), 2);
+        i += 1;
+    }
+}
+
+// The front of a difference's line.
+pub fn case(s: &[u8]) {
+    text(b"case ");
+    text(fields::id(s));
+    text(b": expected ");
+}
+
+pub fn answer(a: Answer) {
+    if a.number == 0 {
+        text(b"accepted ");
+        number(a.first);
+    } else {
+        text(b"refusal ");
+        number(a.number);
+        text(b" with ");
+        number(a.first);
+        text(b" ");
+        number(a.second);
+        text(b" ");
+        number(a.third);
+    }
+    text(b" at bit ");
+    number(a.cursor);
+}
+
+fn reason(f: Fault) {
+    match f {
+        Fault::None => {}
+        Fault::Unread => {
+            text(b"the file can't be read on from here");
+        }
+        Fault::Cut => {
+            text(b"the file ends inside of it");
+        }
+        Fault::Large => {
+            text(b"it has more than 4194300 bytes");
+        }
+        Fault::Kind => {
+            text(b"its kind is not known");
+        }
+        Fault::Layout => {
+            text(b"its parts do not fill it exactly");
+        }
+        Fault::Number => {
+            text(b"a number in it is larger than its kind allows");
+        }
+    }
+}
+
+// Why the replay stopped at the case of that number, counted from 1.
+pub fn fault(f: Fault, case_number: u64) {
+    match f {
+        Fault::None => {
+            return;
+        }
+        _ => {}
+    }
+    text(b"the file is damaged at case number ");
+    number(case_number);
+    text(b": ");
+    reason(f);
+    text(b"\n");
+}
