@@ -90,7 +90,7 @@ record Ends (s : Sink) (w : Window) (m : ℕ) (a b : Trace) : Type 0 where
       → (s .trailer ≡ true) × (m + 8 ≡ w .size) × (field (w .bits) m 8 ≡ 0)
 
 -- with the trailer's bits left, a number that is zero is a zero byte
-zero-byte : (w : Window) (q v b : ℕ) → q + 8 ≡ w .size → reading w q ≡ got v b → v ≡ 0 → field (w .bits) q 8 ≡ 0
+pub zero-byte : (w : Window) (q v b : ℕ) → q + 8 ≡ w .size → reading w q ≡ got v b → v ≡ 0 → field (w .bits) q 8 ≡ 0
 unfolding reading
 zero-byte w q v b fit e z = go (packed (w .bits) (w .size) q) refl e
   where

@@ -9,3 +9,8 @@ pub mod Induct
 pub mod Bounded
 pub mod PairOrder
 pub mod RefusingLaws
+pub mod GrammarBits
+pub mod GrammarLeads
+pub mod GrammarFound
+pub mod GrammarWalked
+pub mod GrammarStruct

@@ -8,3 +8,4 @@ pub mod Records
 pub mod Refusing
 pub mod Demand
 pub mod Cases
+pub mod Grammar

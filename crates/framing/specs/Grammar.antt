@@ -1,0 +1,177 @@
+-- The format of an array as a grammar, from the header of array.rs and 01's sizes alone: no walker is mentioned.
+--
+--   elementCount = IntPacked
+--   loop: encodedIndex = IntPacked       0 ends the array; index = encoded - 1
+--     loop: encodedHandle = IntPacked    0 ends the element; handle = encoded - 1
+--           payloadBits = IntPacked, then that many bits (a nested array when the schema says so)
+use Prim.Native.Nat.{ℕ, zero, suc, _+_, _-_, _*_, _/_, _%_, _^_, _≤_, _<_}
+use mathlib.Core.Path.{_≡_}
+use mathlib.Core.Bool.{Bool, true, false, _&&_}
+use mathlib.Core.List.{List, [], _∷_}
+use lib.ListN.{length}
+use lib.Dec.{eqb}
+use Rattle.schema.specs.Tables.{child}
+use Rattle.schema.specs.declared.Child.{Child}
+use Rattle.schema.specs.declared.Child.the-variants as Child
+use Rattle.schema.specs.declared.Child.the-variants.{Leaf}
+use Rattle.framing.specs.Walk.{maxElements, maxFields, trailerBits}
+
+-- ---- bits, the first bit lowest
+
+pub record Bits : Type 0 where
+  pub number : ℕ
+  pub size : ℕ
+
+abbrev pub noBits : Bits
+noBits = record { number = 0; size = 0 }
+
+-- b behind a
+infixr 5 _then_
+abbrev pub _then_ : Bits → Bits → Bits
+a then b = record { number = a .number + 2 ^ a .size * b .number; size = a .size + b .size }
+
+-- ---- IntPacked: a value, in one of its accepted lengths
+
+pub record Num : Type 0 where
+  pub value : ℕ
+  pub bytes : ℕ
+
+-- groups of seven bits, the lowest first, each above a bit that says whether another follows
+unfoldable pub packedBits : (bytes value : ℕ) → ℕ
+packedBits zero v = 0
+packedBits (suc zero) v = 2 * v
+packedBits (suc (suc n)) v = 2 * (v % 2 ^ 7) + 1 + 2 ^ 8 * packedBits (suc n) (v / 2 ^ 7)
+
+abbrev pub numBits : Num → Bits
+numBits n = record { number = packedBits (n .bytes) (n .value); size = 8 * n .bytes }
+
+pub record IsNum (n : Num) : Type 0 where
+  pub some : 1 ≤ n .bytes
+  pub most : n .bytes ≤ 5
+  pub fits : n .value < 2 ^ (7 * n .bytes)
+  pub word : n .value < 2 ^ 32
+
+-- ---- fields, elements, arrays, over what a payload is
+
+pub record Field (P : Type 0) : Type 0 where
+  pub handle : Num          -- one more than the handle
+  pub width : Num
+  pub payload : P
+
+pub record Element (P : Type 0) : Type 0 where
+  pub index : Num           -- one more than the index
+  pub fields : List (Field P)
+  pub close : Num
+
+pub record Array (P : Type 0) : Type 0 where
+  pub count : Num
+  pub elements : List (Element P)
+  pub close : Num
+  pub trailer : Bool        -- a zero of the trailer's bits behind the terminator
+
+module _ {P : Type 0} (bitsOf : P → Bits) where
+  abbrev pub fieldBits : Field P → Bits
+  fieldBits f = numBits (f .handle) then numBits (f .width) then bitsOf (f .payload)
+
+  abbrev pub fieldsBits : List (Field P) → Bits
+  fieldsBits [] = noBits
+  fieldsBits (f ∷ fs) = fieldBits f then fieldsBits fs
+
+  abbrev pub elementBits : Element P → Bits
+  elementBits e = numBits (e .index) then fieldsBits (e .fields) then numBits (e .close)
+
+  abbrev pub elementsBits : List (Element P) → Bits
+  elementsBits [] = noBits
+  elementsBits (e ∷ es) = elementBits e then elementsBits es
+
+  abbrev pub trailing : Bool → Bits
+  trailing true = record { number = 0; size = trailerBits }
+  trailing false = noBits
+
+  abbrev pub arrayBits : Array P → Bits
+  arrayBits a = numBits (a .count) then elementsBits (a .elements) then numBits (a .close) then trailing (a .trailer)
+
+-- ---- what is allowed
+
+abbrev pub Each : {A : Type 0} → (A → Type 0) → List A → Type 0
+Each ok [] = Unit
+Each ok (x ∷ l) = ok x × Each ok l
+
+-- allowed: the payloads that a field of that handle may have; first: no field before it in its element had a payload
+module _ {P : Type 0} (bitsOf : P → Bits) (allowed : (first : Bool) (handle : ℕ) → P → Type 0) where
+  pub record FieldOk (first : Bool) (f : Field P) : Type 0 where
+    pub handle : IsNum (f .handle)
+    pub opens : 1 ≤ f .handle .value
+    pub width : IsNum (f .width)
+    pub wide : f .width .value ≡ (bitsOf (f .payload)) .size
+    pub content : allowed first (f .handle .value - 1) (f .payload)
+
+  abbrev pub FieldsOk : (first : Bool) → List (Field P) → Type 0
+  FieldsOk first [] = Unit
+  FieldsOk first (f ∷ fs) = FieldOk first f × FieldsOk (first && eqb (f .width .value) 0) fs
+
+  pub record ElementOk (count : ℕ) (e : Element P) : Type 0 where
+    pub index : IsNum (e .index)
+    pub opens : 1 ≤ e .index .value
+    pub below : e .index .value - 1 < count
+    pub few : length (e .fields) ≤ maxFields
+    pub fields : FieldsOk true (e .fields)
+    pub close : IsNum (e .close)
+    pub closes : e .close .value ≡ 0
+
+  -- trailer: whether the walk takes one
+  pub record ArrayOk (trailer : Bool) (a : Array P) : Type 0 where
+    pub count : IsNum (a .count)
+    pub small : a .count .value ≤ maxElements
+    pub few : length (a .elements) ≤ maxElements
+    pub elements : Each (ElementOk (a .count .value)) (a .elements)
+    pub close : IsNum (a .close)
+    pub closes : a .close .value ≡ 0
+    pub ends : a .trailer ≡ true → trailer ≡ true
+
+-- ---- what a payload is in a struct walk: plain bits, or an array that fills it
+
+pub data Payload (Inner : Type 0) : Type 0 where
+  plain : Bits → Payload Inner
+  nested : Inner → Payload Inner
+
+-- a payload with so many levels below it
+abbrev pub Content : (deeper : ℕ) → Type 0
+Content zero = Payload ⊥
+Content (suc deeper) = Payload (Array (Content deeper))
+
+abbrev pub contentBits : (deeper : ℕ) → Content deeper → Bits
+contentBits zero (plain b) = b
+contentBits zero (nested a) = absurd a
+contentBits (suc deeper) (plain b) = b
+contentBits (suc deeper) (nested a) = arrayBits (contentBits deeper) a
+
+-- plain bits where the schema says no array, or an array without payload
+pub data PlainOk (b : Bits) : Child → Type 0 where
+  leaf : PlainOk b Leaf
+  empty : {below : ℕ} → b .size ≡ 0 → PlainOk b (Child.Array below)
+
+-- an array where the schema says array; `inside` says what is allowed at the level of its elements
+pub data NestedOk (size : ℕ) (inside : (below : ℕ) → Type 0) : Child → Type 0 where
+  array : {below : ℕ} → 1 ≤ size → inside below → NestedOk size inside (Child.Array below)
+
+abbrev pub allowedIn : (deeper : ℕ) (rows : List ℕ) (takes : Bool) (level : ℕ) (first : Bool) (handle : ℕ) → Content deeper → Type 0
+allowedIn zero rows takes lvl first h (plain b) = (b .number < 2 ^ b .size) × PlainOk b (child rows lvl h)
+allowedIn zero rows takes lvl first h (nested a) = ⊥
+allowedIn (suc deeper) rows takes lvl first h (plain b) = (b .number < 2 ^ b .size) × PlainOk b (child rows lvl h)
+allowedIn (suc deeper) rows takes lvl first h (nested a) =
+    NestedOk ((arrayBits (contentBits deeper) a) .size)
+    (λ below. ArrayOk (contentBits deeper) (λ f k x. allowedIn deeper rows takes below f k x) takes a) (child rows lvl h)
+
+-- an array of the struct walk, with so many levels below it, whose elements have that level of the schema
+abbrev pub StructArray : (deeper : ℕ) (rows : List ℕ) (takes : Bool) (level : ℕ) → Array (Content deeper) → Type 0
+StructArray deeper rows takes lvl a = ArrayOk (contentBits deeper) (λ f k x. allowedIn deeper rows takes lvl f k x) takes a
+
+-- ---- in an object walk: at most one field of an element has a payload, and it is one packed number that fills it
+
+pub data ObjectOk (b : Bits) : (first : Bool) → Type 0 where
+  empty : {first : Bool} → b .size ≡ 0 → b .number ≡ 0 → ObjectOk b first
+  guid : (n : Num) → IsNum n → b ≡ numBits n → ObjectOk b true
+
+abbrev pub ObjectArray : Array Bits → Type 0
+ObjectArray a = ArrayOk (λ b. b) (λ first h b. ObjectOk b first) true a
