@@ -38,6 +38,12 @@ fine-join t u a b =
 pub fine-rest : (e : Event) (t : Trace) → Fine (e ∷ t) → Fine t
 fine-rest e t h = omega arith
 
+pub fine-number : (x : Number) (t : Trace) → Fine t → Fine (number x ∷ t)
+fine-number x t h = omega arith
+
+pub fine-element : (i : ℕ) (t : Trace) → Fine t → Fine (element i ∷ t)
+fine-element i t h = omega arith
+
 -- the bits of a window
 abbrev pub bitsIn : Window → Bits
 bitsIn v = record { number = v .bits; size = v .size }

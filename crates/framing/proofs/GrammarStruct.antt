@@ -24,7 +24,7 @@ use Rattle.framing.specs.Grammar.{Bits, Num, Field, Element, Array, fiel
 use Rattle.framing.specs.Grammar as G
 use Rattle.framing.proofs.GrammarBits.{Span, Below}
 use Rattle.framing.proofs.GrammarLeads.{never}
-use Rattle.framing.proofs.GrammarFound.{Fine, fine-append, fine-join, fine-rest, bitsIn, Content, Found, level-found}
+use Rattle.framing.proofs.GrammarFound.{Fine, fine-append, fine-join, fine-rest, fine-number, fine-element, bitsIn, Content, Found, level-found}
 use Rattle.framing.proofs.GrammarWalked.{numAt, windowAt, fieldsTrace, bodyTrace, elementsTrace, endTrace, arrayTrace, array-below, level-walked}
 
 -- ---- a whole window as bits
@@ -54,7 +54,7 @@ nested-tells : Tells nested
 unfolding Tells
 nested-tells n h = omega arith
 
-record InStruct (deeper : ℕ) (rows : List ℕ) (takes : Bool) (lvl : ℕ) (w : Window) : Type 0 where
+pub record InStruct (deeper : ℕ) (rows : List ℕ) (takes : Bool) (lvl : ℕ) (w : Window) : Type 0 where
   pub it : Array (G.Content deeper)
   pub ok : StructArray deeper rows takes lvl it
   pub span : Span w 0 (w .size) (arrayBits (contentBits deeper) it)
@@ -84,7 +84,8 @@ nested-more deeper rows takes lvl first h below v b some e r =
     positive : (n m : ℕ) → (n ≡ 0 → ⊥) → m ≡ n → 1 ≤ m
     positive n m h e = omega arith
 
-found-struct : (deeper : ℕ) (t : Tables) (takes : Bool) (leftover : ℕ → Event) (lvl : ℕ) → Tells leftover → (w : Window) (path : List ℕ)
+-- A level without fault is a struct array.
+pub found-struct : (deeper : ℕ) (t : Tables) (takes : Bool) (leftover : ℕ → Event) (lvl : ℕ) → Tells leftover → (w : Window) (path : List ℕ)
     → Fine (level (structSink deeper t takes leftover lvl) w path) → InStruct deeper (t .rows) takes lvl w
 unfolding structSink Tells
 found-struct zero t takes leftover lvl tells w path g =
@@ -132,3 +133,142 @@ found-struct (suc deeper) t takes leftover lvl tells w path g =
         → Fine ((structSink (suc deeper) t takes leftover lvl) .field i path first h v)
         → Content (G.Content (suc deeper)) (contentBits (suc deeper)) (λ f k x. allowedIn (suc deeper) (t .rows) takes lvl f k x) first h v
     find inside i path first h v b g = look inside i path first h v b (child (t .rows) lvl h) refl g
+
+-- ---- in the grammar, so clean
+
+noted-fine : (longer : List ℕ) → Fine (noted longer)
+unfolding noted
+noted-fine longer = go (leb (length longer) longestPath) refl
+  where
+    go : (b : Bool) → leb (length longer) longestPath ≡ b → Fine (noted longer)
+    go true e = rw e refl
+    go false e = rw e refl
+
+given-fine : (x : Ev.Leaf) → Fine (given x)
+unfolding given
+given-fine x = go (leb (length (x .path)) longestPath) refl
+  where
+    go : (b : Bool) → leb (length (x .path)) longestPath ≡ b → Fine (given x)
+    go true e = rw e refl
+    go false e = rw e refl
+
+entering-fine : (s : Sink) (path : List ℕ) (i : ℕ) → Fine (entering s path i)
+unfolding entering
+entering-fine s path i = go (s .flattens) refl
+  where
+    go : (b : Bool) → s .flattens ≡ b → Fine (entering s path i)
+    go true e = rw e (noted-fine (atIndex path i))
+    go false e = rw e refl
+
+module _ (s : Sink) {P : Type 0} (bitsOf : P → Bits) (allowed : Bool → ℕ → P → Type 0)
+    (always : (i : ℕ) (path : List ℕ) (first : Bool) (h : ℕ) (x : P) → allowed first h x → (o p : ℕ) → Fine (s .field i path first h (windowAt o p (bitsOf x))))
+    (none : Fine (s .leftover 0 ∷ [])) (o : ℕ) where
+  fields-fine : (i : ℕ) (path : List ℕ) (first : Bool) (p : ℕ) (fs : List (Field P)) → FieldsOk bitsOf allowed first fs → Fine (fieldsTrace s bitsOf o i path first p fs)
+  unfolding fieldsTrace
+  fields-fine i path first p [] ok = refl
+  fields-fine i path first p (f ∷ fs) ok =
+      let m = p + 8 * f .handle .bytes + 8 * f .width .bytes in
+      let here = s .field i path first (f .handle .value - 1) (windowAt o m (bitsOf (f .payload))) in
+      let rest = fieldsTrace s bitsOf o i path (first && eqb (f .width .value) 0) (p + (fieldBits bitsOf f) .size) fs in
+      fine-number (numAt o p (f .handle)) (number (numAt o (p + 8 * f .handle .bytes) (f .width)) ∷ (here ++ rest))
+      (fine-number (numAt o (p + 8 * f .handle .bytes) (f .width)) (here ++ rest)
+      (fine-join here rest (always i path first (f .handle .value - 1) (f .payload) (ok .0 .content) o m)
+      (fields-fine i path (first && eqb (f .width .value) 0) (p + (fieldBits bitsOf f) .size) fs (ok .1))))
+
+  elements-fine : (count : ℕ) (path : List ℕ) (p : ℕ) (es : List (Element P)) → Each (ElementOk bitsOf allowed count) es → Fine (elementsTrace s bitsOf o path p es)
+  unfolding elementsTrace
+  elements-fine count path p [] ok = refl
+  elements-fine count path p (e ∷ es) ok =
+      let i = e .index .value - 1 in
+      let body = bodyTrace s bitsOf o i (inItem s path i) (p + 8 * e .index .bytes) e in
+      let rest = elementsTrace s bitsOf o path (p + (elementBits bitsOf e) .size) es in
+      let last : Trace = number (numAt o (p + 8 * e .index .bytes + (fieldsBits bitsOf (e .fields)) .size) (e .close)) ∷ [] in
+      fine-number (numAt o p (e .index)) (element i ∷ ((entering s path i ++ body) ++ rest))
+      (fine-element i ((entering s path i ++ body) ++ rest)
+      (fine-join (entering s path i ++ body) rest
+      (fine-join (entering s path i) body (entering-fine s path i)
+      (fine-join (fieldsTrace s bitsOf o i (inItem s path i) true (p + 8 * e .index .bytes) (e .fields)) last
+      (fields-fine i (inItem s path i) true (p + 8 * e .index .bytes) (e .fields) (ok .0 .fields)) refl))
+      (elements-fine count path (p + (elementBits bitsOf e) .size) es (ok .1))))
+
+  end-fine : (t : Bool) (p : ℕ) → Fine (endTrace s bitsOf o t p)
+  end-fine true p = fine-number (numAt o p (record { value = 0; bytes = 1 })) (s .leftover 0 ∷ []) none
+  end-fine false p = none
+
+  pub array-fine : (takes : Bool) (path : List ℕ) (a : Array P) → ArrayOk bitsOf allowed takes a → Fine (arrayTrace s bitsOf o path a)
+  array-fine takes path a ok =
+      let p = 8 * a .count .bytes in
+      let q = p + (elementsBits bitsOf (a .elements)) .size in
+      let end = endTrace s bitsOf o (a .trailer) (q + 8 * a .close .bytes) in
+      fine-number (numAt o 0 (a .count)) (elementsTrace s bitsOf o path p (a .elements) ++ (number (numAt o q (a .close)) ∷ end))
+      (fine-join (elementsTrace s bitsOf o path p (a .elements)) (number (numAt o q (a .close)) ∷ end) (elements-fine (a .count .value) path p (a .elements) (ok .elements))
+      (fine-number (numAt o q (a .close)) end (end-fine (a .trailer) (q + 8 * a .close .bytes))))
+
+-- what is allowed has as many bits as its size says
+nested-below : (deeper : ℕ) (rows : List ℕ) (takes : Bool) (a : Array (G.Content deeper))
+    → ((lvl : ℕ) (first : Bool) (h : ℕ) (x : G.Content deeper) → allowedIn deeper rows takes lvl first h x → Below (contentBits deeper x))
+    → {c : Child} → NestedOk ((arrayBits (contentBits deeper) a) .size) (λ below. StructArray deeper rows takes below a) c → Below (arrayBits (contentBits deeper) a)
+nested-below deeper rows takes a inside (array {below = below} some inner) =
+    array-below (contentBits deeper) (λ f k x. allowedIn deeper rows takes below f k x) (λ f k x y. inside below f k x y) takes a inner
+
+pub allowed-below : (deeper : ℕ) (rows : List ℕ) (takes : Bool) (lvl : ℕ) (first : Bool) (h : ℕ) (x : G.Content deeper)
+    → allowedIn deeper rows takes lvl first h x → Below (contentBits deeper x)
+allowed-below zero rows takes lvl first h (plain b) ok = ok .0
+allowed-below zero rows takes lvl first h (G.nested a) ok = absurd ok
+allowed-below (suc deeper) rows takes lvl first h (plain b) ok = ok .0
+allowed-below (suc deeper) rows takes lvl first h (G.nested a) ok =
+    nested-below deeper rows takes a (λ l f k x y. allowed-below deeper rows takes l f k x y) ok
+
+-- a plain payload and a nested array as the sink takes them
+plain-fine : (t : Tables) (lvl : ℕ) (into : ℕ → List ℕ → List ℕ → ℕ → Window → Trace) (path : List ℕ) (h : ℕ) (v : Window) (c : Child) → PlainOk (bitsIn v) c
+    → Fine (onChild t lvl into path h v c)
+plain-fine t lvl into path h v Child.Leaf ok = given-fine _
+plain-fine t lvl into path h v (Child.Array below) (G.empty e) = rw (eq-eqb (v .size) 0 e) refl
+
+nested-fine : (deeper : ℕ) (t : Tables) (takes : Bool) (lvl : ℕ) (a : Array (G.Content deeper))
+    → ((below : ℕ) → StructArray deeper (t .rows) takes below a → (v : Window) → Span v 0 (v .size) (arrayBits (contentBits deeper) a) → (path : List ℕ)
+      → Fine (level (structSink deeper t takes nested below) v path))
+    → (path : List ℕ) (h o p : ℕ) {c : Child} → NestedOk ((arrayBits (contentBits deeper) a) .size) (λ below. StructArray deeper (t .rows) takes below a) c
+    → Below (arrayBits (contentBits deeper) a)
+    → Fine (onChild t lvl (λ below path longer handle w. noted longer ++ level (structSink deeper t takes nested below) w (grown path longer)) path h
+      (windowAt o p (arrayBits (contentBits deeper) a)) c)
+nested-fine deeper t takes lvl a inside path h o p (array {below = below} some inner) b =
+    let v = windowAt o p (arrayBits (contentBits deeper) a) in
+    let longer = dot path (labelBytes t h (containerLabel t lvl h)) in
+    rw (ne-eqb ((arrayBits (contentBits deeper) a) .size) 0 (λ z. omega arith))
+    (fine-join (noted longer) _ (noted-fine longer) (inside below inner v (whole-span v (arrayBits (contentBits deeper) a) b refl) (grown path longer)))
+
+-- A struct array's bits are walked without fault.
+pub walked-struct : (deeper : ℕ) (t : Tables) (takes : Bool) (leftover : ℕ → Event) (lvl : ℕ) → Fine (leftover 0 ∷ []) → (a : Array (G.Content deeper))
+    → StructArray deeper (t .rows) takes lvl a → (w : Window) → Span w 0 (w .size) (arrayBits (contentBits deeper) a) → (path : List ℕ)
+    → Fine (level (structSink deeper t takes leftover lvl) w path)
+unfolding structSink
+walked-struct zero t takes leftover lvl none a ok w sp path =
+    let s = structSink zero t takes leftover lvl in
+    subst Fine
+    (sym (level-walked (contentBits zero) (λ f k x. allowedIn zero (t .rows) takes lvl f k x) (λ f k x y. allowed-below zero (t .rows) takes lvl f k x y) s w path a ok sp))
+    (array-fine s (contentBits zero) (λ f k x. allowedIn zero (t .rows) takes lvl f k x) always none (w .origin) takes path a ok)
+  where
+    always : (i : ℕ) (path : List ℕ) (first : Bool) (h : ℕ) (x : G.Content zero) → allowedIn zero (t .rows) takes lvl first h x → (o p : ℕ)
+        → Fine ((structSink zero t takes leftover lvl) .field i path first h (windowAt o p (contentBits zero x)))
+    always i path first h (plain b) y o p = plain-fine t lvl tooDeep path h (windowAt o p b) (child (t .rows) lvl h) (y .1)
+    always i path first h (G.nested z) y o p = absurd y
+walked-struct (suc deeper) t takes leftover lvl none a ok w sp path =
+    let s = structSink (suc deeper) t takes leftover lvl in
+    subst Fine
+    (sym
+    (level-walked (contentBits (suc deeper)) (λ f k x. allowedIn (suc deeper) (t .rows) takes lvl f k x) (λ f k x y. allowed-below (suc deeper) (t .rows) takes lvl f k x y) s w path a
+    ok sp))
+    (array-fine s (contentBits (suc deeper)) (λ f k x. allowedIn (suc deeper) (t .rows) takes lvl f k x)
+    (always (λ below x y v z place. walked-struct deeper t takes nested below refl x y v z place)) none (w .origin) takes path a ok)
+  where
+    Inside : Type 0
+    Inside = (below : ℕ) (x : Array (G.Content deeper)) → StructArray deeper (t .rows) takes below x → (v : Window)
+      → Span v 0 (v .size) (arrayBits (contentBits deeper) x) → (path : List ℕ) → Fine (level (structSink deeper t takes nested below) v path)
+
+    always : Inside → (i : ℕ) (path : List ℕ) (first : Bool) (h : ℕ) (x : G.Content (suc deeper)) → allowedIn (suc deeper) (t .rows) takes lvl first h x → (o p : ℕ)
+        → Fine ((structSink (suc deeper) t takes leftover lvl) .field i path first h (windowAt o p (contentBits (suc deeper) x)))
+    always inside i path first h (plain b) y o p = plain-fine t lvl _ path h (windowAt o p b) (child (t .rows) lvl h) (y .1)
+    always inside i path first h (G.nested z) y o p =
+        nested-fine deeper t takes lvl z (λ below u v q place. inside below z u v q place) path h o p y
+        (nested-below deeper (t .rows) takes z (λ l f k x q. allowed-below deeper (t .rows) takes l f k x q) y)

@@ -97,7 +97,7 @@ and-false : (b : Bool) → b && false ≡ false
 and-false true = refl
 and-false false = refl
 
-module _ (s : Sink) {P : Type 0} (bitsOf : P → Bits) (allowed : Bool → ℕ → P → Type 0)
+module _ {P : Type 0} (bitsOf : P → Bits) (allowed : Bool → ℕ → P → Type 0)
     (bounded : (first : Bool) (h : ℕ) (x : P) → allowed first h x → Below (bitsOf x)) where
   field-below : (first : Bool) (f : Field P) → FieldOk bitsOf allowed first f → Below (fieldBits bitsOf f)
   field-below first f ok =
@@ -129,7 +129,7 @@ module _ (s : Sink) {P : Type 0} (bitsOf : P → Bits) (allowed : Bool → ℕ �
       (below-then (elementsBits bitsOf (a .elements)) _ (elements-below (a .count .value) (a .elements) (ok .elements))
       (below-then (numBits (a .close)) (trailing bitsOf (a .trailer)) (num-below (a .close) (ok .close)) (trailing-below (a .trailer))))
 
-  module _ (w : Window) where
+  module _ (s : Sink) (w : Window) where
     zero-number : (p : ℕ) (n : Num) → n .value ≡ 0 → numberAt w p (n .bytes) 0 ≡ numAt (w .origin) p n
     zero-number p n z = ap (λ (v : ℕ). numberAt w p (n .bytes) v) (sym z)
 
