@@ -3,6 +3,7 @@ use Prim.Native.Nat.{ℕ, zero, suc, _+_, _-_, _*_, _/_, _%_, _^_, _≤_, _<_, z
 use mathlib.Core.Path.{_≡_, refl, sym, ap, ap₂, _∙_, subst}
 use mathlib.Core.List.{List, [], _∷_, _++_, append-assoc, append-nil}
 use native.Mathlib.Omega.{arith}
+use borrow.Author.Tests.{le-leb, lt-leb}
 use native.Mathlib.Nat.{zero-add, add-zero, add-suc, suc-add, add-assoc, div-one}
 use lib.ListN.{length, take, drop, set, length-append, length-drop, take-append-drop}
 use native.Mathlib.Numerals.{add-one, add-two, add-three, add-four, add-five, add-six, add-seven}
@@ -12,7 +13,7 @@ use lib.Pow as P
 use Rattle.bits.specs.Bits.{num}
 use Rattle.bits.specs.Bits as B
 use Rattle.bits.proofs.FieldLaws.{field-field, field-high}
-use Rattle.bits.specs.Runs.{bytesOf, bytesFor, put}
+use Rattle.bits.specs.Runs.{bytesOf, bytesFor, put, store}
 
 pub length-bytesOf : (k N : ℕ) → length (bytesOf k N) ≡ k
 unfolding bytesOf
@@ -158,3 +159,12 @@ pub words-end : (d₀ d d′ : List ℕ) (N at count w : ℕ) → w ≡ B.field 
     → d′ ≡ put d₀ 0 (bytesOf (bytesFor count) (B.field N at count))
 words-end d₀ d d′ N at count w ew e e′ =
     e′ ∙ ap (λ (x : List ℕ). put x (8 * (count / 64)) (bytesOf ((count % 64 + 7) / 8) w)) e ∙ words-last d₀ N at count w ew
+
+-- a run that fits is written; one that doesn't leaves the buffer as it is
+pub store-fits : (d : List ℕ) (i : ℕ) (run : List ℕ) → i + length run ≤ length d → store d i run ≡ put d i run
+unfolding store
+store-fits d i run h = rw (le-leb (i + length run) (length d) h)
+
+pub store-out : (d : List ℕ) (i : ℕ) (run : List ℕ) → length d < i + length run → store d i run ≡ d
+unfolding store
+store-out d i run h = rw (lt-leb (i + length run) (length d) h)

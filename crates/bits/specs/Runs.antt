@@ -2,6 +2,8 @@
 use Prim.Native.Nat.{ℕ, zero, suc, _+_, _/_, _%_, _^_}
 use mathlib.Core.List.{List, [], _∷_, _++_}
 use lib.ListN.{length, take, drop}
+use lib.Dec.{leb}
+use Rattle.bits.specs.Choice.{if_then_else_}
 
 -- k bytes of the number N, the lowest first
 unfoldable pub bytesOf : (k N : ℕ) → List ℕ
@@ -15,3 +17,7 @@ bytesFor n = (n + 7) / 8
 -- the buffer d with the run vs from index i on, where it fits
 unfoldable pub put : List ℕ → ℕ → List ℕ → List ℕ
 put d i vs = take i d ++ vs ++ drop (i + length vs) d
+
+-- the same, and the buffer unchanged where the run does not fit: a run is written whole or not at all
+unfoldable pub store : (d : List ℕ) (i : ℕ) (run : List ℕ) → List ℕ
+store d i run = if leb (i + length run) (length d) then put d i run else d

@@ -3,8 +3,10 @@ use mathlib.Core.Path.{_≡_, refl}
 use mathlib.Core.List.{map}
 use Rattle.bits.specs.Bits.{num, field}
 use Rattle.bits.specs.Packed.{after, earlierByte, fifthByte, packedFrom, packed}
-use Rattle.schema.specs.Tables.{firstRow, child, schemaName, declaredName}
-use Rattle.schema.specs.Labels.{digits, bySchema, containerLabel, byDeclaration, leafLabel, labelBytes, atIndex, dot}
+use Rattle.schema.specs.Tables.{cell, fits, firstRow, rowOf, child, schemaName, declaredName}
+use Rattle.schema.specs.Decimals.{digits, decimal}
+use Rattle.schema.specs.Labels.{bySchema, containerLabel, byDeclaration, leafLabel, labelBytes, atIndex, dot}
+use Rattle.schema.specs.TwelveLevels.{ascii, schemaRows, schemaNames}
 use Rattle.framing.specs.Windows.{reading}
 use Rattle.framing.specs.Paths.{grown, noted, given}
 use Rattle.framing.specs.Walk.{lead, fieldAt, tail, fields, closing, inItem, entering, elements, level}
@@ -12,5 +14,5 @@ use Rattle.framing.specs.Sinks.{structSink, objectSink, sinkOf, walkWind
 use Rattle.framing.specs.Cases.{Answer, Case, cases, found}
 
 pub cases-hold : map found cases ≡ map (λ c. c .answer) cases
-unfolding num field after earlierByte fifthByte packedFrom packed firstRow child schemaName declaredName digits bySchema containerLabel byDeclaration leafLabel labelBytes atIndex dot reading grown noted given lead fieldAt tail fields closing inItem entering elements level structSink objectSink sinkOf walkWindow walk
+unfolding ascii schemaRows schemaNames num field after earlierByte fifthByte packedFrom packed cell fits firstRow rowOf child schemaName declaredName digits decimal bySchema containerLabel byDeclaration leafLabel labelBytes atIndex dot reading grown noted given lead fieldAt tail fields closing inItem entering elements level structSink objectSink sinkOf walkWindow walk
 cases-hold = refl

@@ -40,8 +40,9 @@ span-join w p q r a b s t =
       ends = omega arith;
       within = t .within;
       same =
-        field-split (w .bits) p (a .size) (b .size)
-        ∙ ap₂ (λ (x y : ℕ). x + 2 ^ a .size * y) (s .same) (ap (λ (k : ℕ). field (w .bits) k (b .size)) (sym e) ∙ t .same) }
+          field-split (w .bits) p (a .size) (b .size)
+          ∙ ap₂ (λ (x y : ℕ). x + 2 ^ a .size * y) (s .same) (ap (λ (k : ℕ). field (w .bits) k (b .size)) (sym e) ∙ t .same);
+    }
 
 low-part : (a n b : ℕ) → a < 2 ^ n → (a + 2 ^ n * b) % 2 ^ n ≡ a
 low-part a n b h = ap (λ (x : ℕ). x % 2 ^ n) (add-comm a (2 ^ n * b) ∙ ap (λ (x : ℕ). x + a) (mul-comm (2 ^ n) b)) ∙ low b n h
@@ -58,9 +59,10 @@ span-first w p r a b h s =
       ends = refl;
       within = omega arith;
       same =
-        sym (field-low (w .bits) p (a .size) (a .size + b .size) d)
-        ∙ ap (λ (x : ℕ). x % 2 ^ a .size) (s .same)
-        ∙ low-part (a .number) (a .size) (b .number) h }
+          sym (field-low (w .bits) p (a .size) (a .size + b .size) d)
+          ∙ ap (λ (x : ℕ). x % 2 ^ a .size) (s .same)
+          ∙ low-part (a .number) (a .size) (b .number) h;
+    }
 
 pub span-second : (w : Window) (p r : ℕ) (a b : Bits) → Below a → Span w p r (a then b) → Span w (p + a .size) r b
 span-second w p r a b h s =
@@ -71,10 +73,11 @@ span-second w p r a b h s =
       ends = omega arith;
       within = s .within;
       same =
-        ap (λ (k : ℕ). field (w .bits) (p + a .size) k) (sym d₂)
-        ∙ sym (field-high (w .bits) p (a .size + b .size) (a .size) d)
-        ∙ ap (λ (x : ℕ). x / 2 ^ a .size) (s .same)
-        ∙ high-part (a .number) (a .size) (b .number) h }
+          ap (λ (k : ℕ). field (w .bits) (p + a .size) k) (sym d₂)
+          ∙ sym (field-high (w .bits) p (a .size + b .size) (a .size) d)
+          ∙ ap (λ (x : ℕ). x / 2 ^ a .size) (s .same)
+          ∙ high-part (a .number) (a .size) (b .number) h;
+    }
 
 -- ---- packed numbers
 
@@ -125,7 +128,8 @@ more-bytes left W len p B v b e odd r =
       fits = omega arith;
       last = λ h. (let z = r .last (omega arith) in omega arith);
       inside = (let z = r .inside in omega arith);
-      bits = more-bits W p B v b e l odd (r .some) (r .bits) }
+      bits = more-bits W p B v b e l odd (r .some) (r .bits);
+    }
 
 after-whole : (g : ℕ) (r : Packed) (v b : ℕ) (A : Type 0) → after 1 g r ≡ Whole v b
     → ((x n : ℕ) → r ≡ Whole x n → v ≡ g + 2 ^ 7 * x → b ≡ suc n → A) → A
@@ -165,7 +169,7 @@ written-from zero W len p v b e = go (leb (p + 8) len) refl
 written-from (suc left) W len p v b e = go (λ x n r. written-from left W len (p + 8) x n r) (leb (p + 8) len) refl (eqb (field W p 8 % 2) 0) refl
   where
     go : ((x n : ℕ) → packedFrom left W len (p + 8) ≡ Whole x n → Written left W len (p + 8) x n)
-      → (x : Bool) → leb (p + 8) len ≡ x → (y : Bool) → eqb (field W p 8 % 2) 0 ≡ y → Written (suc left) W len p v b
+        → (x : Bool) → leb (p + 8) len ≡ x → (y : Bool) → eqb (field W p 8 % 2) 0 ≡ y → Written (suc left) W len p v b
     go rest true k true l =
         let e′ : Whole (field W p 8 / 2) 1 ≡ Whole v b = rw (k, l) at e in
         let ev : field W p 8 / 2 ≡ v = cc in
@@ -178,9 +182,9 @@ written-from (suc left) W len p v b e = go (λ x n r. written-from left W len (p
         let odd : field W p 8 % 2 ≡ 1 = odd-byte (field W p 8) (eqb-false _ _ l) in
         after-whole (field W p 8 / 2) (packedFrom left W len (p + 8)) v b (Written (suc left) W len p v b) e′
         (λ x n r ev eb.
-          subst (λ (m : ℕ). Written (suc left) W len p v m) (sym eb)
-          (subst (λ (y : ℕ). Written (suc left) W len p y (suc n)) (sym ev)
-          (more-bytes left W len p (field W p 8) x n refl odd (rest x n r))))
+        subst (λ (m : ℕ). Written (suc left) W len p v m) (sym eb)
+        (subst (λ (y : ℕ). Written (suc left) W len p y (suc n)) (sym ev)
+        (more-bytes left W len p (field W p 8) x n refl odd (rest x n r))))
     go rest false k y l = let e′ : Cut 0 ≡ Whole v b = rw k at e in let z : _≡_ {A = ℕ} 0 1 = cc in absurd (omega arith)
 
 -- written, so read
@@ -200,15 +204,16 @@ unfolding packedBits
 first-byte W p v n e =
     let s : 8 * suc (suc n) ≡ 8 + 8 * suc n = omega arith in
     let f : field W p 8 + 2 ^ 8 * field W (p + 8) (8 * suc n) ≡ 2 * (v % 2 ^ 7) + 1 + 2 ^ 8 * packedBits (suc n) (v / 2 ^ 7) =
-      sym (field-split W p 8 (8 * suc n)) ∙ ap (λ (k : ℕ). field W p k) (sym s) ∙ e in
+    sym (field-split W p 8 (8 * suc n)) ∙ ap (λ (k : ℕ). field W p k) (sym s) ∙ e in
     let k : field W p 8 < 2 ^ 8 = field-lt W p 8 in
-    let m : 2 * (v % 2 ^ 7) + 1 < 2 ^ 8 = omega arith in
-    (sym (low-part (field W p 8) 8 (field W (p + 8) (8 * suc n)) k)
-    ∙ ap (λ (x : ℕ). x % 2 ^ 8) f
-    ∙ low-part (2 * (v % 2 ^ 7) + 1) 8 (packedBits (suc n) (v / 2 ^ 7)) m,
-    sym (high-part (field W p 8) 8 (field W (p + 8) (8 * suc n)) k)
-    ∙ ap (λ (x : ℕ). x / 2 ^ 8) f
-    ∙ high-part (2 * (v % 2 ^ 7) + 1) 8 (packedBits (suc n) (v / 2 ^ 7)) m)
+    let m : 2 * (v % 2 ^ 7) + 1 < 2 ^ 8 = omega arith in (
+      sym (low-part (field W p 8) 8 (field W (p + 8) (8 * suc n)) k)
+          ∙ ap (λ (x : ℕ). x % 2 ^ 8) f
+          ∙ low-part (2 * (v % 2 ^ 7) + 1) 8 (packedBits (suc n) (v / 2 ^ 7)) m,
+      sym (high-part (field W p 8) 8 (field W (p + 8) (8 * suc n)) k)
+          ∙ ap (λ (x : ℕ). x / 2 ^ 8) f
+          ∙ high-part (2 * (v % 2 ^ 7) + 1) 8 (packedBits (suc n) (v / 2 ^ 7)) m,
+    )
 
 single-bits : (W p v : ℕ) → field W p (8 * 1) ≡ packedBits 1 v → field W p 8 ≡ 2 * v
 unfolding packedBits
@@ -238,14 +243,15 @@ read-from (suc left) W len p v (suc (suc n)) r =
     let e₁ : (2 * (v % 2 ^ 7) + 1) % 2 ≡ 1 = omega arith in
     let e₂ : (2 * (v % 2 ^ 7) + 1) / 2 ≡ v % 2 ^ 7 = omega arith in
     let rest : packedFrom left W len (p + 8) ≡ Whole (v / 2 ^ 7) (suc n) =
-      read-from left W len (p + 8) (v / 2 ^ 7) (suc n)
-      (record {
-        some = omega arith;
-        most = omega arith;
-        fits = seven-less v (suc n) (r .fits);
-        last = λ z. eleven-less v left (r .last (omega arith));
-        inside = omega arith;
-        bits = f .1 }) in
+    read-from left W len (p + 8) (v / 2 ^ 7) (suc n)
+    (record {
+      some = omega arith;
+      most = omega arith;
+      fits = seven-less v (suc n) (r .fits);
+      last = λ z. eleven-less v left (r .last (omega arith));
+      inside = omega arith;
+      bits = f .1;
+    }) in
     rw (le-leb (p + 8) len (omega arith), f .0, ne-eqb ((2 * (v % 2 ^ 7) + 1) % 2) 0 (λ z. omega arith), e₂, rest)
     (ap₂ Whole (omega arith) (omega arith))
 
@@ -268,9 +274,10 @@ module _ (w : Window) (p : ℕ) where
   read-num v b e =
       let r = written-from 4 (w .bits) (w .size) p v b (got-whole v b e) in
       let m = r .most in
-      let f = r .fits in
-      (record { some = r .some; most = omega arith; fits = r .fits; word = word r },
-      record { ends = refl; within = r .inside; same = r .bits })
+      let f = r .fits in (
+        record { some = r .some; most = omega arith; fits = r .fits; word = word r },
+        record { ends = refl; within = r .inside; same = r .bits },
+      )
     where
       word : Written 4 (w .bits) (w .size) p v b → v < 2 ^ 32
       word r = go (leb b 4) refl
@@ -293,4 +300,5 @@ module _ (w : Window) (p : ℕ) where
         fits = ok .fits;
         last = λ z. ok .word;
         inside = omega arith;
-        bits = s .same }))
+        bits = s .same;
+      }))

@@ -56,9 +56,8 @@ pub record Content (P : Type 0) (bitsOf : P → Bits) (allowed : Bool → ℕ �
 
 module _ (s : Sink) (P : Type 0) (bitsOf : P → Bits) (allowed : Bool → ℕ → P → Type 0)
     (find : (i : ℕ) (path : List ℕ) (first : Bool) (h : ℕ) (v : Window) → v .bits < 2 ^ v .size → Fine (s .field i path first h v)
-      → Content P bitsOf allowed first h v)
+    → Content P bitsOf allowed first h v)
     (w : Window) where
-
   -- ---- an element's fields
 
   record FieldsFound (left p q : ℕ) (first : Bool) : Type 0 where
@@ -76,7 +75,8 @@ module _ (s : Sink) (P : Type 0) (bitsOf : P → Bits) (allowed : Bool → ℕ �
         few = omega arith;
         ok = tt;
         close = subst (λ (n : ℕ). Stands w n q 0) e c;
-        span = subst (λ (n : ℕ). Span w p n noBits) e (span-none w p h) }
+        span = subst (λ (n : ℕ). Span w p n noBits) e (span-none w p h);
+      }
 
   stands-in : (p q v : ℕ) → Stands w p q v → p ≤ w .size
   stands-in p q v c = let a = c .span .ends in let b = c .span .within in omega arith
@@ -94,27 +94,30 @@ module _ (s : Sink) (P : Type 0) (bitsOf : P → Bits) (allowed : Bool → ℕ �
       let e₁ : c .middle ≡ p + (numBits (hd .num)) .size = hd .span .ends in
       let e₂ : r ≡ c .middle + (numBits (wd .num)) .size = wd .span .ends in
       let ps : Span w r (r + k) (bitsOf (x .it)) =
-        subst (λ (b : Bits). Span w r (r + k) b) (sym eb) (record { ends = refl; within = c .within; same = refl }) in
+      subst (λ (b : Bits). Span w r (r + k) b) (sym eb) (record { ends = refl; within = c .within; same = refl }) in
       let fs : Span w p (r + k) (fieldBits bitsOf f) =
-        span-join w p (c .middle) (r + k) _ _ (hd .span) (span-join w (c .middle) r (r + k) _ _ (wd .span) ps) in
+      span-join w p (c .middle) (r + k) _ _ (hd .span) (span-join w (c .middle) r (r + k) _ _ (wd .span) ps) in
       let total : r + k ≡ p + (fieldBits bitsOf f) .size = fs .ends in
       let next : r + k + (fieldsBits bitsOf (rest .list)) .size ≡ p + (fieldsBits bitsOf (f ∷ rest .list)) .size = omega arith in
       let firsts : first && eqb k 0 ≡ first && eqb (wd .num .value) 0 = ap (λ (n : ℕ). first && eqb n 0) (sym ev) in
       record {
         list = f ∷ rest .list;
         few = (let z = rest .few in omega arith);
-        ok =
-          (record {
+        ok = (
+          record {
             handle = hd .good;
             opens = (let z = c .handle .more in omega arith);
             width = wd .good;
             wide = ev ∙ ap (λ (b : Bits). b .size) (sym eb);
-            content = subst (λ (n : ℕ). allowed first n (x .it)) (el ∙ ap (λ (n : ℕ). n - 1) (sym eh)) (x .ok) },
-          subst (λ (b : Bool). FieldsOk bitsOf allowed b (rest .list)) firsts (rest .ok));
+            content = subst (λ (n : ℕ). allowed first n (x .it)) (el ∙ ap (λ (n : ℕ). n - 1) (sym eh)) (x .ok);
+          },
+          subst (λ (b : Bool). FieldsOk bitsOf allowed b (rest .list)) firsts (rest .ok),
+        );
         close = subst (λ (n : ℕ). Stands w n q 0) next (rest .close);
         span =
-          subst (λ (n : ℕ). Span w p n (fieldsBits bitsOf (f ∷ rest .list))) next
-          (span-join w p (r + k) _ _ _ fs (rest .span)) }
+            subst (λ (n : ℕ). Span w p n (fieldsBits bitsOf (f ∷ rest .list))) next
+            (span-join w p (r + k) _ _ _ fs (rest .span));
+      }
 
   last-found : (i : ℕ) (path : List ℕ) (p : ℕ) (first : Bool) (l : Lead) → lead w p ≡ l → (t : Trace) (q : ℕ) → onLastField s w path p l ≡ done t q → FieldsFound 0 p q first
   last-found i path p first ends e t q f = never (cc)
@@ -142,10 +145,10 @@ module _ (s : Sink) (P : Type 0) (bitsOf : P → Bits) (allowed : Bool → ℕ �
       let c = present-stands w p ns h r k e in
       prepended (numbers ns ++ s .field i path first h (part w r k)) (fields s w i path left (r + k) (first && eqb k 0)) t q (FieldsFound (suc left) p q first) f
       (λ v er et.
-        let parts = fine-append (numbers ns ++ s .field i path first h (part w r k)) v (subst Fine et g) in
-        let mine = fine-append (numbers ns) (s .field i path first h (part w r k)) (parts .0) in
-        one-more left p q r k h first c (find i path first h (part w r k) (field-lt (w .bits) r k) (mine .1))
-        (rest (r + k) (first && eqb k 0) v er (parts .1)))
+      let parts = fine-append (numbers ns ++ s .field i path first h (part w r k)) v (subst Fine et g) in
+      let mine = fine-append (numbers ns) (s .field i path first h (part w r k)) (parts .0) in
+      one-more left p q r k h first c (find i path first h (part w r k) (field-lt (w .bits) r k) (mine .1))
+      (rest (r + k) (first && eqb k 0) v er (parts .1)))
 
   fields-found : (i : ℕ) (path : List ℕ) (left p : ℕ) (first : Bool) (t : Trace) (q : ℕ) → fields s w i path left p first ≡ done t q → Fine t → FieldsFound left p q first
   unfolding fields
@@ -240,7 +243,8 @@ module _ (s : Sink) (P : Type 0) (bitsOf : P → Bits) (allowed : Bool → ℕ �
           behind = q;
           close = subst (λ (n : ℕ). Stands w n q 0) e c;
           ending = d;
-          span = subst (λ (n : ℕ). Span w p n noBits) e (span-none w p (stands-in p q 0 c)) }
+          span = subst (λ (n : ℕ). Span w p n noBits) e (span-none w p (stands-in p q 0 c));
+        }
 
     closed-level : (count left p q : ℕ) → Stands w p q 0 → Fine (closing s w q) → ElementsFound count left p
     closed-level count left p q c g = no-elements count left p q c (closing-found q (c .span .within) g)
@@ -259,22 +263,25 @@ module _ (s : Sink) (P : Type 0) (bitsOf : P → Bits) (allowed : Bool → ℕ �
         record {
           list = x ∷ rest .list;
           few = (let z = rest .few in omega arith);
-          ok =
-            (record {
+          ok = (
+            record {
               index = ix .good;
               opens = (let z = o .more in omega arith);
               below = omega arith;
               few = fs .few;
               fields = fs .ok;
               close = cl .good;
-              closes = cl .value },
-            rest .ok);
+              closes = cl .value;
+            },
+            rest .ok,
+          );
           behind = rest .behind;
           close = subst (λ (n : ℕ). Stands w n (rest .behind) 0) next (rest .close);
           ending = rest .ending;
           span =
-            subst (λ (n : ℕ). Span w p n (elementsBits bitsOf (x ∷ rest .list))) next
-            (span-join w p r _ _ _ sp (rest .span)) }
+              subst (λ (n : ℕ). Span w p n (elementsBits bitsOf (x ∷ rest .list))) next
+              (span-join w p r _ _ _ sp (rest .span));
+        }
 
     last-element : (path : List ℕ) (count p : ℕ) (l : Lead) → lead w p ≡ l → Fine (onLastIndex s w path p l) → ElementsFound count 0 p
     last-element path count p ends e g = absurd (omega arith)
@@ -337,17 +344,19 @@ module _ (s : Sink) (P : Type 0) (bitsOf : P → Bits) (allowed : Bool → ℕ �
             record {
               array = record { count = record { value = v; bytes = b }; elements = es .list; close = cl .num; trailer = es .ending .trailer };
               ok =
-                record {
-                  count = n .0;
-                  small = small;
-                  few = es .few;
-                  elements = es .ok;
-                  close = cl .good;
-                  closes = cl .value;
-                  ends = es .ending .taken };
+                  record {
+                    count = n .0;
+                    small = small;
+                    few = es .few;
+                    elements = es .ok;
+                    close = cl .good;
+                    closes = cl .value;
+                    ends = es .ending .taken;
+                  };
               span =
-                span-join w 0 (8 * b) (w .size) _ _ (subst (λ (m : ℕ). Span w 0 m (numBits (record { value = v; bytes = b }))) (zero-add (8 * b)) sp)
-                (span-join w (8 * b) _ (w .size) _ _ (es .span) (span-join w _ (es .behind) (w .size) _ _ (cl .span) (es .ending .span))) }
+                  span-join w 0 (8 * b) (w .size) _ _ (subst (λ (m : ℕ). Span w 0 m (numBits (record { value = v; bytes = b }))) (zero-add (8 * b)) sp)
+                  (span-join w (8 * b) _ (w .size) _ _ (es .span) (span-join w _ (es .behind) (w .size) _ _ (cl .span) (es .ending .span)));
+            }
 
     -- A level that is walked without fault is the bits of an array.
     pub level-found : (path : List ℕ) → Fine (level s w path) → Found

@@ -99,7 +99,8 @@ width-of w p x h₀ m (got v b) e o ns h q k f = go (ltb (w .size) (m + 8 * b + 
           middle = m;
           handle = subst (λ (n : ℕ). Opens w p m n) eh o;
           width = subst (λ (n : ℕ). Stands w m n k) eq (subst (λ (n : ℕ). Stands w m (m + 8 * b) n) ek (stands w m v b e));
-          within = omega arith }
+          within = omega arith;
+        }
 
 field-of : (w : Window) (p : ℕ) (l : Lead) → lead w p ≡ l → (ns : List Number) (h q k : ℕ) → fieldOf w l ≡ present ns h q k → Present w p h q k
 field-of w p ends e ns h q k f = never (cc)
@@ -154,7 +155,7 @@ module _ (w : Window) (p q : ℕ) (n : Num) (ok : IsNum n) (s : Span w p q (numB
 
   module _ (r : ℕ) (m : Num) (okm : IsNum m) (sm : Span w q r (numBits m)) where
     pub stands-present : 1 ≤ n .value → r + m .value ≤ w .size
-      → fieldAt w p ≡ present (numberAt w p (n .bytes) (n .value) ∷ numberAt w q (m .bytes) (m .value) ∷ []) (n .value - 1) r (m .value)
+        → fieldAt w p ≡ present (numberAt w p (n .bytes) (n .value) ∷ numberAt w q (m .bytes) (m .value) ∷ []) (n .value - 1) r (m .value)
     unfolding fieldAt
     stands-present h l =
         let e : r ≡ q + 8 * m .bytes = sm .ends in

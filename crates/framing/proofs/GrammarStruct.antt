@@ -78,8 +78,9 @@ nested-more deeper rows takes lvl first h below v b some e r =
       it = G.nested (r .it);
       same = whole;
       ok =
-        subst (λ (c : Child). NestedOk ((arrayBits (contentBits deeper) (r .it)) .size) (λ below. StructArray deeper rows takes below (r .it)) c) (sym e)
-        (array large (r .ok)) }
+          subst (λ (c : Child). NestedOk ((arrayBits (contentBits deeper) (r .it)) .size) (λ below. StructArray deeper rows takes below (r .it)) c) (sym e)
+          (array large (r .ok));
+    }
   where
     positive : (n m : ℕ) → (n ≡ 0 → ⊥) → m ≡ n → 1 ≤ m
     positive n m h e = omega arith
@@ -109,7 +110,7 @@ found-struct zero t takes leftover lvl tells w path g =
     find i path first h v b g = look i path first h v b (child (t .rows) lvl h) refl g
 found-struct (suc deeper) t takes leftover lvl tells w path g =
     let f = level-found (structSink (suc deeper) t takes leftover lvl) (G.Content (suc deeper)) (contentBits (suc deeper)) (λ f k x. allowedIn (suc deeper) (t .rows) takes lvl f k x)
-      (find (λ below v place h. found-struct deeper t takes nested below nested-tells v place h)) w tells path g in
+    (find (λ below v place h. found-struct deeper t takes nested below nested-tells v place h)) w tells path g in
     record { it = f .array; ok = f .ok; span = f .span }
   where
     Inside : Type 0
@@ -227,11 +228,11 @@ plain-fine t lvl into path h v (Child.Array below) (G.empty e) = rw (eq-eqb (v .
 
 nested-fine : (deeper : ℕ) (t : Tables) (takes : Bool) (lvl : ℕ) (a : Array (G.Content deeper))
     → ((below : ℕ) → StructArray deeper (t .rows) takes below a → (v : Window) → Span v 0 (v .size) (arrayBits (contentBits deeper) a) → (path : List ℕ)
-      → Fine (level (structSink deeper t takes nested below) v path))
+    → Fine (level (structSink deeper t takes nested below) v path))
     → (path : List ℕ) (h o p : ℕ) {c : Child} → NestedOk ((arrayBits (contentBits deeper) a) .size) (λ below. StructArray deeper (t .rows) takes below a) c
     → Below (arrayBits (contentBits deeper) a)
     → Fine (onChild t lvl (λ below path longer handle w. noted longer ++ level (structSink deeper t takes nested below) w (grown path longer)) path h
-      (windowAt o p (arrayBits (contentBits deeper) a)) c)
+    (windowAt o p (arrayBits (contentBits deeper) a)) c)
 nested-fine deeper t takes lvl a inside path h o p (array {below = below} some inner) b =
     let v = windowAt o p (arrayBits (contentBits deeper) a) in
     let longer = dot path (labelBytes t h (containerLabel t lvl h)) in
@@ -264,7 +265,7 @@ walked-struct (suc deeper) t takes leftover lvl none a ok w sp path =
   where
     Inside : Type 0
     Inside = (below : ℕ) (x : Array (G.Content deeper)) → StructArray deeper (t .rows) takes below x → (v : Window)
-      → Span v 0 (v .size) (arrayBits (contentBits deeper) x) → (path : List ℕ) → Fine (level (structSink deeper t takes nested below) v path)
+        → Span v 0 (v .size) (arrayBits (contentBits deeper) x) → (path : List ℕ) → Fine (level (structSink deeper t takes nested below) v path)
 
     always : Inside → (i : ℕ) (path : List ℕ) (first : Bool) (h : ℕ) (x : G.Content (suc deeper)) → allowedIn (suc deeper) (t .rows) takes lvl first h x → (o p : ℕ)
         → Fine ((structSink (suc deeper) t takes leftover lvl) .field i path first h (windowAt o p (contentBits (suc deeper) x)))

@@ -230,7 +230,7 @@ module _ {P : Type 0} (bitsOf : P → Bits) (allowed : Bool → ℕ → P → Ty
         let f₁ = span-first w (p + ib .size) (p + a .size) fb cb (fields-below true (x .fields) (eo .fields)) i₂ in
         let f₂ = span-second w (p + ib .size) (p + a .size) fb cb (fields-below true (x .fields) (eo .fields)) i₂ in
         let ran = fields-walked i (inItem s path i) (x .close) (eo .close) (eo .closes) (x .fields) maxFields (p + ib .size) (p + ib .size + fb .size) (p + a .size) true
-          (eo .few) (eo .fields) f₁ f₂ in
+        (eo .few) (eo .fields) f₁ f₂ in
         let rest = elements-walked path count c okc zc es left (p + a .size) r q (omega arith) (ok .1) s₂ sc in
         let body = bodyTrace s bitsOf (w .origin) i (inItem s path i) (p + ib .size) x in
         let later = elementsTrace s bitsOf (w .origin) path (p + a .size) es in
@@ -269,7 +269,7 @@ module _ {P : Type 0} (bitsOf : P → Bits) (allowed : Bool → ℕ → P → Ty
         let z : 0 + nb .size ≡ 8 * a .count .bytes = zero-add (8 * a .count .bytes) in
         let read : reading w 0 ≡ got (a .count .value) (a .count .bytes) = num-read w 0 (a .count) (0 + nb .size) (ok .count) n₁ in
         let es = elements-walked path (a .count .value) (a .close) (ok .close) (ok .closes) (a .elements) maxElements (0 + nb .size) (0 + nb .size + eb .size)
-          (0 + nb .size + eb .size + cb .size) (ok .few) (ok .elements) e₁ c₁ in
+        (0 + nb .size + eb .size + cb .size) (ok .few) (ok .elements) e₁ c₁ in
         let closed = end-walked (a .trailer) (0 + nb .size + eb .size + cb .size) (c₁ .within) (ok .ends) c₂ in
         level-count s w path
         ∙ ap (onCount s w path) read
@@ -279,7 +279,7 @@ module _ {P : Type 0} (bitsOf : P → Bits) (allowed : Bool → ℕ → P → Ty
         ∙ es
         ∙ ap (λ (t : Trace). elementsTrace s bitsOf (w .origin) path (0 + nb .size) (a .elements) ++ (number (numAt (w .origin) (0 + nb .size + eb .size) (a .close)) ∷ t)) closed
         ∙ ap (λ (k : ℕ). elementsTrace s bitsOf (w .origin) path k (a .elements)
-          ++ (number (numAt (w .origin) (k + eb .size) (a .close)) ∷ endTrace s bitsOf (w .origin) (a .trailer) (k + eb .size + cb .size))) z)
+        ++ (number (numAt (w .origin) (k + eb .size) (a .close)) ∷ endTrace s bitsOf (w .origin) (a .trailer) (k + eb .size + cb .size))) z)
       where
         counted : (path : List ℕ) (v b : ℕ) → v ≤ maxElements
             → onCount s w path (got v b) ≡ number (numberAt w 0 b v) ∷ elements s w path v maxElements (8 * b)

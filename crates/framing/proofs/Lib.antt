@@ -14,3 +14,5 @@ pub mod GrammarLeads
 pub mod GrammarFound
 pub mod GrammarWalked
 pub mod GrammarStruct
+pub mod GrammarObject
+pub mod GrammarGiven

@@ -54,12 +54,12 @@ pub record IsNum (n : Num) : Type 0 where
 -- ---- fields, elements, arrays, over what a payload is
 
 pub record Field (P : Type 0) : Type 0 where
-  pub handle : Num          -- one more than the handle
+  pub handle : Num  -- one more than the handle
   pub width : Num
   pub payload : P
 
 pub record Element (P : Type 0) : Type 0 where
-  pub index : Num           -- one more than the index
+  pub index : Num  -- one more than the index
   pub fields : List (Field P)
   pub close : Num
 
@@ -67,7 +67,7 @@ pub record Array (P : Type 0) : Type 0 where
   pub count : Num
   pub elements : List (Element P)
   pub close : Num
-  pub trailer : Bool        -- a zero of the trailer's bits behind the terminator
+  pub trailer : Bool  -- a zero of the trailer's bits behind the terminator
 
 module _ {P : Type 0} (bitsOf : P → Bits) where
   abbrev pub fieldBits : Field P → Bits
@@ -167,11 +167,19 @@ allowedIn (suc deeper) rows takes lvl first h (nested a) =
 abbrev pub StructArray : (deeper : ℕ) (rows : List ℕ) (takes : Bool) (level : ℕ) → Array (Content deeper) → Type 0
 StructArray deeper rows takes lvl a = ArrayOk (contentBits deeper) (λ f k x. allowedIn deeper rows takes lvl f k x) takes a
 
--- ---- in an object walk: at most one field of an element has a payload, and it is one packed number that fills it
+-- ---- in an object walk: a field is empty, or one packed number that fills its payload; at most one of an element is not empty
 
-pub data ObjectOk (b : Bits) : (first : Bool) → Type 0 where
-  empty : {first : Bool} → b .size ≡ 0 → b .number ≡ 0 → ObjectOk b first
-  guid : (n : Num) → IsNum n → b ≡ numBits n → ObjectOk b true
+pub data Reference : Type 0 where
+  absent : Reference
+  guid : Num → Reference
 
-abbrev pub ObjectArray : Array Bits → Type 0
-ObjectArray a = ArrayOk (λ b. b) (λ first h b. ObjectOk b first) true a
+abbrev pub referenceBits : Reference → Bits
+referenceBits absent = noBits
+referenceBits (guid n) = numBits n
+
+abbrev pub referenceIn : (first : Bool) (handle : ℕ) → Reference → Type 0
+referenceIn first h absent = Unit
+referenceIn first h (guid n) = (first ≡ true) × IsNum n
+
+abbrev pub ObjectArray : Array Reference → Type 0
+ObjectArray a = ArrayOk referenceBits referenceIn true a

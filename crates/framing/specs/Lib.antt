@@ -9,3 +9,4 @@ pub mod Refusing
 pub mod Demand
 pub mod Cases
 pub mod Grammar
+pub mod GrammarGives

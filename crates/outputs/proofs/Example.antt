@@ -4,9 +4,10 @@ use mathlib.Core.List.{List, [], _∷_}
 use Rattle.bits.specs.Bits.{num, field}
 use Rattle.bits.specs.Runs.{bytesOf}
 use Rattle.bits.specs.Packed.{after, earlierByte, fifthByte, packedFrom, packed}
-use Rattle.schema.specs.Tables.{noTables, absent, firstRow, child, schemaName, declaredName}
-use Rattle.schema.specs.Labels.{digits, bySchema, containerLabel, byDeclaration, leafLabel, labelBytes, atIndex, dot}
-use Rattle.schema.specs.Layout.{rowsFit, declaredFit, laidOut}
+use Rattle.schema.specs.Tables.{noTables, absent, cell, fits, firstRow, rowOf, child, schemaName, declaredName}
+use Rattle.schema.specs.Decimals.{digits, decimal}
+use Rattle.schema.specs.Labels.{bySchema, containerLabel, byDeclaration, leafLabel, labelBytes, atIndex, dot}
+use Rattle.schema.specs.Layout.{allFrom, nameFits, kindFits, rowFits, declaredFits, schemaSized, declaredSized, rootFits, schemaLaid, declaredLaid, laidOut}
 use Rattle.framing.specs.Windows.{reading}
 use Rattle.framing.specs.Counters.{counted}
 use Rattle.framing.specs.Paths.{grown, noted, given}
@@ -26,14 +27,14 @@ abbrev scarce : Lent
 scarce = record { leaves = 9 ∷ 9 ∷ 9 ∷ 9 ∷ []; paths = 9 ∷ 9 ∷ 9 ∷ 9 ∷ 9 ∷ 9 ∷ 9 ∷ 9 ∷ []; payloads = 9 ∷ 9 ∷ [] }
 
 pub case1-answer : answer case1 enough ≡ accepted (counted 1 1 0 0 0 0 0) (record { leaves = 1; pathBytes = 7; payloadBytes = 1 })
-unfolding answer decided finalLeaves finalPaths finalPayloads leafRecords rowsFit declaredFit laidOut needed pathBytes payloadBytes bytesOf num field after earlierByte fifthByte packedFrom packed firstRow child schemaName declaredName digits bySchema containerLabel byDeclaration leafLabel labelBytes atIndex dot reading grown noted given lead fieldAt tail fields closing inItem entering elements level structSink sinkOf walkWindow walk
+unfolding answer decided finalLeaves finalPaths finalPayloads leafRecords allFrom nameFits kindFits rowFits declaredFits schemaSized declaredSized rootFits schemaLaid declaredLaid laidOut needed pathBytes payloadBytes bytesOf num field after earlierByte fifthByte packedFrom packed cell fits firstRow rowOf child schemaName declaredName digits decimal bySchema containerLabel byDeclaration leafLabel labelBytes atIndex dot reading grown noted given lead fieldAt tail fields closing inItem entering elements level structSink sinkOf walkWindow walk
 case1-answer = refl
 
 pub case1-final : final case1 enough
     ≡ record { leaves = 0 ∷ 7 ∷ 1 ∷ 8 ∷ 0 ∷ 9 ∷ []; paths = 91 ∷ 48 ∷ 93 ∷ 46 ∷ 95 ∷ 104 ∷ 49 ∷ 9 ∷ []; payloads = 171 ∷ 9 ∷ [] }
-unfolding answer decided finalLeaves finalPaths finalPayloads leafRecords rowsFit declaredFit laidOut needed pathBytes payloadBytes bytesOf num field after earlierByte fifthByte packedFrom packed firstRow child schemaName declaredName digits bySchema containerLabel byDeclaration leafLabel labelBytes atIndex dot reading grown noted given lead fieldAt tail fields closing inItem entering elements level structSink sinkOf walkWindow walk
+unfolding answer decided finalLeaves finalPaths finalPayloads leafRecords allFrom nameFits kindFits rowFits declaredFits schemaSized declaredSized rootFits schemaLaid declaredLaid laidOut needed pathBytes payloadBytes bytesOf num field after earlierByte fifthByte packedFrom packed cell fits firstRow rowOf child schemaName declaredName digits decimal bySchema containerLabel byDeclaration leafLabel labelBytes atIndex dot reading grown noted given lead fieldAt tail fields closing inItem entering elements level structSink sinkOf walkWindow walk
 case1-final = refl
 
 pub case1-scarce : (answer case1 scarce ≡ refused 3 (record { leaves = 1; pathBytes = 7; payloadBytes = 1 })) × (final case1 scarce ≡ scarce)
-unfolding answer decided finalLeaves finalPaths finalPayloads leafRecords rowsFit declaredFit laidOut needed pathBytes payloadBytes bytesOf num field after earlierByte fifthByte packedFrom packed firstRow child schemaName declaredName digits bySchema containerLabel byDeclaration leafLabel labelBytes atIndex dot reading grown noted given lead fieldAt tail fields closing inItem entering elements level structSink sinkOf walkWindow walk
+unfolding answer decided finalLeaves finalPaths finalPayloads leafRecords allFrom nameFits kindFits rowFits declaredFits schemaSized declaredSized rootFits schemaLaid declaredLaid laidOut needed pathBytes payloadBytes bytesOf num field after earlierByte fifthByte packedFrom packed cell fits firstRow rowOf child schemaName declaredName digits decimal bySchema containerLabel byDeclaration leafLabel labelBytes atIndex dot reading grown noted given lead fieldAt tail fields closing inItem entering elements level structSink sinkOf walkWindow walk
 case1-scarce = (refl, refl)

@@ -8,13 +8,14 @@ use native.Mathlib.Omega.{arith}
 use lib.Dec.{leb}
 use lib.ListN.{length, take, drop, set, length-append, take-append-drop}
 use lib.Seq.{sets, length-sets, sets-eq, set-out, drop-drop}
-use borrow.Author.Tests.{leb-true, le-leb, lt-leb}
-use Rattle.bits.specs.Runs.{put}
+use borrow.Author.Tests.{leb-true}
+use Rattle.bits.specs.Runs.{put, store}
+use Rattle.bits.proofs.RunLaws.{store-fits}
 use Rattle.framing.specs.Events.{Leaf, Pair, Number, numbers, Event, number, element, leaf, pair, truncation, error, implicit, nested, root, over, leaves, overs, Trace}
 use Rattle.framing.specs.Counters.{Counters, counted, counters, sums, tally}
 use Rattle.framing.specs.Records.{leafRecord, pairRecord, payloadOf, pathBytes, payloadBytes}
 use Rattle.framing.proofs.TraceLaws.{sums-assoc}
-use Rattle.outputs.specs.World.{Adding, plain, World, count, onEvent, apply, records, store, Tally, tallyOf, tallied}
+use Rattle.outputs.specs.World.{Adding, plain, World, count, onEvent, apply, records, Tally, tallyOf, tallied}
 
 -- ---- runs of writes
 
@@ -35,17 +36,12 @@ sets-nil i xs = sets-out [] i xs (omega arith)
 
 -- ---- one buffer
 
-pub store-fits : (l : List ℕ) (i : ℕ) (run : List ℕ) → i + length run ≤ length l → store l i run ≡ put l i run
-store-fits l i run h = rw (le-leb (i + length run) (length l) h)
-
-pub store-out : (l : List ℕ) (i : ℕ) (run : List ℕ) → length l < i + length run → store l i run ≡ l
-store-out l i run h = rw (lt-leb (i + length run) (length l) h)
-
 pub length-put : (l : List ℕ) (i : ℕ) (run : List ℕ) → i + length run ≤ length l → length (put l i run) ≡ length l
 unfolding put
 length-put l i run h = ap length (sym (sets-eq run l i h)) ∙ length-sets l i run
 
 pub length-store : (l : List ℕ) (i : ℕ) (run : List ℕ) → length (store l i run) ≡ length l
+unfolding store
 length-store l i run = go (leb (i + length run) (length l)) refl
   where
     go : (x : Bool) → leb (i + length run) (length l) ≡ x → length (store l i run) ≡ length l

@@ -4,9 +4,7 @@
 use Prim.Native.Nat.{ℕ, _+_, _%_}
 use mathlib.Core.List.{List, [], _∷_, _++_}
 use lib.ListN.{length, take, drop}
-use lib.Dec.{leb}
-use Rattle.bits.specs.Choice.{if_then_else_}
-use Rattle.bits.specs.Runs as Runs
+use Rattle.bits.specs.Runs.{store}
 use Rattle.framing.specs.Events.{Leaf, Pair, Event, number, element, leaf, pair, truncation, error, implicit, nested, root, over, leaves, overs, Trace}
 use Rattle.framing.specs.Counters.{Counters, counted, counters, sums}
 use Rattle.framing.specs.Records.{leafRecord, pairRecord, payloadOf, pathBytes, payloadBytes}
@@ -27,11 +25,7 @@ pub record Out : Type 0 where
   pub at : ℕ
   pub held : List ℕ
 
--- A run is written whole; one that does not fit is not written.
-abbrev pub store : List ℕ → ℕ → List ℕ → List ℕ
-store l i run = if leb (i + length run) (length l) then Runs.put l i run else l
-
--- The position passes the run in either case, so that a walk lent nothing measures.
+-- A run is written whole or not at all. The position passes it in either case, so that a walk lent nothing measures.
 abbrev pub put : Adding → List ℕ → Out → Out
 put add run o = record { at = add (o .at) (length run); held = store (o .held) (o .at) run }
 

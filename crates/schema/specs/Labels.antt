@@ -1,23 +1,15 @@
 -- Labels and paths (01, Walking an array). A path joins `[index]` and `.label`.
-use Prim.Native.Nat.{ℕ, zero, suc, _+_, _/_, _%_}
+use Prim.Native.Nat.{ℕ, _+_}
 use mathlib.Core.List.{List, [], _∷_, _++_}
-use lib.ListN.{take, drop}
-use lib.Dec.{ltb}
+use lib.ListN.{length, take, drop}
+use lib.Dec.{leb}
 use Rattle.bits.specs.Choice.{if_then_else_}
+unfoldable pub use Rattle.schema.specs.Decimals.{decimal}
 use Rattle.schema.specs.Tables.{Tables, schemaName, declaredName}
 use Rattle.schema.specs.declared.Name.{Name}
 use Rattle.schema.specs.declared.Name.the-variants.{At, Unnamed}
 use Rattle.schema.specs.declared.Label.{Label}
 use Rattle.schema.specs.declared.Label.the-variants.{Declared, Named, Plain}
-
--- decimal digits as ASCII: `more` digits may stand before the last one
-unfoldable pub digits : (more n : ℕ) → List ℕ
-digits zero n = (48 + n) ∷ []
-digits (suc more) n = if ltb n 10 then (48 + n) ∷ [] else digits more (n / 10) ++ ((48 + n % 10) ∷ [])
-
--- of a u32, which has at most ten
-abbrev pub decimal : ℕ → List ℕ
-decimal n = digits 9 n
 
 -- `_h` and the handle
 abbrev pub unnamed : (handle : ℕ) → List ℕ
@@ -44,6 +36,21 @@ unfoldable pub labelBytes : Tables → (handle : ℕ) → Label → List ℕ
 labelBytes t handle (Declared start len) = take len (drop start (t .declaredNames))
 labelBytes t handle (Named start len) = take len (drop start (t .names))
 labelBytes t handle Plain = unnamed handle
+
+-- how many those are, where a name lies in its pool
+unfoldable pub labelLength : (handle : ℕ) → Label → ℕ
+labelLength handle (Declared start len) = len
+labelLength handle (Named start len) = len
+labelLength handle Plain = 2 + length (decimal handle)
+
+-- the part of the one pool or the other that a label names; where it does not lie in its pool, and for a plain one, there is none
+unfoldable pub part : (pool : List ℕ) (start len : ℕ) → List ℕ
+part pool start len = if leb (start + len) (length pool) then take len (drop start pool) else []
+
+unfoldable pub labelPart : (declaredPool schemaPool : List ℕ) → Label → List ℕ
+labelPart declaredPool schemaPool (Declared start len) = part declaredPool start len
+labelPart declaredPool schemaPool (Named start len) = part schemaPool start len
+labelPart declaredPool schemaPool Plain = []
 
 -- `[index]`, `.label`, and the label of a kept tail, `_raw`
 unfoldable pub atIndex : (path : List ℕ) (index : ℕ) → List ℕ

@@ -1,5 +1,8 @@
 pub mod Tables
-pub mod Labels
 pub mod Layout
 pub mod Spans
+pub mod Decimals
+pub mod Labels
 pub mod TwelveLevels
+pub mod SchemaFile
+pub mod Refusals

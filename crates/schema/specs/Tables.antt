@@ -1,5 +1,5 @@
 -- Schema and declared tables, and what they say of a handle (01, Tables and outputs; schema.rs).
-use Prim.Native.Nat.{ℕ, zero, suc, _+_, _*_, _/_}
+use Prim.Native.Nat.{ℕ, zero, suc, _+_, _-_, _*_, _/_, min}
 use mathlib.Core.Bool.{Bool, _&&_}
 use mathlib.Core.List.{List, []}
 use lib.ListN.{length, getD}
@@ -21,6 +21,13 @@ pub record Tables : Type 0 where
 abbrev pub noTables : Tables
 noTables = record { rows = []; names = []; declared = []; declaredNames = [] }
 
+-- tables by their parts; look-ups of labels need no pool
+abbrev pub tables : (rows names declared declaredNames : List ℕ) → Tables
+tables rows names declared declaredNames = record { rows = rows; names = names; declared = declared; declaredNames = declaredNames }
+
+abbrev pub lookUps : (rows declared : List ℕ) → Tables
+lookUps rows declared = tables rows [] declared []
+
 -- the root level that means no schema, and the start that means no declared name: what is absent
 abbrev pub absent : ℕ
 absent = 4294967295
@@ -36,10 +43,10 @@ abbrev pub nameKind : ℕ
 nameKind = 1
 
 -- number j of row i
-abbrev pub cell : (rows : List ℕ) (i j : ℕ) → ℕ
+unfoldable pub cell : (rows : List ℕ) (i j : ℕ) → ℕ
 cell rows i j = getD rows (rowSize * i + j) 0
 
-abbrev pub fits : (rows : List ℕ) (level kind handle i : ℕ) → Bool
+unfoldable pub fits : (rows : List ℕ) (level kind handle i : ℕ) → Bool
 fits rows level kind handle i = eqb (cell rows i 0) level && eqb (cell rows i 1) kind && eqb (cell rows i 2) handle
 
 -- the first of the `left` rows from i on that fits
@@ -51,7 +58,11 @@ firstRow (suc left) rows level kind handle i =
 abbrev pub rowCount : List ℕ → ℕ
 rowCount rows = length rows / rowSize
 
-abbrev pub rowOf : (rows : List ℕ) (level kind handle : ℕ) → Row
+-- the first that fits of the rows from `first` to before `last`, and of the whole table
+unfoldable pub rowIn : (rows : List ℕ) (first last level kind handle : ℕ) → Row
+rowIn rows first last level kind handle = firstRow (min last (rowCount rows) - first) rows level kind handle first
+
+unfoldable pub rowOf : (rows : List ℕ) (level kind handle : ℕ) → Row
 rowOf rows level kind handle = firstRow (rowCount rows) rows level kind handle 0
 
 abbrev pub childAt : (rows : List ℕ) → Row → Child
@@ -70,8 +81,12 @@ child rows level handle = childAt rows (rowOf rows level arrayKind handle)
 unfoldable pub schemaName : (rows : List ℕ) (level handle : ℕ) → Name
 schemaName rows level handle = nameAt rows (rowOf rows level nameKind handle)
 
--- where the declared name of a handle stands in the declared pool; a handle past the table has absent
+-- a declared row: the start that means absent, or a name
+abbrev pub declaredAt : (start len : ℕ) → Name
+declaredAt start len = if eqb start absent then Unnamed else At start len
+
+-- where the declared name of a handle stands in the declared pool; a handle past the table has none
 unfoldable pub declaredName : (declared : List ℕ) (handle : ℕ) → Name
 declaredName declared handle =
-    if eqb (getD declared (2 * handle) absent) absent then Unnamed else
-    At (getD declared (2 * handle) absent) (getD declared (2 * handle + 1) 0)
+    if ltb (2 * handle) (length declared) then declaredAt (getD declared (2 * handle) 0) (getD declared (2 * handle + 1) 0) else
+    Unnamed

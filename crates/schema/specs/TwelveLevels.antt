@@ -1,7 +1,17 @@
 -- The twelve levels of schema.rs as one table, and the levels that a walk may start at, by number.
 use Prim.Native.Nat.{ℕ}
 use mathlib.Core.List.{List, [], _∷_}
+use Prim.Native.Char.{code}
+use Prim.Native.String.{String}
+use Prim.Native.String as S
+use mathlib.Core.Bool.{Bool, _&&_}
+use lib.ListN.{length}
+use lib.Dec.{leb}
+use Rattle.bits.specs.Choice.{if_then_else_}
+use Rattle.bits.specs.Runs.{put}
 use Rattle.schema.specs.Tables.{Tables}
+use Rattle.schema.specs.declared.Filled.{Filled}
+use Rattle.schema.specs.declared.Filled.the-variants.{Done, Short}
 
 abbrev pub leavesLevel : ℕ
 leavesLevel = 0
@@ -39,8 +49,17 @@ characterReport = 10
 abbrev pub affectedTarget : ℕ
 affectedTarget = 11
 
+-- the levels that schema.rs makes public, which a walk may start at
+abbrev pub publicLevels : List ℕ
+publicLevels = combatRounds ∷ abilityCasts ∷ abilityEffects ∷ lifeChangeDamage ∷ lifeChangeSection ∷ lifeChangeBySection ∷ []
+
+-- a text of ASCII characters as bytes
+unfoldable pub ascii : String → List ℕ
+ascii S.[] = []
+ascii (S._∷_ c rest) = code c ∷ ascii rest
+
 -- level, kind, handle, a, b
-abbrev pub schemaRows : List ℕ
+unfoldable pub schemaRows : List ℕ
 schemaRows =
     1 ∷ 0 ∷ 4 ∷ 10 ∷ 0 ∷
     1 ∷ 1 ∷ 4 ∷ 0 ∷ 7 ∷
@@ -78,9 +97,33 @@ schemaRows =
     11 ∷ 1 ∷ 20 ∷ 36 ∷ 5 ∷ []
 
 -- the names, one behind the other
-abbrev pub schemaNames : List ℕ
+unfoldable pub schemaNames : List ℕ
 schemaNames =
-    82 ∷ 101 ∷ 112 ∷ 111 ∷ 114 ∷ 116 ∷ 115 ∷ 69 ∷ 102 ∷ 102 ∷ 101 ∷ 99 ∷ 116 ∷ 115 ∷ 83 ∷ 116 ∷ 97 ∷ 116 ∷ 105 ∷ 115 ∷ 116 ∷ 105 ∷ 99 ∷ 76 ∷ 111 ∷ 99 ∷ 97 ∷ 108 ∷ 105 ∷ 122 ∷ 101 ∷ 100 ∷ 83 ∷ 116 ∷ 97 ∷ 116 ∷ 86 ∷ 97 ∷ 108 ∷ 117 ∷ 101 ∷ 84 ∷ 105 ∷ 109 ∷ 101 ∷ 65 ∷ 102 ∷ 102 ∷ 101 ∷ 99 ∷ 116 ∷ 101 ∷ 100 ∷ 84 ∷ 97 ∷ 114 ∷ 103 ∷ 101 ∷ 116 ∷ 115 ∷ 65 ∷ 114 ∷ 114 ∷ 97 ∷ 121 ∷ 67 ∷ 104 ∷ 97 ∷ 110 ∷ 103 ∷ 101 ∷ 100 ∷ 67 ∷ 111 ∷ 109 ∷ 112 ∷ 111 ∷ 110 ∷ 101 ∷ 110 ∷ 116 ∷ 76 ∷ 105 ∷ 102 ∷ 101 ∷ 82 ∷ 101 ∷ 115 ∷ 117 ∷ 108 ∷ 116 ∷ 68 ∷ 101 ∷ 108 ∷ 116 ∷ 97 ∷ 76 ∷ 105 ∷ 102 ∷ 101 ∷ 98 ∷ 65 ∷ 108 ∷ 105 ∷ 118 ∷ 101 ∷ 65 ∷ 102 ∷ 116 ∷ 101 ∷ 114 ∷ 67 ∷ 104 ∷ 97 ∷ 110 ∷ 103 ∷ 101 ∷ 82 ∷ 101 ∷ 103 ∷ 105 ∷ 111 ∷ 110 ∷ 115 ∷ 68 ∷ 101 ∷ 97 ∷ 108 ∷ 116 ∷ 73 ∷ 110 ∷ 116 ∷ 101 ∷ 114 ∷ 97 ∷ 99 ∷ 116 ∷ 105 ∷ 111 ∷ 110 ∷ 115 ∷ 82 ∷ 101 ∷ 99 ∷ 101 ∷ 105 ∷ 118 ∷ 101 ∷ 100 ∷ 73 ∷ 110 ∷ 116 ∷ 101 ∷ 114 ∷ 97 ∷ 99 ∷ 116 ∷ 105 ∷ 111 ∷ 110 ∷ 115 ∷ 73 ∷ 110 ∷ 116 ∷ 101 ∷ 114 ∷ 97 ∷ 99 ∷ 116 ∷ 105 ∷ 111 ∷ 110 ∷ 115 ∷ 65 ∷ 102 ∷ 102 ∷ 101 ∷ 99 ∷ 116 ∷ 101 ∷ 100 ∷ 80 ∷ 108 ∷ 97 ∷ 121 ∷ 101 ∷ 114 ∷ []
+    ascii
+    "ReportsEffectsStatisticLocalizedStatValueTimeAffectedTargetsArrayChangedComponentLifeResultDeltaLifebAliveAfterChangeRegionsDealtInteractionsReceivedInteractionsInteractionsAffectedPlayer"
 
 abbrev pub twelveLevels : Tables
 twelveLevels = record { rows = schemaRows; names = schemaNames; declared = []; declaredNames = [] }
+
+-- the levels, the numbers of the rows, and the bytes of the names
+abbrev pub levelCount : ℕ
+levelCount = 12
+
+abbrev pub rowNumbers : ℕ
+rowNumbers = 170
+
+abbrev pub nameBytes : ℕ
+nameBytes = 187
+
+-- The table is written to the front of two lent buffers. Where one is too short nothing is written, and the answer says what both need.
+unfoldable pub enough : (rows names : List ℕ) → Bool
+enough rows names = leb rowNumbers (length rows) && leb nameBytes (length names)
+
+unfoldable pub filled : (rows names : List ℕ) → Filled
+filled rows names = if enough rows names then Done else Short rowNumbers nameBytes
+
+unfoldable pub filledRows : (rows names : List ℕ) → List ℕ
+filledRows rows names = if enough rows names then put rows 0 schemaRows else rows
+
+unfoldable pub filledNames : (rows names : List ℕ) → List ℕ
+filledNames rows names = if enough rows names then put names 0 schemaNames else names

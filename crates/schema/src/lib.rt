@@ -2,7 +2,25 @@
 //
 // A schema row is five u32: level, kind, handle, a, b. Kind 0 says that the handle is an array whose elements have level
 // a; kind 1 that its name stands at a in the name pool, b bytes long. A declared row is a handle's start and length in the
-// declared name pool.
+// declared name pool. Every public call takes any tables.
+
+pub mod decimal;
+pub mod labels;
+pub mod layout;
+pub mod lookup;
+pub mod spans;
+mod table;
+pub mod twelve;
+
+// The numbers of a row, and its two kinds.
+pub const ROW_SIZE: usize = 5;
+
+pub const ARRAY_KIND: u32 = 0;
+
+pub const NAME_KIND: u32 = 1;
+
+// The root level that means no schema, and the start that means no declared name.
+pub const ABSENT: u32 = 4294967295;
 
 // The first row that fits.
 pub enum Row {
@@ -27,4 +45,17 @@ pub enum Label {
     Declared(u32, u32),
     Named(u32, u32),
     Plain,
+}
+
+// What the schema says of a handle of a level.
+pub struct Entry {
+    pub child: Child,
+    pub name: Name,
+}
+
+// What came of filling two lent buffers with the twelve levels.
+pub enum Filled {
+    Done,
+    // One is too short: the u32 that the rows need, and the bytes that the names need.
+    Short(usize, usize),
 }

@@ -1,0 +1,256 @@
+-- The leaves, pairs and element count of a walk without fault are those of the array that it walked.
+use Prim.Native.Nat.{ℕ, zero, suc, _+_, _-_, _*_, _^_, _≤_, _<_}
+use mathlib.Core.Path.{_≡_, refl, sym, ap, ap₂, _∙_, subst}
+use mathlib.Core.Bool.{Bool, true, false, _&&_}
+use mathlib.Core.List.{List, [], _∷_, _++_, append-nil}
+use native.Mathlib.Omega.{arith}
+use lib.Dec.{eqb, leb}
+use lib.ListN.{length}
+use borrow.Author.Tests.{eq-eqb, ne-eqb}
+use Rattle.bits.specs.Choice.{if_then_else_}
+use Rattle.schema.specs.Tables.{Tables, child}
+use Rattle.schema.specs.Labels.{atIndex, dot, labelBytes, containerLabel, leafLabel}
+use Rattle.schema.specs.declared.Child.{Child}
+use Rattle.schema.specs.declared.Child.the-variants as Child
+use Rattle.framing.specs.Windows.{Window}
+use Rattle.framing.specs.Events as Ev
+use Rattle.framing.specs.Events.{Leaf, Pair, Event, number, element, pair, nested, root, over, leaves, pairs, overs, Trace}
+use Rattle.framing.specs.Counters.{counters}
+use Rattle.framing.specs.Paths.{longestPath, grown, noted, given}
+use Rattle.framing.specs.Walk.{Sink, inItem, entering, level}
+use Rattle.framing.specs.Sinks.{leafOf, onChild, structSink, tooDeep, objectSink}
+use Rattle.framing.specs.Grammar.{Bits, Num, numBits, IsNum, Field, Element, Array, fieldBits, fieldsBits, elementBits, elementsBits, arrayBits, Each, FieldOk, FieldsOk, ElementOk, ArrayOk, plain, contentBits, PlainOk, NestedOk, array, allowedIn, StructArray, Reference, absent, guid, referenceBits, referenceIn, ObjectArray}
+use Rattle.framing.specs.Grammar as G
+use Rattle.framing.specs.GrammarGives.{fieldsLeaves, elementsLeaves, arrayLeaves, plainLeaves, nestedLeaves, contentLeaves, structLeaves, referencePairs, fieldsPairs, elementsPairs, objectPairs, fieldsCount, elementsCount, arrayCount, contentCount}
+use Rattle.framing.proofs.TraceLaws.{leaves-append, pairs-append, overs-append, counters-append}
+use Rattle.framing.proofs.GrammarBits.{Span, Below}
+use Rattle.framing.proofs.GrammarWalked.{numAt, windowAt, fieldsTrace, bodyTrace, elementsTrace, endTrace, arrayTrace, level-walked}
+use Rattle.framing.proofs.GrammarStruct.{whole-span, allowed-below}
+use Rattle.framing.proofs.GrammarObject.{reference-below, guid-field, absent-field}
+
+-- ---- paths that are not too long are what they are
+
+within : (n m : ℕ) → n + m ≡ 0 → (n ≡ 0) × (m ≡ 0)
+within n m h = (omega arith, omega arith)
+
+split-overs : (t u : Trace) → overs (t ++ u) ≡ 0 → (overs t ≡ 0) × (overs u ≡ 0)
+split-overs t u h = within (overs t) (overs u) (sym (overs-append t u) ∙ h)
+
+given-is : (x : Leaf) → overs (given x) ≡ 0 → leaves (given x) ≡ x ∷ []
+unfolding given
+given-is x h = go (leb (length (x .path)) longestPath) refl
+  where
+    go : (b : Bool) → leb (length (x .path)) longestPath ≡ b → leaves (given x) ≡ x ∷ []
+    go true e = rw e refl
+    go false e = let h′ : overs (over ∷ []) ≡ 0 = rw e at h in absurd (omega arith)
+
+grown-is : (path longer : List ℕ) → overs (noted longer) ≡ 0 → grown path longer ≡ longer
+unfolding grown noted
+grown-is path longer h = go (leb (length longer) longestPath) refl
+  where
+    go : (b : Bool) → leb (length longer) longestPath ≡ b → grown path longer ≡ longer
+    go true e = rw e refl
+    go false e = let h′ : overs (over ∷ []) ≡ 0 = rw e at h in absurd (omega arith)
+
+noted-leafless : (longer : List ℕ) → leaves (noted longer) ≡ []
+unfolding noted
+noted-leafless longer = go (leb (length longer) longestPath) refl
+  where
+    go : (b : Bool) → leb (length longer) longestPath ≡ b → leaves (noted longer) ≡ []
+    go true e = rw e refl
+    go false e = rw e refl
+
+-- ---- leaves of a level whose sink gives leaves
+
+module _ (s : Sink) (flat : s .flattens ≡ true) {P : Type 0} (bitsOf : P → Bits) (allowed : Bool → ℕ → P → Type 0)
+    (ofPayload : (path : List ℕ) (handle start : ℕ) → P → List Leaf)
+    (each : (i : ℕ) (path : List ℕ) (first : Bool) (h : ℕ) (x : P) → allowed first h x → (o p : ℕ)
+    → overs (s .field i path first h (windowAt o p (bitsOf x))) ≡ 0 → leaves (s .field i path first h (windowAt o p (bitsOf x))) ≡ ofPayload path h (o + p) x)
+    (rest : leaves (s .leftover 0 ∷ []) ≡ []) (o : ℕ) where
+  item-is : (path : List ℕ) (i : ℕ) → overs (entering s path i) ≡ 0 → inItem s path i ≡ atIndex path i
+  unfolding inItem entering
+  item-is path i h = let h′ : overs (noted (atIndex path i)) ≡ 0 = rw flat at h in rw flat (grown-is path (atIndex path i) h′)
+
+  entering-leafless : (path : List ℕ) (i : ℕ) → leaves (entering s path i) ≡ []
+  unfolding entering
+  entering-leafless path i = rw flat (noted-leafless (atIndex path i))
+
+  fields-leaves : (i : ℕ) (path : List ℕ) (first : Bool) (p : ℕ) (fs : List (Field P)) → FieldsOk bitsOf allowed first fs
+      → overs (fieldsTrace s bitsOf o i path first p fs) ≡ 0 → leaves (fieldsTrace s bitsOf o i path first p fs) ≡ fieldsLeaves bitsOf ofPayload o path p fs
+  unfolding fieldsTrace fieldsLeaves
+  fields-leaves i path first p [] ok h = refl
+  fields-leaves i path first p (f ∷ fs) ok h =
+      let m = p + 8 * f .handle .bytes + 8 * f .width .bytes in
+      let here = s .field i path first (f .handle .value - 1) (windowAt o m (bitsOf (f .payload))) in
+      let later = fieldsTrace s bitsOf o i path (first && eqb (f .width .value) 0) (p + (fieldBits bitsOf f) .size) fs in
+      let parts = split-overs here later h in
+      leaves-append here later
+      ∙ ap₂ (λ (a b : List Leaf). a ++ b) (each i path first (f .handle .value - 1) (f .payload) (ok .0 .content) o m (parts .0))
+      (fields-leaves i path (first && eqb (f .width .value) 0) (p + (fieldBits bitsOf f) .size) fs (ok .1) (parts .1))
+
+  elements-leaves : (count : ℕ) (path : List ℕ) (p : ℕ) (es : List (Element P)) → Each (ElementOk bitsOf allowed count) es
+      → overs (elementsTrace s bitsOf o path p es) ≡ 0 → leaves (elementsTrace s bitsOf o path p es) ≡ elementsLeaves bitsOf ofPayload o path p es
+  unfolding elementsTrace elementsLeaves
+  elements-leaves count path p [] ok h = refl
+  elements-leaves count path p (e ∷ es) ok h =
+      let i = e .index .value - 1 in
+      let q = p + 8 * e .index .bytes in
+      let fs = fieldsTrace s bitsOf o i (inItem s path i) true q (e .fields) in
+      let last : Trace = number (numAt o (q + (fieldsBits bitsOf (e .fields)) .size) (e .close)) ∷ [] in
+      let later = elementsTrace s bitsOf o path (p + (elementBits bitsOf e) .size) es in
+      let h₁ = split-overs (entering s path i ++ (fs ++ last)) later h in
+      let h₂ = split-overs (entering s path i) (fs ++ last) (h₁ .0) in
+      let h₃ = split-overs fs last (h₂ .1) in
+      leaves-append (entering s path i ++ (fs ++ last)) later
+      ∙ ap₂ (λ (a b : List Leaf). a ++ b)
+      (leaves-append (entering s path i) (fs ++ last)
+      ∙ ap (λ (a : List Leaf). a ++ leaves (fs ++ last)) (entering-leafless path i)
+      ∙ leaves-append fs last
+      ∙ append-nil (leaves fs)
+      ∙ fields-leaves i (inItem s path i) true q (e .fields) (ok .0 .fields) (h₃ .0)
+      ∙ ap (λ (l : List ℕ). fieldsLeaves bitsOf ofPayload o l q (e .fields)) (item-is path i (h₂ .0)))
+      (elements-leaves count path (p + (elementBits bitsOf e) .size) es (ok .1) (h₁ .1))
+
+  end-leafless : (t : Bool) (p : ℕ) → leaves (endTrace s bitsOf o t p) ≡ []
+  end-leafless true p = rest
+  end-leafless false p = rest
+
+  array-leaves : (takes : Bool) (path : List ℕ) (a : Array P) → ArrayOk bitsOf allowed takes a → overs (arrayTrace s bitsOf o path a) ≡ 0
+      → leaves (arrayTrace s bitsOf o path a) ≡ arrayLeaves bitsOf ofPayload o path a
+  array-leaves takes path a ok h =
+      let p = 8 * a .count .bytes in
+      let q = p + (elementsBits bitsOf (a .elements)) .size in
+      let es = elementsTrace s bitsOf o path p (a .elements) in
+      let end : Trace = number (numAt o q (a .close)) ∷ endTrace s bitsOf o (a .trailer) (q + 8 * a .close .bytes) in
+      let parts = split-overs es end h in
+      leaves-append es end
+      ∙ ap₂ (λ (x y : List Leaf). x ++ y) (elements-leaves (a .count .value) path p (a .elements) (ok .elements) (parts .0)) (end-leafless (a .trailer) (q + 8 * a .close .bytes))
+      ∙ append-nil (arrayLeaves bitsOf ofPayload o path a)
+
+-- ---- the struct walk
+
+plain-given : (t : Tables) (lvl : ℕ) (into : ℕ → List ℕ → List ℕ → ℕ → Window → Trace) (path : List ℕ) (h : ℕ) (b : Bits) (o p : ℕ) (c : Child) → PlainOk b c
+    → overs (onChild t lvl into path h (windowAt o p b) c) ≡ 0 → leaves (onChild t lvl into path h (windowAt o p b) c) ≡ plainLeaves t lvl path h (o + p) b c
+plain-given t lvl into path h b o p Child.Leaf ok e = given-is (leafOf (dot path (labelBytes t h (leafLabel t lvl h))) h (windowAt o p b)) e
+plain-given t lvl into path h b o p (Child.Array below) (G.empty z) e = rw (eq-eqb (b .size) 0 z) refl
+
+nested-given : (deeper : ℕ) (t : Tables) (takes : Bool) (lvl : ℕ) (a : Array (G.Content deeper)) (path : List ℕ) (h o p : ℕ)
+    → Below (arrayBits (contentBits deeper) a)
+    → ((below : ℕ) → StructArray deeper (t .rows) takes below a → (v : Window) → Span v 0 (v .size) (arrayBits (contentBits deeper) a) → (place : List ℕ)
+    → overs (level (structSink deeper t takes nested below) v place) ≡ 0
+    → leaves (level (structSink deeper t takes nested below) v place) ≡ structLeaves deeper t below (v .origin) place a)
+    → (c : Child) → NestedOk ((arrayBits (contentBits deeper) a) .size) (λ below. StructArray deeper (t .rows) takes below a) c
+    → overs (onChild t lvl (λ below path longer handle w. noted longer ++ level (structSink deeper t takes nested below) w (grown path longer)) path h
+    (windowAt o p (arrayBits (contentBits deeper) a)) c) ≡ 0
+    → leaves (onChild t lvl (λ below path longer handle w. noted longer ++ level (structSink deeper t takes nested below) w (grown path longer)) path h
+    (windowAt o p (arrayBits (contentBits deeper) a)) c)
+    ≡ nestedLeaves (λ below longer. structLeaves deeper t below (o + p) longer a) t lvl path h c
+nested-given deeper t takes lvl a path h o p b inside (Child.Array below) (array some inner) e =
+    let v = windowAt o p (arrayBits (contentBits deeper) a) in
+    let longer = dot path (labelBytes t h (containerLabel t lvl h)) in
+    let k = ne-eqb ((arrayBits (contentBits deeper) a) .size) 0 (λ z. omega arith) in
+    let tr = level (structSink deeper t takes nested below) v (grown path longer) in
+    let e′ : overs (noted longer ++ tr) ≡ 0 = rw k at e in
+    let parts = split-overs (noted longer) tr e′ in
+    rw k
+    (leaves-append (noted longer) tr
+    ∙ ap (λ (l : List Leaf). l ++ leaves tr) (noted-leafless longer)
+    ∙ inside below inner v (whole-span v (arrayBits (contentBits deeper) a) b refl) (grown path longer) (parts .1)
+    ∙ ap (λ (q : List ℕ). structLeaves deeper t below (o + p) q a) (grown-is path longer (parts .0)))
+
+-- Where no path is too long, the leaves of the walk are those of the struct array.
+pub struct-leaves : (deeper : ℕ) (t : Tables) (takes : Bool) (leftover : ℕ → Event) (lvl : ℕ) → leaves (leftover 0 ∷ []) ≡ [] → (a : Array (G.Content deeper))
+    → StructArray deeper (t .rows) takes lvl a → (w : Window) → Span w 0 (w .size) (arrayBits (contentBits deeper) a) → (path : List ℕ)
+    → overs (level (structSink deeper t takes leftover lvl) w path) ≡ 0
+    → leaves (level (structSink deeper t takes leftover lvl) w path) ≡ structLeaves deeper t lvl (w .origin) path a
+unfolding structSink
+struct-leaves zero t takes leftover lvl rest a ok w sp path h =
+    let s = structSink zero t takes leftover lvl in
+    let walked = level-walked (contentBits zero) (λ f k x. allowedIn zero (t .rows) takes lvl f k x) (λ f k x y. allowed-below zero (t .rows) takes lvl f k x y) s w path a ok sp in
+    ap leaves walked
+    ∙ array-leaves s refl (contentBits zero) (λ f k x. allowedIn zero (t .rows) takes lvl f k x) (λ q k n x. contentLeaves zero t lvl q k n x) each rest (w .origin) takes path a ok
+    (ap overs (sym walked) ∙ h)
+  where
+    each : (i : ℕ) (path : List ℕ) (first : Bool) (h : ℕ) (x : G.Content zero) → allowedIn zero (t .rows) takes lvl first h x → (o p : ℕ)
+        → overs ((structSink zero t takes leftover lvl) .field i path first h (windowAt o p (contentBits zero x))) ≡ 0
+        → leaves ((structSink zero t takes leftover lvl) .field i path first h (windowAt o p (contentBits zero x))) ≡ contentLeaves zero t lvl path h (o + p) x
+    each i path first h (plain b) y o p e = plain-given t lvl tooDeep path h b o p (child (t .rows) lvl h) (y .1) e
+    each i path first h (G.nested z) y o p e = absurd y
+struct-leaves (suc deeper) t takes leftover lvl rest a ok w sp path h =
+    let s = structSink (suc deeper) t takes leftover lvl in
+    let walked = level-walked (contentBits (suc deeper)) (λ f k x. allowedIn (suc deeper) (t .rows) takes lvl f k x) (λ f k x y. allowed-below (suc deeper) (t .rows) takes lvl f k x y) s w
+    path a ok sp in
+    ap leaves walked
+    ∙ array-leaves s refl (contentBits (suc deeper)) (λ f k x. allowedIn (suc deeper) (t .rows) takes lvl f k x) (λ q k n x. contentLeaves (suc deeper) t lvl q k n x)
+    (each (λ below x y v z place u. struct-leaves deeper t takes nested below refl x y v z place u)) rest (w .origin) takes path a ok (ap overs (sym walked) ∙ h)
+  where
+    Inside : Type 0
+    Inside = (below : ℕ) (x : Array (G.Content deeper)) → StructArray deeper (t .rows) takes below x → (v : Window)
+        → Span v 0 (v .size) (arrayBits (contentBits deeper) x) → (place : List ℕ) → overs (level (structSink deeper t takes nested below) v place) ≡ 0
+        → leaves (level (structSink deeper t takes nested below) v place) ≡ structLeaves deeper t below (v .origin) place x
+
+    each : Inside → (i : ℕ) (path : List ℕ) (first : Bool) (h : ℕ) (x : G.Content (suc deeper)) → allowedIn (suc deeper) (t .rows) takes lvl first h x → (o p : ℕ)
+        → overs ((structSink (suc deeper) t takes leftover lvl) .field i path first h (windowAt o p (contentBits (suc deeper) x))) ≡ 0
+        → leaves ((structSink (suc deeper) t takes leftover lvl) .field i path first h (windowAt o p (contentBits (suc deeper) x))) ≡ contentLeaves (suc deeper) t lvl path h (o + p) x
+    each inside i path first h (plain b) y o p e =
+        plain-given t lvl (λ below path longer handle w. noted longer ++ level (structSink deeper t takes nested below) w (grown path longer)) path h b o p (child (t .rows) lvl h) (y .1) e
+    each inside i path first h (G.nested z) y o p e =
+        nested-given deeper t takes lvl z path h o p (allowed-below (suc deeper) (t .rows) takes lvl first h (G.nested z) y)
+        (λ below u v q place r. inside below z u v q place r) (child (t .rows) lvl h) y e
+
+-- ---- how many elements
+
+abbrev entered : Trace → ℕ
+entered t = (counters t) .elements
+
+entered-append : (t u : Trace) → entered (t ++ u) ≡ entered t + entered u
+entered-append t u = ap (λ c. c .elements) (counters-append t u)
+
+module _ (s : Sink) {P : Type 0} (bitsOf : P → Bits) (allowed : Bool → ℕ → P → Type 0) (ofPayload : P → ℕ)
+    (each : (i : ℕ) (path : List ℕ) (first : Bool) (h : ℕ) (x : P) → allowed first h x → (o p : ℕ) → entered (s .field i path first h (windowAt o p (bitsOf x))) ≡ ofPayload x)
+    (enter : (path : List ℕ) (i : ℕ) → entered (entering s path i) ≡ 0) (rest : entered (s .leftover 0 ∷ []) ≡ 0) (o : ℕ) where
+  fields-count : (i : ℕ) (path : List ℕ) (first : Bool) (p : ℕ) (fs : List (Field P)) → FieldsOk bitsOf allowed first fs
+      → entered (fieldsTrace s bitsOf o i path first p fs) ≡ fieldsCount ofPayload fs
+  unfolding fieldsTrace fieldsCount
+  fields-count i path first p [] ok = refl
+  fields-count i path first p (f ∷ fs) ok =
+      let m = p + 8 * f .handle .bytes + 8 * f .width .bytes in
+      let here = s .field i path first (f .handle .value - 1) (windowAt o m (bitsOf (f .payload))) in
+      let later = fieldsTrace s bitsOf o i path (first && eqb (f .width .value) 0) (p + (fieldBits bitsOf f) .size) fs in
+      let a = entered-append here later in
+      let b = each i path first (f .handle .value - 1) (f .payload) (ok .0 .content) o m in
+      let c = fields-count i path (first && eqb (f .width .value) 0) (p + (fieldBits bitsOf f) .size) fs (ok .1) in
+      omega arith
+
+  elements-count : (count : ℕ) (path : List ℕ) (p : ℕ) (es : List (Element P)) → Each (ElementOk bitsOf allowed count) es
+      → entered (elementsTrace s bitsOf o path p es) ≡ elementsCount ofPayload es
+  unfolding elementsTrace elementsCount
+  elements-count count path p [] ok = refl
+  elements-count count path p (e ∷ es) ok =
+      let i = e .index .value - 1 in
+      let q = p + 8 * e .index .bytes in
+      let fs = fieldsTrace s bitsOf o i (inItem s path i) true q (e .fields) in
+      let last : Trace = number (numAt o (q + (fieldsBits bitsOf (e .fields)) .size) (e .close)) ∷ [] in
+      let later = elementsTrace s bitsOf o path (p + (elementBits bitsOf e) .size) es in
+      let a = entered-append (entering s path i ++ (fs ++ last)) later in
+      let b = entered-append (entering s path i) (fs ++ last) in
+      let c = entered-append fs last in
+      let d = enter path i in
+      let f = fields-count i (inItem s path i) true q (e .fields) (ok .0 .fields) in
+      let g = elements-count count path (p + (elementBits bitsOf e) .size) es (ok .1) in
+      omega arith
+
+  end-count : (t : Bool) (p : ℕ) → entered (endTrace s bitsOf o t p) ≡ 0
+  end-count true p = let z = rest in omega arith
+  end-count false p = rest
+
+  array-count : (takes : Bool) (path : List ℕ) (a : Array P) → ArrayOk bitsOf allowed takes a → entered (arrayTrace s bitsOf o path a) ≡ arrayCount ofPayload a
+  array-count takes path a ok =
+      let p = 8 * a .count .bytes in
+      let q = p + (elementsBits bitsOf (a .elements)) .size in
+      let es = elementsTrace s bitsOf o path p (a .elements) in
+      let end = endTrace s bitsOf o (a .trailer) (q + 8 * a .close .bytes) in
+      let x = entered-append es (number (numAt o q (a .close)) ∷ end) in
+      let y = elements-count (a .count .value) path p (a .elements) (ok .elements) in
+      let z = end-count (a .trailer) (q + 8 * a .close .bytes) in
+      omega arith

@@ -1,0 +1,8 @@
+pub mod RowLaws
+pub mod SpanLaws
+pub mod LayoutLaws
+pub mod LabelLaws
+pub mod DecimalLaws
+pub mod LaidLaws
+pub mod CopyLaws
+pub mod TwelveLaws

@@ -1,0 +1,18 @@
+-- Decimals: a number's digits as ASCII.
+use Prim.Native.Nat.{ℕ, zero, suc, _+_, _-_, _/_, _%_, _^_, min}
+use mathlib.Core.List.{List, [], _∷_, _++_}
+use lib.Dec.{ltb}
+use Rattle.bits.specs.Choice.{if_then_else_}
+
+-- `more` digits may stand before the last one
+unfoldable pub digits : (more n : ℕ) → List ℕ
+digits zero n = (48 + n) ∷ []
+digits (suc more) n = if ltb n 10 then (48 + n) ∷ [] else digits more (n / 10) ++ ((48 + n % 10) ∷ [])
+
+-- the digits of a u32, which has at most ten
+unfoldable pub decimal : ℕ → List ℕ
+decimal n = digits 9 n
+
+-- the place after n bytes, or the largest usize where that is less
+abbrev pub placeAfter : (at n : ℕ) → ℕ
+placeAfter at n = min (at + n) (2 ^ 64 - 1)

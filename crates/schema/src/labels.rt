@@ -1,0 +1,104 @@
+// Labels: a leaf takes the declared name, else the schema's, else `_h` and the handle; a container never takes the declared
+// one.
+ghost use mathlib.Core.Path.{_≡_};
+ghost use mathlib.Core.List.{[]};
+ghost use Rattle.schema.specs.Tables.{lookUps, declaredName};
+ghost use Rattle.schema.specs.Labels.{bySchema, byDeclaration, containerLabel, leafLabel, labelLength, part, labelPart};
+use crate::Entry;
+use crate::Label;
+use crate::Name;
+use crate::decimal::decimal_length;
+use crate::lookup::declared_name;
+use crate::lookup::name_of;
+
+// The label that the schema's name gives.
+fn by_schema(name: Name) -> Label
+    ensures { λ r. ⌜ r ≡ bySchema name ⌝ }
+{
+    match name {
+        Name::At(start, len) => Label::Named(start, len),
+        Name::Unnamed => Label::Plain,
+    }
+}
+
+// The declared name's label, else the other.
+fn by_declaration(name: Name, other: Label) -> Label
+    ensures { λ r. ⌜ r ≡ byDeclaration name other ⌝ }
+{
+    match name {
+        Name::At(start, len) => Label::Declared(start, len),
+        Name::Unnamed => other,
+    }
+}
+
+// The label of a container whose entry is known.
+pub fn container_label_from(entry: Entry) -> Label
+    ensures { λ r. ⌜ r ≡ bySchema (entry .name) ⌝ }
+{
+    let name = entry.name;
+    by_schema(name)
+}
+
+// The label of a leaf whose entry is known.
+pub fn leaf_label_from(entry: Entry, declared: &[u32], handle: u32) -> Label
+    ensures { λ r. ⌜ r ≡ byDeclaration (declaredName (now (declared .entry)) handle) (bySchema (entry .name)) ⌝ }
+{
+    let name = entry.name;
+    let other = by_schema(name);
+    let own = declared_name(declared, handle);
+    by_declaration(own, other)
+}
+
+// A container's label.
+pub fn container_label(rows: &[u32], level: u32, handle: u32) -> Label
+    ensures { λ r. ⌜ r ≡ containerLabel (lookUps (now (rows .entry)) []) level handle ⌝ }
+{
+    let name = name_of(rows, level, handle);
+    by_schema(name)
+}
+
+// A leaf's label.
+pub fn label_of(rows: &[u32], declared: &[u32], level: u32, handle: u32) -> Label
+    ensures { λ r. ⌜ r ≡ leafLabel (lookUps (now (rows .entry)) (now (declared .entry))) level handle ⌝ }
+{
+    let other = container_label(rows, level, handle);
+    let own = declared_name(declared, handle);
+    by_declaration(own, other)
+}
+
+// How many bytes a label has.
+pub fn label_length(label: Label, handle: u32) -> usize
+    ensures { λ r. ⌜ r ≡ labelLength handle label ⌝ }
+{
+    match label {
+        Label::Declared(_, len) => len as usize,
+        Label::Named(_, len) => len as usize,
+        Label::Plain => {
+            let digits = decimal_length(handle);
+            2 + digits
+        }
+    }
+}
+
+// The part of a pool from start, len bytes long; none where it does not lie in the pool.
+fn part_of<'a>(pool: &'a [u8], start: u32, len: u32) -> &'a [u8]
+    ensures { λ r. ⌜ now r ≡ part (now (pool .entry)) start len ⌝ }
+{
+    let a = start as usize;
+    let e = a + (len as usize);
+    if pool.len() < e {
+        return &pool[0..0];
+    }
+    &pool[a..e]
+}
+
+// The part of the one pool or the other that a label names; none for a plain label, and where it does not lie in its pool.
+pub fn label_part<'a>(declared_pool: &'a [u8], schema_pool: &'a [u8], label: Label) -> &'a [u8]
+    ensures { λ r. ⌜ now r ≡ labelPart (now («declared_pool» .entry)) (now («schema_pool» .entry)) label ⌝ }
+{
+    match label {
+        Label::Declared(start, len) => part_of(declared_pool, start, len),
+        Label::Named(start, len) => part_of(schema_pool, start, len),
+        Label::Plain => &schema_pool[0..0],
+    }
+}

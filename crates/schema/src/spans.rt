@@ -1,0 +1,111 @@
+// Look-ups in the rows of one level: the walkers look up once for each field.
+ghost use mathlib.Core.Path.{_≡_};
+ghost use Prim.Native.Nat.{_+_, _-_, _*_, _^_, _≤_, _<_};
+ghost use lib.Dec.{eqb};
+ghost use lib.ListN.{length};
+ghost use Rattle.schema.specs.Tables.{rowSize, fits, arrayKind, nameKind};
+ghost use Rattle.schema.specs.Spans.{place, widened, spansOf, entryIn, entryAt};
+use crate::ARRAY_KIND;
+use crate::Child;
+use crate::Entry;
+use crate::NAME_KIND;
+use crate::Name;
+use crate::ROW_SIZE;
+use crate::lookup::cell_at;
+use crate::lookup::clipped;
+
+// A kind that no row has.
+const NO_KIND: u32 = 2;
+
+// Where the span of the levels from 64 on stands.
+const SHARED: usize = 128;
+
+// Where the span of a level stands.
+fn place_of(level: u32) -> usize
+    ensures { λ r. ⌜ (r ≡ place level) × (r ≤ 128) ⌝ }
+{
+    if level < 64 {
+        2 * (level as usize)
+    } else {
+        SHARED
+    }
+}
+
+// Row i of a level widens its span.
+fn widen(spans: &mut [usize; 130], level: u32, i: usize)
+    requires { ⌜ i < 2 ^ 64 - 1 ⌝ }
+    ensures { λ _. ⌜ now (spans .exit) ≡ widened (now (spans .entry)) level i ⌝ }
+{
+    let at = place_of(level);
+    let next = i + 1;
+    if spans[at + 1] == 0 {
+        spans[at] = i;
+        spans[at + 1] = next;
+        return;
+    }
+    spans[at + 1] = next;
+}
+
+// The span of each level.
+pub fn level_spans(rows: &[u32]) -> [usize; 130]
+    ensures { λ r. ⌜ r ≡ spansOf (now (rows .entry)) ⌝ }
+{
+    let mut spans = [0usize; 130];
+    let n = rows.len() / ROW_SIZE;
+    let mut i: usize = 0;
+    while i < n {
+        let level = cell_at(rows, i, 0);
+        widen(&mut spans, level, i);
+        i += 1;
+    }
+    spans
+}
+
+// The kind of row i where its level and handle are these; else none.
+fn kind_at(rows: &[u32], i: usize, level: u32, handle: u32) -> u32
+    requires { ⌜ rowSize * i + rowSize ≤ length (now rows) ⌝ }
+    ensures { λ r. ⌜ (eqb r arrayKind ≡ fits (now (rows .entry)) level arrayKind handle i) × (eqb r nameKind ≡ fits (now (rows .entry)) level nameKind handle i) ⌝ }
+{
+    if cell_at(rows, i, 2) != handle {
+        return NO_KIND;
+    }
+    if cell_at(rows, i, 0) != level {
+        return NO_KIND;
+    }
+    cell_at(rows, i, 1)
+}
+
+// What the rows from first to before last say of a handle of a level. From the last row to the first, so that the first
+// that fits stays.
+pub fn entry_in(rows: &[u32], first: usize, last: usize, level: u32, handle: u32) -> Entry
+    ensures { λ r. ⌜ r ≡ entryIn (now (rows .entry)) first last level handle ⌝ }
+{
+    let mut child = Child::Leaf;
+    let mut name = Name::Unnamed;
+    let end = clipped(rows, last);
+    let mut i = end;
+    while first < i {
+        i -= 1;
+        let kind = kind_at(rows, i, level, handle);
+        if kind == ARRAY_KIND {
+            let below = cell_at(rows, i, 3);
+            child = Child::Array(below);
+        }
+        if kind == NAME_KIND {
+            let start = cell_at(rows, i, 3);
+            let len = cell_at(rows, i, 4);
+            name = Name::At(start, len);
+        }
+    }
+    Entry { child, name }
+}
+
+// What the rows of a level's span say of a handle.
+pub fn entry_of(rows: &[u32], spans: &[usize; 130], level: u32, handle: u32) -> Entry
+    ensures { λ r. ⌜ r ≡ entryAt (now (rows .entry)) (now (spans .entry)) level handle ⌝ }
+{
+    let at = place_of(level);
+    let first = spans[at];
+    let last = spans[at + 1];
+    entry_in(rows, first, last, level, handle)
+}
