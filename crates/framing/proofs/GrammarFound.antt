@@ -15,7 +15,8 @@ use Rattle.framing.specs.Windows.{Window, part, Reading, got, failed, re
 use Rattle.framing.specs.Events.{Number, numbers, Event, number, element, truncation, error, implicit, Trace}
 use Rattle.framing.specs.Counters.{counters, faults}
 use Rattle.framing.specs.Walk.{maxElements, maxFields, trailerBits, Sink, numberAt, Lead, ends, fails, closes, opens, lead, Due, cut, broken, closed, present, fieldAt, tail, Run, done, stopped, prepend, onField, onLastField, fields, trailerOf, closing, inItem, entering, behind, onIndex, onLastIndex, elements, onCount, level}
-use Rattle.framing.specs.Grammar.{Bits, noBits, _then_, Num, numBits, IsNum, Field, Element, Array, fieldBits, fieldsBits, elementBits, elementsBits, trailing, arrayBits, Each, FieldOk, FieldsOk, ElementOk, ArrayOk}
+use Rattle.framing.specs.Grammar.{Bits, noBits, _then_, Num, numBits, IsNum, Field, Element, Array, fieldBits, fieldsBits, elementBits, elementsBits, trailing, arrayBits}
+use Rattle.framing.specs.GrammarRules.{Each, FieldOk, FieldsOk, ElementOk, ArrayOk}
 use Rattle.framing.proofs.TraceLaws.{counters-append}
 use Rattle.framing.proofs.Demand3.{and-true, zero-byte}
 use Rattle.framing.proofs.GrammarBits.{Span, Below, span-none, span-join, read-num}

@@ -19,14 +19,15 @@ use Rattle.framing.specs.Counters.{counters}
 use Rattle.framing.specs.Paths.{longestPath, grown, noted, given}
 use Rattle.framing.specs.Walk.{Sink, inItem, entering, level}
 use Rattle.framing.specs.Sinks.{leafOf, onChild, structSink, tooDeep, objectSink}
-use Rattle.framing.specs.Grammar.{Bits, Num, numBits, IsNum, Field, Element, Array, fieldBits, fieldsBits, elementBits, elementsBits, arrayBits, Each, FieldOk, FieldsOk, ElementOk, ArrayOk, plain, contentBits, PlainOk, NestedOk, array, allowedIn, StructArray, Reference, absent, guid, referenceBits, referenceIn, ObjectArray}
-use Rattle.framing.specs.Grammar as G
+use Rattle.framing.specs.Grammar.{Bits, Num, numBits, IsNum, Field, Element, Array, fieldBits, fieldsBits, elementBits, elementsBits, arrayBits}
+use Rattle.framing.specs.GrammarRules.{Each, FieldOk, FieldsOk, ElementOk, ArrayOk, plain, contentBits, PlainOk, NestedOk, array, allowedIn, StructArray, Reference, absent, guid, referenceBits, referenceIn, ObjectArray}
+use Rattle.framing.specs.GrammarRules as G
 use Rattle.framing.specs.GrammarGives.{fieldsLeaves, elementsLeaves, arrayLeaves, plainLeaves, nestedLeaves, contentLeaves, structLeaves, referencePairs, fieldsPairs, elementsPairs, objectPairs, fieldsCount, elementsCount, arrayCount, contentCount}
 use Rattle.framing.proofs.TraceLaws.{leaves-append, pairs-append, overs-append, counters-append}
 use Rattle.framing.proofs.GrammarBits.{Span, Below}
 use Rattle.framing.proofs.GrammarWalked.{numAt, windowAt, fieldsTrace, bodyTrace, elementsTrace, endTrace, arrayTrace, level-walked}
 use Rattle.framing.proofs.GrammarStruct.{whole-span, allowed-below}
-use Rattle.framing.proofs.GrammarObject.{reference-below, guid-field, absent-field}
+use Rattle.framing.proofs.GrammarObject.{reference-below, guid-field, absent-field, object-walked}
 
 -- ---- paths that are not too long are what they are
 
@@ -254,3 +255,161 @@ module _ (s : Sink) {P : Type 0} (bitsOf : P → Bits) (allowed : Bool → ℕ �
       let y = elements-count (a .count .value) path p (a .elements) (ok .elements) in
       let z = end-count (a .trailer) (q + 8 * a .close .bytes) in
       omega arith
+
+-- what a path or a leaf enters: nothing
+noted-enters : (longer : List ℕ) → entered (noted longer) ≡ 0
+unfolding noted
+noted-enters longer = go (leb (length longer) longestPath) refl
+  where
+    go : (b : Bool) → leb (length longer) longestPath ≡ b → entered (noted longer) ≡ 0
+    go true e = rw e refl
+    go false e = rw e refl
+
+given-enters : (x : Leaf) → entered (given x) ≡ 0
+unfolding given
+given-enters x = go (leb (length (x .path)) longestPath) refl
+  where
+    go : (b : Bool) → leb (length (x .path)) longestPath ≡ b → entered (given x) ≡ 0
+    go true e = rw e refl
+    go false e = rw e refl
+
+entering-enters : (s : Sink) (path : List ℕ) (i : ℕ) → entered (entering s path i) ≡ 0
+unfolding entering
+entering-enters s path i = go (s .flattens) refl
+  where
+    go : (b : Bool) → s .flattens ≡ b → entered (entering s path i) ≡ 0
+    go true e = rw e (noted-enters (atIndex path i))
+    go false e = rw e refl
+
+plain-count : (t : Tables) (lvl : ℕ) (into : ℕ → List ℕ → List ℕ → ℕ → Window → Trace) (path : List ℕ) (h : ℕ) (b : Bits) (o p : ℕ) (c : Child) → PlainOk b c
+    → entered (onChild t lvl into path h (windowAt o p b) c) ≡ 0
+plain-count t lvl into path h b o p Child.Leaf ok = given-enters _
+plain-count t lvl into path h b o p (Child.Array below) (G.empty z) = rw (eq-eqb (b .size) 0 z) refl
+
+nested-count : (deeper : ℕ) (t : Tables) (takes : Bool) (lvl : ℕ) (a : Array (G.Content deeper)) (path : List ℕ) (h o p : ℕ)
+    → Below (arrayBits (contentBits deeper) a)
+    → ((below : ℕ) → StructArray deeper (t .rows) takes below a → (v : Window) → Span v 0 (v .size) (arrayBits (contentBits deeper) a) → (place : List ℕ)
+    → entered (level (structSink deeper t takes nested below) v place) ≡ arrayCount (contentCount deeper) a)
+    → (c : Child) → NestedOk ((arrayBits (contentBits deeper) a) .size) (λ below. StructArray deeper (t .rows) takes below a) c
+    → entered (onChild t lvl (λ below path longer handle w. noted longer ++ level (structSink deeper t takes nested below) w (grown path longer)) path h
+    (windowAt o p (arrayBits (contentBits deeper) a)) c)
+    ≡ arrayCount (contentCount deeper) a
+nested-count deeper t takes lvl a path h o p b inside (Child.Array below) (array some inner) =
+    let v = windowAt o p (arrayBits (contentBits deeper) a) in
+    let longer = dot path (labelBytes t h (containerLabel t lvl h)) in
+    let tr = level (structSink deeper t takes nested below) v (grown path longer) in
+    let x = entered-append (noted longer) tr in
+    let y = noted-enters longer in
+    let z = inside below inner v (whole-span v (arrayBits (contentBits deeper) a) b refl) (grown path longer) in
+    rw (ne-eqb ((arrayBits (contentBits deeper) a) .size) 0 (λ z. omega arith)) (omega arith)
+
+-- The elements that the walk enters are those of the struct array.
+pub struct-elements : (deeper : ℕ) (t : Tables) (takes : Bool) (leftover : ℕ → Event) (lvl : ℕ) → entered (leftover 0 ∷ []) ≡ 0 → (a : Array (G.Content deeper))
+    → StructArray deeper (t .rows) takes lvl a → (w : Window) → Span w 0 (w .size) (arrayBits (contentBits deeper) a) → (path : List ℕ)
+    → entered (level (structSink deeper t takes leftover lvl) w path) ≡ arrayCount (contentCount deeper) a
+unfolding structSink
+struct-elements zero t takes leftover lvl rest a ok w sp path =
+    let s = structSink zero t takes leftover lvl in
+    ap entered (level-walked (contentBits zero) (λ f k x. allowedIn zero (t .rows) takes lvl f k x) (λ f k x y. allowed-below zero (t .rows) takes lvl f k x y) s w path a ok sp)
+    ∙ array-count s (contentBits zero) (λ f k x. allowedIn zero (t .rows) takes lvl f k x) (contentCount zero) each (λ q i. entering-enters s q i) rest (w .origin) takes path a ok
+  where
+    each : (i : ℕ) (path : List ℕ) (first : Bool) (h : ℕ) (x : G.Content zero) → allowedIn zero (t .rows) takes lvl first h x → (o p : ℕ)
+        → entered ((structSink zero t takes leftover lvl) .field i path first h (windowAt o p (contentBits zero x))) ≡ contentCount zero x
+    each i path first h (plain b) y o p = plain-count t lvl tooDeep path h b o p (child (t .rows) lvl h) (y .1)
+    each i path first h (G.nested z) y o p = absurd y
+struct-elements (suc deeper) t takes leftover lvl rest a ok w sp path =
+    let s = structSink (suc deeper) t takes leftover lvl in
+    ap entered
+    (level-walked (contentBits (suc deeper)) (λ f k x. allowedIn (suc deeper) (t .rows) takes lvl f k x) (λ f k x y. allowed-below (suc deeper) (t .rows) takes lvl f k x y) s w path a ok
+    sp)
+    ∙ array-count s (contentBits (suc deeper)) (λ f k x. allowedIn (suc deeper) (t .rows) takes lvl f k x) (contentCount (suc deeper))
+    (each (λ below x y v z place. struct-elements deeper t takes nested below refl x y v z place)) (λ q i. entering-enters s q i) rest (w .origin) takes path a ok
+  where
+    Inside : Type 0
+    Inside = (below : ℕ) (x : Array (G.Content deeper)) → StructArray deeper (t .rows) takes below x → (v : Window)
+        → Span v 0 (v .size) (arrayBits (contentBits deeper) x) → (place : List ℕ)
+        → entered (level (structSink deeper t takes nested below) v place) ≡ arrayCount (contentCount deeper) x
+
+    each : Inside → (i : ℕ) (path : List ℕ) (first : Bool) (h : ℕ) (x : G.Content (suc deeper)) → allowedIn (suc deeper) (t .rows) takes lvl first h x → (o p : ℕ)
+        → entered ((structSink (suc deeper) t takes leftover lvl) .field i path first h (windowAt o p (contentBits (suc deeper) x))) ≡ contentCount (suc deeper) x
+    each inside i path first h (plain b) y o p =
+        plain-count t lvl (λ below path longer handle w. noted longer ++ level (structSink deeper t takes nested below) w (grown path longer)) path h b o p (child (t .rows) lvl h) (y .1)
+    each inside i path first h (G.nested z) y o p =
+        nested-count deeper t takes lvl z path h o p (allowed-below (suc deeper) (t .rows) takes lvl first h (G.nested z) y)
+        (λ below u v q place. inside below z u v q place) (child (t .rows) lvl h) y
+
+-- ---- the object walk
+
+reference-pairs : (i : ℕ) (path : List ℕ) (first : Bool) (h : ℕ) (x : Reference) → referenceIn first h x → (o p : ℕ)
+    → pairs (objectSink .field i path first h (windowAt o p (referenceBits x))) ≡ referencePairs i x
+reference-pairs i path first h absent ok o p = ap pairs (absent-field i h path first o p)
+reference-pairs i path first h (guid n) ok o p =
+    ap (λ (f : Bool). pairs (objectSink .field i path f h (windowAt o p (numBits n)))) (ok .0) ∙ ap pairs (guid-field i h path n (ok .1) o p)
+
+reference-enters : (i : ℕ) (path : List ℕ) (first : Bool) (h : ℕ) (x : Reference) → referenceIn first h x → (o p : ℕ)
+    → entered (objectSink .field i path first h (windowAt o p (referenceBits x))) ≡ 0
+reference-enters i path first h absent ok o p = ap entered (absent-field i h path first o p)
+reference-enters i path first h (guid n) ok o p =
+    ap (λ (f : Bool). entered (objectSink .field i path f h (windowAt o p (numBits n)))) (ok .0) ∙ ap entered (guid-field i h path n (ok .1) o p)
+
+no-path : (path : List ℕ) (i : ℕ) → pairs (entering objectSink path i) ≡ []
+unfolding entering objectSink
+no-path path i = refl
+
+fields-pairs : (o i : ℕ) (path : List ℕ) (first : Bool) (p : ℕ) (fs : List (Field Reference)) → FieldsOk referenceBits referenceIn first fs
+    → pairs (fieldsTrace objectSink referenceBits o i path first p fs) ≡ fieldsPairs i fs
+unfolding fieldsTrace fieldsPairs
+fields-pairs o i path first p [] ok = refl
+fields-pairs o i path first p (f ∷ fs) ok =
+    let m = p + 8 * f .handle .bytes + 8 * f .width .bytes in
+    let here = objectSink .field i path first (f .handle .value - 1) (windowAt o m (referenceBits (f .payload))) in
+    let later = fieldsTrace objectSink referenceBits o i path (first && eqb (f .width .value) 0) (p + (fieldBits referenceBits f) .size) fs in
+    pairs-append here later
+    ∙ ap₂ (λ (a b : List Pair). a ++ b) (reference-pairs i path first (f .handle .value - 1) (f .payload) (ok .0 .content) o m)
+    (fields-pairs o i path (first && eqb (f .width .value) 0) (p + (fieldBits referenceBits f) .size) fs (ok .1))
+
+elements-pairs : (o count : ℕ) (path : List ℕ) (p : ℕ) (es : List (Element Reference)) → Each (ElementOk referenceBits referenceIn count) es
+    → pairs (elementsTrace objectSink referenceBits o path p es) ≡ elementsPairs es
+unfolding elementsTrace elementsPairs
+elements-pairs o count path p [] ok = refl
+elements-pairs o count path p (e ∷ es) ok =
+    let i = e .index .value - 1 in
+    let q = p + 8 * e .index .bytes in
+    let fs = fieldsTrace objectSink referenceBits o i (inItem objectSink path i) true q (e .fields) in
+    let last : Trace = number (numAt o (q + (fieldsBits referenceBits (e .fields)) .size) (e .close)) ∷ [] in
+    let later = elementsTrace objectSink referenceBits o path (p + (elementBits referenceBits e) .size) es in
+    pairs-append (entering objectSink path i ++ (fs ++ last)) later
+    ∙ ap₂ (λ (a b : List Pair). a ++ b)
+    (pairs-append (entering objectSink path i) (fs ++ last)
+    ∙ ap (λ (a : List Pair). a ++ pairs (fs ++ last)) (no-path path i)
+    ∙ pairs-append fs last
+    ∙ append-nil (pairs fs)
+    ∙ fields-pairs o i (inItem objectSink path i) true q (e .fields) (ok .0 .fields))
+    (elements-pairs o count path (p + (elementBits referenceBits e) .size) es (ok .1))
+
+end-pairless : (o : ℕ) (t : Bool) (p : ℕ) → pairs (endTrace objectSink referenceBits o t p) ≡ []
+unfolding objectSink
+end-pairless o true p = refl
+end-pairless o false p = refl
+
+-- The pairs of the object walk are those of the object array.
+pub object-pairs : (a : Array Reference) → ObjectArray a → (w : Window) → Span w 0 (w .size) (arrayBits referenceBits a) → (path : List ℕ)
+    → pairs (level objectSink w path) ≡ objectPairs a
+object-pairs a ok w sp path =
+    let o = w .origin in
+    let p = 8 * a .count .bytes in
+    let q = p + (elementsBits referenceBits (a .elements)) .size in
+    let es = elementsTrace objectSink referenceBits o path p (a .elements) in
+    let end = endTrace objectSink referenceBits o (a .trailer) (q + 8 * a .close .bytes) in
+    ap pairs (object-walked a ok w sp path)
+    ∙ pairs-append es (number (numAt o q (a .close)) ∷ end)
+    ∙ ap₂ (λ (x y : List Pair). x ++ y) (elements-pairs o (a .count .value) path p (a .elements) (ok .elements)) (end-pairless o (a .trailer) (q + 8 * a .close .bytes))
+    ∙ append-nil (objectPairs a)
+
+-- and its elements too
+pub object-elements : (a : Array Reference) → ObjectArray a → (w : Window) → Span w 0 (w .size) (arrayBits referenceBits a) → (path : List ℕ)
+    → entered (level objectSink w path) ≡ arrayCount (λ x. 0) a
+unfolding objectSink
+object-elements a ok w sp path =
+    ap entered (object-walked a ok w sp path)
+    ∙ array-count objectSink referenceBits referenceIn (λ x. 0) reference-enters (λ q i. entering-enters objectSink q i) refl (w .origin) true path a ok

@@ -10,11 +10,12 @@ use Rattle.framing.specs.Windows.{Window, Reading, got, failed, reading}
 use Rattle.framing.specs.Events.{number, pair, error, nested, root, Trace}
 use Rattle.framing.specs.Walk.{Sink, numberAt, level}
 use Rattle.framing.specs.Sinks.{guidOf, objectField, objectSink}
-use Rattle.framing.specs.Grammar.{Bits, noBits, Num, numBits, IsNum, Array, arrayBits, ArrayOk, Reference, absent, guid, referenceBits, referenceIn, ObjectArray}
+use Rattle.framing.specs.Grammar.{Bits, noBits, Num, numBits, IsNum, Array, arrayBits}
+use Rattle.framing.specs.GrammarRules.{ArrayOk, Reference, absent, guid, referenceBits, referenceIn, ObjectArray}
 use Rattle.framing.proofs.GrammarBits.{Span, Below, read-num, num-read}
 use Rattle.framing.proofs.GrammarLeads.{never}
 use Rattle.framing.proofs.GrammarFound.{Fine, fine-number, bitsIn, Content, Found, level-found}
-use Rattle.framing.proofs.GrammarWalked.{windowAt, num-below, level-walked}
+use Rattle.framing.proofs.GrammarWalked.{windowAt, num-below, arrayTrace, level-walked}
 use Rattle.framing.proofs.GrammarStruct.{span-whole, whole-span, array-fine}
 
 pub record InObject (w : Window) : Type 0 where
@@ -97,9 +98,15 @@ always i path first h absent ok o p = subst Fine (sym (absent-field i h path fir
 always i path first h (guid n) ok o p =
     subst (λ (f : Bool). Fine (objectSink .field i path f h (windowAt o p (numBits n)))) (sym (ok .0)) (subst Fine (sym (guid-field i h path n (ok .1) o p)) refl)
 
+-- the level is walked as the array says
+pub object-walked : (a : Array Reference) → ObjectArray a → (w : Window) → Span w 0 (w .size) (arrayBits referenceBits a) → (path : List ℕ)
+    → level objectSink w path ≡ arrayTrace objectSink referenceBits (w .origin) path a
+unfolding objectSink
+object-walked a ok w sp path = level-walked referenceBits referenceIn reference-below objectSink w path a ok sp
+
 -- An object array's bits are walked without fault.
 pub walked-object : (a : Array Reference) → ObjectArray a → (w : Window) → Span w 0 (w .size) (arrayBits referenceBits a) → (path : List ℕ) → Fine (level objectSink w path)
 unfolding objectSink
 walked-object a ok w sp path =
-    subst Fine (sym (level-walked referenceBits referenceIn reference-below objectSink w path a ok sp))
+    subst Fine (sym (object-walked a ok w sp path))
     (array-fine objectSink referenceBits referenceIn always refl (w .origin) true path a ok)

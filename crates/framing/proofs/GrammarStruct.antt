@@ -20,8 +20,9 @@ use Rattle.framing.specs.Events.{Event, number, element, truncation, err
 use Rattle.framing.specs.Paths.{longestPath, grown, noted, given}
 use Rattle.framing.specs.Walk.{Sink, inItem, entering, level}
 use Rattle.framing.specs.Sinks.{leafOf, onChild, structSink, tooDeep}
-use Rattle.framing.specs.Grammar.{Bits, Num, Field, Element, Array, fieldBits, fieldsBits, elementBits, elementsBits, arrayBits, Each, FieldOk, FieldsOk, ElementOk, ArrayOk, Payload, plain, contentBits, PlainOk, NestedOk, array, allowedIn, StructArray}
-use Rattle.framing.specs.Grammar as G
+use Rattle.framing.specs.Grammar.{Bits, Num, Field, Element, Array, fieldBits, fieldsBits, elementBits, elementsBits, arrayBits}
+use Rattle.framing.specs.GrammarRules.{Each, FieldOk, FieldsOk, ElementOk, ArrayOk, Payload, plain, contentBits, PlainOk, NestedOk, array, allowedIn, StructArray}
+use Rattle.framing.specs.GrammarRules as G
 use Rattle.framing.proofs.GrammarBits.{Span, Below}
 use Rattle.framing.proofs.GrammarLeads.{never}
 use Rattle.framing.proofs.GrammarFound.{Fine, fine-append, fine-join, fine-rest, fine-number, fine-element, bitsIn, Content, Found, level-found}
@@ -47,11 +48,10 @@ whole-span v b h e =
 
 -- ---- clean, so in the grammar
 
-pub Tells : (ℕ → Event) → Type 0
+abbrev pub Tells : (ℕ → Event) → Type 0
 Tells leftover = (n : ℕ) → Fine (leftover n ∷ []) → n ≡ 0
 
 nested-tells : Tells nested
-unfolding Tells
 nested-tells n h = omega arith
 
 pub record InStruct (deeper : ℕ) (rows : List ℕ) (takes : Bool) (lvl : ℕ) (w : Window) : Type 0 where
@@ -88,7 +88,7 @@ nested-more deeper rows takes lvl first h below v b some e r =
 -- A level without fault is a struct array.
 pub found-struct : (deeper : ℕ) (t : Tables) (takes : Bool) (leftover : ℕ → Event) (lvl : ℕ) → Tells leftover → (w : Window) (path : List ℕ)
     → Fine (level (structSink deeper t takes leftover lvl) w path) → InStruct deeper (t .rows) takes lvl w
-unfolding structSink Tells
+unfolding structSink
 found-struct zero t takes leftover lvl tells w path g =
     let f = level-found (structSink zero t takes leftover lvl) (G.Content zero) (contentBits zero) (λ f k x. allowedIn zero (t .rows) takes lvl f k x) find w tells path g in
     record { it = f .array; ok = f .ok; span = f .span }

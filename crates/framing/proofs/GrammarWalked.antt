@@ -13,7 +13,8 @@ use Rattle.bits.specs.Bits.{field}
 use Rattle.framing.specs.Windows.{Window, part, Reading, got, failed, reading}
 use Rattle.framing.specs.Events.{Number, numbers, Event, number, element, Trace}
 use Rattle.framing.specs.Walk.{maxElements, maxFields, trailerBits, Sink, numberAt, Lead, closes, opens, lead, fieldAt, present, closed, Run, done, stopped, prepend, onField, onLastField, fields, trailerOf, closing, inItem, entering, behind, onIndex, onLastIndex, elements, onCount, level}
-use Rattle.framing.specs.Grammar.{Bits, noBits, _then_, Num, packedBits, numBits, IsNum, Field, Element, Array, fieldBits, fieldsBits, elementBits, elementsBits, trailing, arrayBits, Each, FieldOk, FieldsOk, ElementOk, ArrayOk}
+use Rattle.framing.specs.Grammar.{Bits, noBits, _then_, Num, packedBits, numBits, IsNum, Field, Element, Array, fieldBits, fieldsBits, elementBits, elementsBits, trailing, arrayBits}
+use Rattle.framing.specs.GrammarRules.{Each, FieldOk, FieldsOk, ElementOk, ArrayOk}
 use Rattle.framing.proofs.StepLaws.{fields-last, fields-step, fields-present, elements-last, elements-step, level-count}
 use Rattle.framing.proofs.GrammarBits.{Span, Below, span-first, span-second, num-read}
 use Rattle.framing.proofs.GrammarLeads.{stands-closes, stands-opens, stands-closed, stands-present}

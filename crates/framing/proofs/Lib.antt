@@ -16,3 +16,4 @@ pub mod GrammarWalked
 pub mod GrammarStruct
 pub mod GrammarObject
 pub mod GrammarGiven
+pub mod CleanMeans

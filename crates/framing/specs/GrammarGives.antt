@@ -7,7 +7,8 @@ use Rattle.schema.specs.Labels.{atIndex, dot, labelBytes, containerLabel, leafL
 use Rattle.schema.specs.declared.Child.{Child}
 use Rattle.schema.specs.declared.Child.the-variants as Child
 use Rattle.framing.specs.Events.{Leaf, Pair}
-use Rattle.framing.specs.Grammar.{Bits, Field, fieldBits, Element, elementBits, Array, Content, plain, nested, contentBits, Reference, absent, guid}
+use Rattle.framing.specs.Grammar.{Bits, Field, fieldBits, Element, elementBits, Array}
+use Rattle.framing.specs.GrammarRules.{Content, plain, nested, contentBits, Reference, absent, guid}
 
 -- ---- leaves, over what a payload's are
 

@@ -9,4 +9,6 @@ pub mod Refusing
 pub mod Demand
 pub mod Cases
 pub mod Grammar
+pub mod GrammarRules
 pub mod GrammarGives
+pub mod InGrammar

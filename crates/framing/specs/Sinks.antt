@@ -78,6 +78,12 @@ pub data Walk : Type 0 where
   exact : (declared declaredNames : List ℕ) → Walk
   object : Walk
 
+-- the walks that give leaves; the other gives pairs
+abbrev pub Leafy : Walk → Type 0
+Leafy (struct t lvl) = Unit
+Leafy (exact d n) = Unit
+Leafy object = ⊥
+
 abbrev pub declaredOnly : (declared declaredNames : List ℕ) → Tables
 declaredOnly d n = record { rows = []; names = []; declared = d; declaredNames = n }
 

@@ -20,7 +20,7 @@ use Rattle.framing.specs.Events as Ev
 use Rattle.framing.specs.Events.{Event, Number, number, element, leaf, pair, truncation, error, implicit, nested, root, over, leaves, pairs, overs, Trace}
 use Rattle.framing.specs.Paths.{longestPath, grown, noted, given}
 use Rattle.framing.specs.Walk.{Sink, numberAt, tail, rawLeaf, inItem, entering, level}
-use Rattle.framing.specs.Sinks.{leafOf, onChild, structSinkOver, structSink, tooDeep, guidOf, objectField, objectSink, Walk, struct, exact, object, declaredOnly, sinkOf, silent, walkWindow, walk}
+use Rattle.framing.specs.Sinks.{leafOf, onChild, structSinkOver, structSink, tooDeep, guidOf, objectField, objectSink, Walk, struct, exact, object, Leafy, declaredOnly, sinkOf, silent, walkWindow, walk}
 use Rattle.framing.specs.Records.{payloadBytes}
 use Rattle.framing.proofs.TraceLaws.{leaves-append, pairs-append, overs-append}
 use Rattle.framing.proofs.RecordLaws.{payload-append}
@@ -108,12 +108,6 @@ struct-unpaired t (suc deeper) lvl trailer leftover i place first h v =
     told : (d b n : ℕ) → pairs ((structSink d t trailer nested b) .leftover n ∷ []) ≡ []
     told zero b n = refl
     told (suc d) b n = refl
-
--- the walks that give leaves
-abbrev pub Leafy : Walk → Type 0
-Leafy (struct t lvl) = Unit
-Leafy (exact d n) = Unit
-Leafy object = ⊥
 
 window-unpaired : (k : Walk) → Leafy k → (w : Window) → pairs (level (sinkOf k) w []) ≡ []
 unfolding sinkOf structSink

@@ -11,7 +11,7 @@ use borrow.Author.Tests.{leb-true, le-leb, lt-leb}
 use Rattle.bitio.specs.Cursors.{longestWindow}
 use Rattle.framing.specs.Events.{leaves, pairs, overs}
 use Rattle.framing.specs.Counters.{Counters, counters}
-use Rattle.framing.specs.Sinks.{Walk, object, walk}
+use Rattle.framing.specs.Sinks.{Walk, object, Leafy, walk}
 use Rattle.framing.specs.Records.{leafWords, pairWords, pathBytes, payloadBytes, leafRecords, pairRecords, filled}
 use Rattle.framing.specs.Refusing.{Room, noRoom, needed, within, Answer, refused, accepted}
 use Rattle.framing.proofs.Demand3.{and-true}
@@ -19,7 +19,7 @@ use Rattle.framing.proofs.RefusingLaws.{decided-long, decided-broken, decided-o
 use Rattle.outputs.specs.World.{wrapping, plain, World, apply, fresh, records}
 use Rattle.outputs.specs.Answers.{left, Call, Lent, laid, traceOf, roomOf, answer, finalLeaves, finalPaths, finalPayloads, Answered, measured, final, pairTrace, pairAnswer, finalPairs, PairsAnswered}
 use Rattle.outputs.proofs.After.{counters-fresh, overs-after, words-at, text-at, load-at, records-length, words-filled, text-filled, load-filled, records-leaves, records-pairs}
-use Rattle.outputs.proofs.Gives.{Leafy, no-pairs, no-leaves, no-overs}
+use Rattle.outputs.proofs.Gives.{no-pairs, no-leaves, no-overs}
 use Rattle.outputs.proofs.NoWrap.{word, walk-exact}
 
 -- ---- any walk

@@ -1,0 +1,105 @@
+-- What clean means. A window of at least one bit is walked clean exactly if it is the bits of an array of the grammar; and then the walk's leaves,
+-- pairs and elements are that array's.
+use Prim.Native.Nat.{ℕ, _-_, _^_, _≤_, _<_}
+use mathlib.Core.Path.{_≡_, refl, sym, ap, _∙_, subst}
+use mathlib.Core.Bool.{Bool, true, false}
+use mathlib.Core.List.{List, [], _∷_}
+use native.Mathlib.Omega.{arith}
+use lib.Dec.{eqb}
+use borrow.Author.Tests.{eqb-true, eq-eqb, ne-eqb}
+use Rattle.bits.specs.Choice.{if_then_else_}
+use Rattle.schema.specs.Tables.{Tables, absent}
+use Rattle.framing.specs.Windows.{Window}
+use Rattle.framing.specs.Events.{Leaf, Pair, root, leaves, pairs, overs, Trace}
+use Rattle.framing.specs.Counters.{counters, faults, isClean}
+use Rattle.framing.specs.Walk.{level}
+use Rattle.framing.specs.Sinks.{structSink, objectSink, Walk, struct, exact, object, Leafy, declaredOnly, sinkOf, silent, walkWindow}
+use Rattle.framing.specs.Grammar.{arrayBits}
+use Rattle.framing.specs.GrammarRules.{contentBits, referenceBits}
+use Rattle.framing.specs.GrammarGives.{structLeaves}
+use Rattle.framing.specs.InGrammar.{below, StructWindow, ObjectWindow, InGrammar, treeLeaves, treePairs, treeElements}
+use Rattle.framing.proofs.GrammarBits.{Span}
+use Rattle.framing.proofs.GrammarFound.{Fine}
+use Rattle.framing.proofs.GrammarStruct.{Tells, InStruct, span-whole, whole-span, found-struct, walked-struct}
+use Rattle.framing.proofs.GrammarObject.{InObject, found-object, walked-object}
+use Rattle.framing.proofs.GrammarGiven.{struct-leaves, struct-elements, object-pairs, object-elements}
+
+-- clean and without fault are the same
+fine-clean : (t : Trace) → Fine t → isClean (counters t) ≡ true
+fine-clean t h = eq-eqb (faults (counters t)) 0 h
+
+clean-fine : (t : Trace) → isClean (counters t) ≡ true → Fine t
+clean-fine t h = eqb-true (faults (counters t)) 0 h
+
+root-tells : Tells root
+root-tells n h = omega arith
+
+module _ (w : Window) (some : 1 ≤ w .size) (whole : w .bits < 2 ^ w .size) where
+  -- a window with bits is walked
+  loud : (k : Walk) → walkWindow k w ≡ level (sinkOf k) w []
+  unfolding walkWindow
+  loud (struct t lvl) = rw (ne-eqb (w .size) 0 (λ z. omega arith)) refl
+  loud (exact d n) = rw (ne-eqb (w .size) 0 (λ z. omega arith)) refl
+  loud object = refl
+
+  as-tree : (t : Tables) (takes : Bool) (lvl : ℕ) → InStruct below (t .rows) takes lvl w → StructWindow t takes lvl w
+  as-tree t takes lvl f = record { tree = f .it; allowed = f .ok; bits = span-whole w (arrayBits (contentBits below) (f .it)) whole (f .span) }
+
+  stands : (t : Tables) (takes : Bool) (lvl : ℕ) (g : StructWindow t takes lvl w) → Span w 0 (w .size) (arrayBits (contentBits below) (g .tree))
+  stands t takes lvl g = whole-span w (arrayBits (contentBits below) (g .tree)) whole (g .bits)
+
+  fine-in : (k : Walk) → Fine (level (sinkOf k) w []) → InGrammar k w
+  unfolding sinkOf
+  fine-in (struct t lvl) h = as-tree t true lvl (found-struct below t true root lvl root-tells w [] h)
+  fine-in (exact d n) h = as-tree (declaredOnly d n) false absent (found-struct below (declaredOnly d n) false root absent root-tells w [] h)
+  fine-in object h =
+      let f = found-object w [] h in
+      record { tree = f .it; allowed = f .ok; bits = span-whole w (arrayBits referenceBits (f .it)) whole (f .span) }
+
+  in-fine : (k : Walk) → InGrammar k w → Fine (level (sinkOf k) w [])
+  unfolding sinkOf
+  in-fine (struct t lvl) g = walked-struct below t true root lvl refl (g .tree) (g .allowed) w (stands t true lvl g) []
+  in-fine (exact d n) g = walked-struct below (declaredOnly d n) false root absent refl (g .tree) (g .allowed) w (stands (declaredOnly d n) false absent g) []
+  in-fine object g = walked-object (g .tree) (g .allowed) w (whole-span w (arrayBits referenceBits (g .tree)) whole (g .bits)) []
+
+  -- A window that is walked clean is the bits of an array of the grammar.
+  pub clean-in-grammar : (k : Walk) → isClean (counters (walkWindow k w)) ≡ true → InGrammar k w
+  clean-in-grammar k h = fine-in k (subst Fine (loud k) (clean-fine (walkWindow k w) h))
+
+  -- A window that is the bits of an array of the grammar is walked clean.
+  pub grammar-clean : (k : Walk) → InGrammar k w → isClean (counters (walkWindow k w)) ≡ true
+  grammar-clean k g = fine-clean (walkWindow k w) (subst Fine (sym (loud k)) (in-fine k g))
+
+  -- Then its leaves are the array's, unless a path is too long, which is refusal 5.
+  tree-leaves : (k : Walk) (g : InGrammar k w) → overs (level (sinkOf k) w []) ≡ 0 → Leafy k → leaves (level (sinkOf k) w []) ≡ treeLeaves k w g
+  unfolding sinkOf
+  tree-leaves (struct t lvl) g h leafy = struct-leaves below t true root lvl refl (g .tree) (g .allowed) w (stands t true lvl g) [] h
+  tree-leaves (exact d n) g h leafy =
+      struct-leaves below (declaredOnly d n) false root absent refl (g .tree) (g .allowed) w (stands (declaredOnly d n) false absent g) [] h
+  tree-leaves object g h leafy = absurd leafy
+
+  pub grammar-leaves : (k : Walk) (g : InGrammar k w) → overs (walkWindow k w) ≡ 0 → Leafy k → leaves (walkWindow k w) ≡ treeLeaves k w g
+  grammar-leaves k g h leafy = ap leaves (loud k) ∙ tree-leaves k g (ap overs (sym (loud k)) ∙ h) leafy
+
+  -- Two arrays with the window's bits have the same leaves.
+  pub one-meaning : (k : Walk) (g h : InGrammar k w) → overs (walkWindow k w) ≡ 0 → Leafy k → treeLeaves k w g ≡ treeLeaves k w h
+  one-meaning k g h e leafy = sym (grammar-leaves k g e leafy) ∙ grammar-leaves k h e leafy
+
+  -- An object walk's pairs are the array's.
+  pub grammar-pairs : (g : InGrammar object w) → pairs (walkWindow object w) ≡ treePairs object w g
+  unfolding sinkOf
+  grammar-pairs g = ap pairs (loud object) ∙ object-pairs (g .tree) (g .allowed) w (whole-span w (arrayBits referenceBits (g .tree)) whole (g .bits)) []
+
+  pub one-list : (g h : InGrammar object w) → treePairs object w g ≡ treePairs object w h
+  one-list g h = sym (grammar-pairs g) ∙ grammar-pairs h
+
+  -- The elements entered are the array's.
+  tree-elements : (k : Walk) (g : InGrammar k w) → (counters (level (sinkOf k) w [])) .elements ≡ treeElements k w g
+  unfolding sinkOf
+  tree-elements (struct t lvl) g = struct-elements below t true root lvl refl (g .tree) (g .allowed) w (stands t true lvl g) []
+  tree-elements (exact d n) g =
+      struct-elements below (declaredOnly d n) false root absent refl (g .tree) (g .allowed) w (stands (declaredOnly d n) false absent g) []
+  tree-elements object g = object-elements (g .tree) (g .allowed) w (whole-span w (arrayBits referenceBits (g .tree)) whole (g .bits)) []
+
+  pub grammar-elements : (k : Walk) (g : InGrammar k w) → (counters (walkWindow k w)) .elements ≡ treeElements k w g
+  grammar-elements k g = ap (λ (t : Trace). (counters t) .elements) (loud k) ∙ tree-elements k g
