@@ -1,23 +1,27 @@
 -- What clean means. A window of at least one bit is walked clean exactly if it is the bits of an array of the grammar; and then the walk's leaves,
 -- pairs and elements are that array's.
-use Prim.Native.Nat.{ℕ, _-_, _^_, _≤_, _<_}
+use Prim.Native.Nat.{ℕ, _*_, _-_, _^_, _≤_, _<_}
 use mathlib.Core.Path.{_≡_, refl, sym, ap, _∙_, subst}
 use mathlib.Core.Bool.{Bool, true, false}
 use mathlib.Core.List.{List, [], _∷_}
 use native.Mathlib.Omega.{arith}
 use lib.Dec.{eqb}
+use lib.ListN.{length}
 use borrow.Author.Tests.{eqb-true, eq-eqb, ne-eqb}
 use Rattle.bits.specs.Choice.{if_then_else_}
+use Rattle.bits.specs.Bits.{num}
+use Rattle.bits.proofs.FieldLaws.{field-lt}
 use Rattle.schema.specs.Tables.{Tables, absent}
-use Rattle.framing.specs.Windows.{Window}
+use Rattle.framing.specs.Windows.{Window, windowOf}
 use Rattle.framing.specs.Events.{Leaf, Pair, root, leaves, pairs, overs, Trace}
 use Rattle.framing.specs.Counters.{counters, faults, isClean}
 use Rattle.framing.specs.Walk.{level}
-use Rattle.framing.specs.Sinks.{structSink, objectSink, Walk, struct, exact, object, Leafy, declaredOnly, sinkOf, silent, walkWindow}
+use Rattle.framing.specs.Sinks.{structSink, objectSink, Walk, struct, exact, object, Leafy, declaredOnly, sinkOf, silent, walkWindow, walk}
 use Rattle.framing.specs.Grammar.{arrayBits}
 use Rattle.framing.specs.GrammarRules.{contentBits, referenceBits}
 use Rattle.framing.specs.GrammarGives.{structLeaves}
 use Rattle.framing.specs.InGrammar.{below, StructWindow, ObjectWindow, InGrammar, treeLeaves, treePairs, treeElements}
+use Rattle.framing.proofs.Demand3.{walk-inside}
 use Rattle.framing.proofs.GrammarBits.{Span}
 use Rattle.framing.proofs.GrammarFound.{Fine}
 use Rattle.framing.proofs.GrammarStruct.{Tells, InStruct, span-whole, whole-span, found-struct, walked-struct}
@@ -103,3 +107,13 @@ module _ (w : Window) (some : 1 ≤ w .size) (whole : w .bits < 2 ^ w .size) whe
 
   pub grammar-elements : (k : Walk) (g : InGrammar k w) → (counters (walkWindow k w)) .elements ≡ treeElements k w g
   grammar-elements k g = ap (λ (t : Trace). (counters t) .elements) (loud k) ∙ tree-elements k g
+
+-- The same of the first n bits of some bytes, as a call walks them.
+module _ (k : Walk) (bytes : List ℕ) (n : ℕ) (some : 1 ≤ n) (inside : n ≤ 8 * length bytes) where
+  pub clean-call : isClean (counters (walk k bytes n)) ≡ true → InGrammar k (windowOf bytes n)
+  clean-call h =
+      clean-in-grammar (windowOf bytes n) some (field-lt (num bytes) 0 n) k (subst (λ (t : Trace). isClean (counters t) ≡ true) (walk-inside k bytes n inside) h)
+
+  pub grammar-call : InGrammar k (windowOf bytes n) → isClean (counters (walk k bytes n)) ≡ true
+  grammar-call g =
+      subst (λ (t : Trace). isClean (counters t) ≡ true) (sym (walk-inside k bytes n inside)) (grammar-clean (windowOf bytes n) some (field-lt (num bytes) 0 n) k g)

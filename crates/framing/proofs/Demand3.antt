@@ -239,7 +239,8 @@ demand3-window k w m mn = go (silent k m) refl
           not-clean = λ l lt d. let v = cut-verdict s w m c l lt d in lacks-trailer (v .0) (v .1) (v .2);
         })
 
-walk-inside : (k : Walk) (bytes : List ℕ) (n : ℕ) → n ≤ 8 * length bytes → walk k bytes n ≡ walkWindow k (windowOf bytes n)
+-- a window inside its bytes
+pub walk-inside : (k : Walk) (bytes : List ℕ) (n : ℕ) → n ≤ 8 * length bytes → walk k bytes n ≡ walkWindow k (windowOf bytes n)
 unfolding walk walkWindow
 walk-inside k bytes n h = go (silent k n) refl
   where
