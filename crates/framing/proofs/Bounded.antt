@@ -18,7 +18,7 @@ use Rattle.framing.specs.Events.{Event, Number, number, element, pair, t
 use Rattle.framing.specs.Counters.{Counters, counters, sums, tally}
 use Rattle.framing.specs.Paths.{longestPath, grown, noted, given}
 use Rattle.framing.specs.Walk.{Sink, numberAt, rawLeaf, tail, inItem, entering, level}
-use Rattle.framing.specs.Sinks.{maxLevels, leafOf, onChild, structSinkOver, structSink, tooDeep, guidOf, objectField, objectSink, Walk, struct, exact, object, declaredOnly, sinkOf, silent, walkWindow, walk}
+use Rattle.framing.specs.Sinks.{maxNesting, leafOf, onChild, structSinkOver, structSink, tooDeep, guidOf, objectField, objectSink, Walk, struct, exact, object, declaredOnly, sinkOf, silent, walkWindow, walk}
 use Rattle.framing.proofs.TraceLaws.{counters-append, overs-append}
 use Rattle.framing.proofs.Demand3.{and-true}
 use Rattle.framing.proofs.Induct.{Read, Here, Scheme, level-holds}

@@ -20,7 +20,7 @@ use Rattle.framing.specs.Sinks.{structSink, objectSink, Walk, struct, ex
 use Rattle.framing.specs.Grammar.{arrayBits}
 use Rattle.framing.specs.GrammarRules.{contentBits, referenceBits}
 use Rattle.framing.specs.GrammarGives.{structLeaves}
-use Rattle.framing.specs.InGrammar.{below, StructWindow, ObjectWindow, InGrammar, treeLeaves, treePairs, treeElements}
+use Rattle.framing.specs.InGrammar.{levelsBelow, StructWindow, ObjectWindow, InGrammar, treeLeaves, treePairs, treeElements}
 use Rattle.framing.proofs.Demand3.{walk-inside}
 use Rattle.framing.proofs.GrammarBits.{Span}
 use Rattle.framing.proofs.GrammarFound.{Fine}
@@ -46,24 +46,24 @@ module _ (w : Window) (some : 1 ≤ w .size) (whole : w .bits < 2 ^ w .size) whe
   loud (exact d n) = rw (ne-eqb (w .size) 0 (λ z. omega arith)) refl
   loud object = refl
 
-  as-tree : (t : Tables) (takes : Bool) (lvl : ℕ) → InStruct below (t .rows) takes lvl w → StructWindow t takes lvl w
-  as-tree t takes lvl f = record { tree = f .it; allowed = f .ok; bits = span-whole w (arrayBits (contentBits below) (f .it)) whole (f .span) }
+  as-tree : (t : Tables) (takes : Bool) (lvl : ℕ) → InStruct levelsBelow (t .rows) takes lvl w → StructWindow t takes lvl w
+  as-tree t takes lvl f = record { tree = f .it; allowed = f .ok; bits = span-whole w (arrayBits (contentBits levelsBelow) (f .it)) whole (f .span) }
 
-  stands : (t : Tables) (takes : Bool) (lvl : ℕ) (g : StructWindow t takes lvl w) → Span w 0 (w .size) (arrayBits (contentBits below) (g .tree))
-  stands t takes lvl g = whole-span w (arrayBits (contentBits below) (g .tree)) whole (g .bits)
+  stands : (t : Tables) (takes : Bool) (lvl : ℕ) (g : StructWindow t takes lvl w) → Span w 0 (w .size) (arrayBits (contentBits levelsBelow) (g .tree))
+  stands t takes lvl g = whole-span w (arrayBits (contentBits levelsBelow) (g .tree)) whole (g .bits)
 
   fine-in : (k : Walk) → Fine (level (sinkOf k) w []) → InGrammar k w
   unfolding sinkOf
-  fine-in (struct t lvl) h = as-tree t true lvl (found-struct below t true root lvl root-tells w [] h)
-  fine-in (exact d n) h = as-tree (declaredOnly d n) false absent (found-struct below (declaredOnly d n) false root absent root-tells w [] h)
+  fine-in (struct t lvl) h = as-tree t true lvl (found-struct levelsBelow t true root lvl root-tells w [] h)
+  fine-in (exact d n) h = as-tree (declaredOnly d n) false absent (found-struct levelsBelow (declaredOnly d n) false root absent root-tells w [] h)
   fine-in object h =
       let f = found-object w [] h in
       record { tree = f .it; allowed = f .ok; bits = span-whole w (arrayBits referenceBits (f .it)) whole (f .span) }
 
   in-fine : (k : Walk) → InGrammar k w → Fine (level (sinkOf k) w [])
   unfolding sinkOf
-  in-fine (struct t lvl) g = walked-struct below t true root lvl refl (g .tree) (g .allowed) w (stands t true lvl g) []
-  in-fine (exact d n) g = walked-struct below (declaredOnly d n) false root absent refl (g .tree) (g .allowed) w (stands (declaredOnly d n) false absent g) []
+  in-fine (struct t lvl) g = walked-struct levelsBelow t true root lvl refl (g .tree) (g .allowed) w (stands t true lvl g) []
+  in-fine (exact d n) g = walked-struct levelsBelow (declaredOnly d n) false root absent refl (g .tree) (g .allowed) w (stands (declaredOnly d n) false absent g) []
   in-fine object g = walked-object (g .tree) (g .allowed) w (whole-span w (arrayBits referenceBits (g .tree)) whole (g .bits)) []
 
   -- A window that is walked clean is the bits of an array of the grammar.
@@ -77,9 +77,9 @@ module _ (w : Window) (some : 1 ≤ w .size) (whole : w .bits < 2 ^ w .size) whe
   -- Then its leaves are the array's, unless a path is too long, which is refusal 5.
   tree-leaves : (k : Walk) (g : InGrammar k w) → overs (level (sinkOf k) w []) ≡ 0 → Leafy k → leaves (level (sinkOf k) w []) ≡ treeLeaves k w g
   unfolding sinkOf
-  tree-leaves (struct t lvl) g h leafy = struct-leaves below t true root lvl refl (g .tree) (g .allowed) w (stands t true lvl g) [] h
+  tree-leaves (struct t lvl) g h leafy = struct-leaves levelsBelow t true root lvl refl (g .tree) (g .allowed) w (stands t true lvl g) [] h
   tree-leaves (exact d n) g h leafy =
-      struct-leaves below (declaredOnly d n) false root absent refl (g .tree) (g .allowed) w (stands (declaredOnly d n) false absent g) [] h
+      struct-leaves levelsBelow (declaredOnly d n) false root absent refl (g .tree) (g .allowed) w (stands (declaredOnly d n) false absent g) [] h
   tree-leaves object g h leafy = absurd leafy
 
   pub grammar-leaves : (k : Walk) (g : InGrammar k w) → overs (walkWindow k w) ≡ 0 → Leafy k → leaves (walkWindow k w) ≡ treeLeaves k w g
@@ -100,9 +100,9 @@ module _ (w : Window) (some : 1 ≤ w .size) (whole : w .bits < 2 ^ w .size) whe
   -- The elements entered are the array's.
   tree-elements : (k : Walk) (g : InGrammar k w) → (counters (level (sinkOf k) w [])) .elements ≡ treeElements k w g
   unfolding sinkOf
-  tree-elements (struct t lvl) g = struct-elements below t true root lvl refl (g .tree) (g .allowed) w (stands t true lvl g) []
+  tree-elements (struct t lvl) g = struct-elements levelsBelow t true root lvl refl (g .tree) (g .allowed) w (stands t true lvl g) []
   tree-elements (exact d n) g =
-      struct-elements below (declaredOnly d n) false root absent refl (g .tree) (g .allowed) w (stands (declaredOnly d n) false absent g) []
+      struct-elements levelsBelow (declaredOnly d n) false root absent refl (g .tree) (g .allowed) w (stands (declaredOnly d n) false absent g) []
   tree-elements object g = object-elements (g .tree) (g .allowed) w (whole-span w (arrayBits referenceBits (g .tree)) whole (g .bits)) []
 
   pub grammar-elements : (k : Walk) (g : InGrammar k w) → (counters (walkWindow k w)) .elements ≡ treeElements k w g

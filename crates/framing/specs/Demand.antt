@@ -23,7 +23,7 @@ pub record Opens {A : Type 0} (xs ys : List A) : Type 0 where
   pub rest : List A
   pub whole : xs ++ rest ≡ ys
 
--- the two cuts to m bits that are clean with a clean window
+-- the two cuts to m bits that may be clean although the longer window is clean too
 pub data Excused (k : Walk) (w : Window) (m : ℕ) : Type 0 where
   nothing-sent : silent k m ≡ true → Excused k w m
   lacks-trailer : (sinkOf k) .trailer ≡ true → m + trailerBits ≡ w .size → field (w .bits) m trailerBits ≡ 0 → Excused k w m

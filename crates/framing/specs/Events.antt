@@ -1,4 +1,5 @@
--- What a walk gives: a list of events, in reading order.
+-- What a walk gives: a list of events, in reading order. No answer of today shows the numbers taken or an element's index; a number that was
+-- looked at and put back is no event.
 use Prim.Native.Nat.{ℕ, suc}
 use mathlib.Core.List.{List, [], _∷_}
 

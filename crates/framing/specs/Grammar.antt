@@ -1,4 +1,5 @@
--- The format of an array as a grammar, from the header of array.rs and 01's sizes alone: no walker is mentioned.
+-- The format of an array as a grammar, from the header of array.rs and 01's sizes, with what 01's rule 3 adds to the header: the trailer. No
+-- step of a walker is mentioned.
 --
 --   elementCount = IntPacked
 --   loop: encodedIndex = IntPacked       0 ends the array; index = encoded - 1

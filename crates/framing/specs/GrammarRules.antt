@@ -1,4 +1,5 @@
--- Which arrays the grammar allows: 01's limits, and what a payload may be in a struct walk and in an object walk.
+-- Which arrays the grammar allows: 01's limits, indices below the count (rule 3), and what a payload may be in a struct walk (rule 6) and in
+-- an object walk (rule 8).
 use Prim.Native.Nat.{ℕ, zero, suc, _-_, _^_, _≤_, _<_}
 use mathlib.Core.Path.{_≡_}
 use mathlib.Core.Bool.{Bool, true, _&&_}

@@ -1,4 +1,5 @@
--- A window that is the bits of an array of the grammar, for each of the three walks; and what that array gives.
+-- A window that is the bits of an array of the grammar, for each of the three walks; and what that array gives. The window of no bits isn't
+-- among them: a struct or exact walk takes it as nothing sent, and as clean.
 use Prim.Native.Nat.{ℕ, _-_}
 use mathlib.Core.Path.{_≡_}
 use mathlib.Core.Bool.{Bool, true, false}
@@ -6,7 +7,7 @@ use mathlib.Core.List.{List, []}
 use Rattle.schema.specs.Tables.{Tables, absent}
 use Rattle.framing.specs.Windows.{Window}
 use Rattle.framing.specs.Events.{Leaf, Pair}
-use Rattle.framing.specs.Sinks.{maxLevels, Walk, struct, exact, object, declaredOnly}
+use Rattle.framing.specs.Sinks.{maxNesting, Walk, struct, exact, object, declaredOnly}
 use Rattle.framing.specs.Grammar.{Bits, Array, arrayBits}
 use Rattle.framing.specs.GrammarRules.{Content, contentBits, StructArray, Reference, referenceBits, ObjectArray}
 use Rattle.framing.specs.GrammarGives.{structLeaves, objectPairs, arrayCount, contentCount}
@@ -15,14 +16,14 @@ abbrev pub windowBits : Window → Bits
 windowBits w = record { number = w .bits; size = w .size }
 
 -- levels that may stand below the root
-abbrev pub below : ℕ
-below = maxLevels - 1
+abbrev pub levelsBelow : ℕ
+levelsBelow = maxNesting - 1
 
 -- takes: whether a trailer may end an array; lvl: the level of the root's elements
 pub record StructWindow (t : Tables) (takes : Bool) (lvl : ℕ) (w : Window) : Type 0 where
-  pub tree : Array (Content below)
-  pub allowed : StructArray below (t .rows) takes lvl tree
-  pub bits : arrayBits (contentBits below) tree ≡ windowBits w
+  pub tree : Array (Content levelsBelow)
+  pub allowed : StructArray levelsBelow (t .rows) takes lvl tree
+  pub bits : arrayBits (contentBits levelsBelow) tree ≡ windowBits w
 
 pub record ObjectWindow (w : Window) : Type 0 where
   pub tree : Array Reference
@@ -35,8 +36,8 @@ InGrammar (exact d n) w = StructWindow (declaredOnly d n) false absent w
 InGrammar object w = ObjectWindow w
 
 abbrev pub treeLeaves : (k : Walk) (w : Window) → InGrammar k w → List Leaf
-treeLeaves (struct t lvl) w g = structLeaves below t lvl (w .origin) [] (g .tree)
-treeLeaves (exact d n) w g = structLeaves below (declaredOnly d n) absent (w .origin) [] (g .tree)
+treeLeaves (struct t lvl) w g = structLeaves levelsBelow t lvl (w .origin) [] (g .tree)
+treeLeaves (exact d n) w g = structLeaves levelsBelow (declaredOnly d n) absent (w .origin) [] (g .tree)
 treeLeaves object w g = []
 
 abbrev pub treePairs : (k : Walk) (w : Window) → InGrammar k w → List Pair
@@ -45,6 +46,6 @@ treePairs (exact d n) w g = []
 treePairs object w g = objectPairs (g .tree)
 
 abbrev pub treeElements : (k : Walk) (w : Window) → InGrammar k w → ℕ
-treeElements (struct t lvl) w g = arrayCount (contentCount below) (g .tree)
-treeElements (exact d n) w g = arrayCount (contentCount below) (g .tree)
+treeElements (struct t lvl) w g = arrayCount (contentCount levelsBelow) (g .tree)
+treeElements (exact d n) w g = arrayCount (contentCount levelsBelow) (g .tree)
 treeElements object w g = arrayCount (λ x. 0) (g .tree)

@@ -9,7 +9,7 @@ use Rattle.framing.specs.Events.{Leaf, leaf, over, Trace}
 abbrev pub longestPath : ℕ
 longestPath = 1024
 
--- the path as it goes on, and the event where it would be too long
+-- the longer path; one that is too long stays as it was, and the walk is refused with 5
 unfoldable pub grown : (path longer : List ℕ) → List ℕ
 grown path longer = if leb (length longer) longestPath then longer else path
 

@@ -17,8 +17,8 @@ use Rattle.framing.specs.Paths.{grown, noted, given}
 use Rattle.framing.specs.Walk.{Sink, numberAt, level}
 
 -- 01, Sizes: levels of nesting, of depths 0 to 11
-abbrev pub maxLevels : ℕ
-maxLevels = 12
+abbrev pub maxNesting : ℕ
+maxNesting = 12
 
 -- ---- the struct walk
 
@@ -89,8 +89,8 @@ declaredOnly d n = record { rows = []; names = []; declared = d; declaredNames =
 
 -- the exact walk has no schema and takes no trailer
 unfoldable pub sinkOf : Walk → Sink
-sinkOf (struct t lvl) = structSink (maxLevels - 1) t true root lvl
-sinkOf (exact d n) = structSink (maxLevels - 1) (declaredOnly d n) false root absent
+sinkOf (struct t lvl) = structSink (maxNesting - 1) t true root lvl
+sinkOf (exact d n) = structSink (maxNesting - 1) (declaredOnly d n) false root absent
 sinkOf object = objectSink
 
 -- Rule 9: a struct or exact walk of no bits counts nothing

@@ -28,15 +28,16 @@ unfoldable pub allFrom : (left : ℕ) (test : ℕ → Bool) (i : ℕ) → Bool
 allFrom zero test i = true
 allFrom (suc left) test i = test i && allFrom left test (i + 1)
 
--- a name of len bytes from start lies in the pool
+-- a name of len bytes from start lies in the pool, and isn't too long
 unfoldable pub nameFits : (pool start len : ℕ) → Bool
 nameFits pool start len = leb len maxName && leb (start + len) pool
 
--- a row: its level is there; an array's child level is there and b is 0; a name lies in the pool; no other kind
+-- a row's kind: an array, whose child level is there and whose b is 0, or a name, which lies in the pool; no other
 unfoldable pub kindFits : (levels pool kind a b : ℕ) → Bool
 kindFits levels pool kind a b =
     if eqb kind arrayKind then ltb a levels && eqb b 0 else (if eqb kind nameKind then nameFits pool a b else false)
 
+-- a row: its level is there, and its kind fits
 unfoldable pub rowFits : (rows : List ℕ) (levels pool i : ℕ) → Bool
 rowFits rows levels pool i = ltb (cell rows i 0) levels && kindFits levels pool (cell rows i 1) (cell rows i 3) (cell rows i 4)
 
