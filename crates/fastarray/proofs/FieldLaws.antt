@@ -1,0 +1,254 @@
+-- The fields of an item, read one after the other.
+use Prim.Native.Nat.{ℕ, zero, suc, _+_, _-_, _*_, _≤_, _<_}
+use mathlib.Core.Path.{_≡_, refl, sym, ap, ap₂, _∙_, subst}
+use mathlib.Core.Bool.{Bool, true, false}
+use mathlib.Core.List.{List, [], _∷_}
+use mathlib.Core.Option.{Option, none, some}
+use native.Mathlib.Omega.{arith}
+use native.Mathlib.Nat.{add-zero}
+use lib.ListN.{length}
+use lib.Dec.{leb, eqb}
+use borrow.Author.Tests.{leb-true}
+use Rattle.fastarray.specs.Body.{Number, behind, numberAt, Lead, breaks, closes, opens, leadWidth, leadHandle, leadAt, rawField, Stream, closing, before, withField, onLead, fieldsFrom, fieldsAt}
+use Rattle.fastarray.specs.Records.{fieldRecord, store, storeAll}
+use Rattle.fastarray.specs.Parts.{headOf, fieldsReadOf, FieldsStored}
+use Rattle.fastarray.proofs.ReadLaws.{never, number-within}
+use Rattle.fastarray.specs.declared.FieldHead.the-variants as H
+use Rattle.fastarray.specs.declared.FieldsRead.the-variants as F
+
+-- ---- a lead lies in the window: a closing zero takes 8 bits at least, a field's two numbers 16
+
+abbrev Within : (len p : ℕ) → Lead → Type 0
+Within len p breaks = Unit
+Within len p (closes h) = (p + 8 ≤ behind h) × (behind h ≤ len)
+Within len p (opens h w) = (p + 16 ≤ behind w) × (behind w + w .value ≤ len)
+
+width-within : (len p : ℕ) (h : Number) (o : Option Number) → ((w : Number) → o ≡ some w → p + 16 ≤ behind w) → Within len p (leadWidth len h o)
+unfolding leadWidth
+width-within len p h none k = tt
+width-within len p h (some w) k = go (leb (behind w + w .value) len) refl
+  where
+    go : (x : Bool) → leb (behind w + w .value) len ≡ x → Within len p (leadWidth len h (some w))
+    go true e = rw e (k w refl, leb-true _ _ e)
+    go false e = rw e tt
+
+handle-within : (W len p : ℕ) (o : Option Number) → ((h : Number) → o ≡ some h → (p + 8 ≤ behind h) × (behind h ≤ len)) → Within len p (leadHandle W len o)
+unfolding leadHandle
+handle-within W len p none k = tt
+handle-within W len p (some h) k = go (eqb (h .value) 0) refl
+  where
+    second : (w : Number) → numberAt W len (behind h) ≡ some w → p + 16 ≤ behind w
+    second w e = omega (arith, number-within W len (behind h) w e, k h refl)
+
+    go : (x : Bool) → eqb (h .value) 0 ≡ x → Within len p (leadHandle W len (some h))
+    go true e = rw e (k h refl)
+    go false e = rw e (width-within len p h (numberAt W len (behind h)) second)
+
+pub lead-within : (W len p : ℕ) → Within len p (leadAt W len p)
+lead-within W len p = handle-within W len p (numberAt W len p) (λ h e. number-within W len p h e)
+
+-- ---- what the code saw there
+
+head-breaks : (l : Lead) → headOf l ≡ H.Broken → l ≡ breaks
+unfolding headOf
+head-breaks breaks e = refl
+head-breaks (closes h) e = let z : _≡_ {A = ℕ} 0 1 = cc in never z
+head-breaks (opens h w) e = let z : _≡_ {A = ℕ} 0 1 = cc in never z
+
+record ClosesAs (l : Lead) (q : ℕ) : Type 0 where
+  pub handle : Number
+  pub is : l ≡ closes handle
+  pub behind-is : behind handle ≡ q
+
+closes-as : (l : Lead) (q : ℕ) → headOf l ≡ H.Closes q → ClosesAs l q
+unfolding headOf
+closes-as breaks q e = let z : _≡_ {A = ℕ} 0 1 = cc in never z
+closes-as (closes h) q e = record { handle = h; is = refl; behind-is = cc }
+closes-as (opens h w) q e = let z : _≡_ {A = ℕ} 0 1 = cc in never z
+
+record OpensAs (l : Lead) (h o w : ℕ) : Type 0 where
+  pub handle : Number
+  pub width : Number
+  pub is : l ≡ opens handle width
+  pub handle-is : handle .value - 1 ≡ h
+  pub offset-is : behind width ≡ o
+  pub width-is : width .value ≡ w
+
+opens-as : (l : Lead) (h o w : ℕ) → headOf l ≡ H.Opens h o w → OpensAs l h o w
+unfolding headOf
+opens-as breaks h o w e = let z : _≡_ {A = ℕ} 0 1 = cc in never z
+opens-as (closes x) h o w e = let z : _≡_ {A = ℕ} 0 1 = cc in never z
+opens-as (opens x y) h o w e = record { handle = x; width = y; is = refl; handle-is = cc; offset-is = cc; width-is = cc }
+
+module _ (W len p : ℕ) where
+  pub closes-within : (q : ℕ) → headOf (leadAt W len p) ≡ H.Closes q → (p + 8 ≤ q) × (q ≤ len)
+  closes-within q e =
+      let t = closes-as _ q e in
+      let i = t .is in
+      let b = t .behind-is in
+      let k : Within len p (closes (t .handle)) = subst (Within len p) i (lead-within W len p) in
+      omega arith
+
+  pub opens-within : (h o w : ℕ) → headOf (leadAt W len p) ≡ H.Opens h o w → (p + 16 ≤ o) × (o + w ≤ len)
+  opens-within h o w e =
+      let t = opens-as _ h o w e in
+      let b₁ = t .offset-is in
+      let b₂ = t .width-is in
+      let k : Within len p (opens (t .handle) (t .width)) = subst (Within len p) (t .is) (lead-within W len p) in
+      omega arith
+
+-- ---- fields: a stream takes 8 bits at least, and 16 more for each field
+
+pub record Lying (len p : ℕ) (r : Stream) : Type 0 where
+  pub takes : p + 8 + 16 * length (r .fields) ≤ r .next
+  pub within : r .next ≤ len
+
+one-more : (len p : ℕ) (h w : Number) (r : Stream) → p + 16 ≤ behind w → Lying len (behind w + w .value) r → Lying len p (before h w r)
+one-more len p h w r k l = record { takes = omega (arith, l .takes); within = l .within }
+
+with-lies : (len p : ℕ) (h w : Number) (o : Option Stream) (r : Stream) → p + 16 ≤ behind w
+    → ((st : Stream) → o ≡ some st → Lying len (behind w + w .value) st) → withField h w o ≡ some r → Lying len p r
+unfolding withField
+with-lies len p h w none r k f e = let z : _≡_ {A = ℕ} 0 1 = cc in never z
+with-lies len p h w (some st) r k f e =
+    let q : before h w st ≡ r = cc in
+    subst (Lying len p) q (one-more len p h w st k (f st refl))
+
+on-lies : (len p : ℕ) (l : Lead) (rest : ℕ → Option Stream) (r : Stream) → Within len p l
+    → ((q : ℕ) (st : Stream) → rest q ≡ some st → Lying len q st) → onLead l rest ≡ some r → Lying len p r
+unfolding onLead
+on-lies len p breaks rest r k f e = let z : _≡_ {A = ℕ} 0 1 = cc in never z
+on-lies len p (closes h) rest r k f e =
+    let q : closing h ≡ r = cc in
+    subst (Lying len p) q (record { takes = omega (arith, k .0); within = k .1 })
+on-lies len p (opens h w) rest r k f e =
+    with-lies len p h w (rest (behind w + w .value)) r (k .0) (λ st s. f (behind w + w .value) st s) e
+
+pub fields-lie : (most W len p : ℕ) (r : Stream) → fieldsFrom most W len p ≡ some r → Lying len p r
+unfolding fieldsFrom
+fields-lie zero W len p r e = let z : _≡_ {A = ℕ} 0 1 = cc in never z
+fields-lie (suc most) W len p r e =
+    on-lies len p (leadAt W len p) (λ q. fieldsFrom most W len q) r (lead-within W len p) (λ q st s. fields-lie most W len q st s) e
+
+-- a bound of as many fields as there are bits left is enough
+
+no-bits : (W len p : ℕ) (rest : ℕ → Option Stream) (l : Lead) → len ≤ p → Within len p l → onLead l rest ≡ none
+unfolding onLead
+no-bits W len p rest breaks h k = refl
+no-bits W len p rest (closes x) h k = never (let z : _≡_ {A = ℕ} 0 1 = omega arith in z)
+no-bits W len p rest (opens x y) h k = never (let z : _≡_ {A = ℕ} 0 1 = omega arith in z)
+
+same-rest : (len p : ℕ) (rest rest′ : ℕ → Option Stream) (l : Lead) → Within len p l → ((q : ℕ) → p < q → rest q ≡ rest′ q) → onLead l rest ≡ onLead l rest′
+unfolding onLead
+same-rest len p rest rest′ breaks k f = refl
+same-rest len p rest rest′ (closes x) k f = refl
+same-rest len p rest rest′ (opens x y) k f = ap (withField x y) (f (behind y + y .value) (omega arith))
+
+pub fields-enough : (most more W len p : ℕ) → len - p ≤ most → len - p ≤ more → fieldsFrom most W len p ≡ fieldsFrom more W len p
+unfolding fieldsFrom
+fields-enough zero zero W len p h k = refl
+fields-enough zero (suc more) W len p h k = sym (no-bits W len p _ (leadAt W len p) (omega arith) (lead-within W len p))
+fields-enough (suc most) zero W len p h k = no-bits W len p _ (leadAt W len p) (omega arith) (lead-within W len p)
+fields-enough (suc most) (suc more) W len p h k =
+    same-rest len p _ _ (leadAt W len p) (lead-within W len p) (λ q l. fields-enough most more W len q (omega arith) (omega arith))
+
+-- ---- the reading of an item's fields, which started at bit `at` behind `slot` others, now at bit pos behind n others
+
+pub record Reading (W end at slot : ℕ) (d₀ d : List ℕ) (pos n : ℕ) : Type 0 where
+  pub most : ℕ
+  pub enough : end - pos ≤ most
+  pub within : pos ≤ end
+  pub slots : n ≤ pos
+  pub same : length d ≡ length d₀
+  pub says : fieldsReadOf n (fieldsFrom most W end pos) ≡ fieldsReadOf slot (fieldsAt W end at)
+  pub stores : (e : List ℕ) → FieldsStored (fieldsFrom most W end pos) d n e → FieldsStored (fieldsAt W end at) d₀ slot e
+
+from-lead : (most W len p : ℕ) (l : Lead) → 0 < most → leadAt W len p ≡ l
+    → fieldsFrom most W len p ≡ onLead l (λ q. fieldsFrom (most - 1) W len q)
+unfolding fieldsFrom
+from-lead zero W len p l h e = never (let z : _≡_ {A = ℕ} 0 1 = omega arith in z)
+from-lead (suc most) W len p l h e =
+    let m : suc most - 1 ≡ most = omega arith in
+    rw m (ap (λ (x : Lead). onLead x (λ q. fieldsFrom most W len q)) e)
+
+from-breaks : (most W len p : ℕ) → leadAt W len p ≡ breaks → fieldsFrom most W len p ≡ none
+unfolding fieldsFrom onLead
+from-breaks zero W len p e = refl
+from-breaks (suc most) W len p e = ap (λ (x : Lead). onLead x (λ q. fieldsFrom most W len q)) e
+
+-- one field more, in what is said and in what is stored
+said-more : (n : ℕ) (h w : Number) (o : Option Stream) → fieldsReadOf (n + 1) o ≡ fieldsReadOf n (withField h w o)
+unfolding fieldsReadOf withField
+said-more n h w none = refl
+said-more n h w (some r) = ap (λ (k : ℕ). F.Read k (r .next)) (let e : n + 1 + length (r .fields) ≡ n + suc (length (r .fields)) = omega arith in e)
+
+stored-more : (n : ℕ) (h w : Number) (o : Option Stream) (d e : List ℕ)
+    → FieldsStored o (store d (3 * n) (fieldRecord (rawField h w))) (n + 1) e → FieldsStored (withField h w o) d n e
+unfolding FieldsStored withField storeAll
+stored-more n h w none d e s = tt
+stored-more n h w (some r) d e s =
+    s
+    ∙ ap (λ (k : ℕ). storeAll fieldRecord (store d (3 * n) (fieldRecord (rawField h w))) k (r .fields))
+    (let q : 3 * (n + 1) ≡ 3 * n + 3 = omega arith in q)
+
+module _ (W end at slot : ℕ) (d₀ : List ℕ) where
+  pub starts : at ≤ end → slot ≤ at → Reading W end at slot d₀ d₀ at slot
+  starts h k =
+      record {
+        most = end - at;
+        enough = omega arith;
+        within = h;
+        slots = k;
+        same = refl;
+        says = refl;
+        stores = λ e s. s;
+      }
+
+  module _ (d : List ℕ) (pos n : ℕ) (v : Reading W end at slot d₀ d pos n) where
+    pub read-broken : headOf (leadAt W end pos) ≡ H.Broken
+        → (F.Broken ≡ fieldsReadOf slot (fieldsAt W end at)) × FieldsStored (fieldsAt W end at) d₀ slot d
+    unfolding fieldsReadOf FieldsStored
+    read-broken e =
+        let f : fieldsFrom (v .most) W end pos ≡ none = from-breaks (v .most) W end pos (head-breaks _ e) in (
+          sym (ap (fieldsReadOf n) f) ∙ v .says,
+          v .stores d (subst (λ (o : Option Stream). FieldsStored o d n d) (sym f) tt),
+        )
+
+    pub read-closed : (q : ℕ) → headOf (leadAt W end pos) ≡ H.Closes q
+        → (F.Read n q ≡ fieldsReadOf slot (fieldsAt W end at)) × FieldsStored (fieldsAt W end at) d₀ slot d
+    unfolding fieldsReadOf FieldsStored onLead storeAll
+    read-closed q e =
+        let t = closes-as _ q e in
+        let k = closes-within W end pos q e in
+        let m : 0 < v .most = omega (arith, v .enough) in
+        let f : fieldsFrom (v .most) W end pos ≡ some (closing (t .handle)) = from-lead (v .most) W end pos (closes (t .handle)) m (t .is) in (
+          ap₂ F.Read (sym (add-zero n)) (sym (t .behind-is)) ∙ sym (ap (fieldsReadOf n) f) ∙ v .says,
+          v .stores d (subst (λ (o : Option Stream). FieldsStored o d n d) (sym f) refl),
+        )
+
+    pub read-opened : (h o w : ℕ) (d′ : List ℕ) → headOf (leadAt W end pos) ≡ H.Opens h o w → d′ ≡ store d (3 * n) (h ∷ o ∷ w ∷ []) → length d′ ≡ length d
+        → Reading W end at slot d₀ d′ (o + w) (n + 1)
+    unfolding onLead
+    read-opened h o w d′ e s l =
+        let t = opens-as _ h o w e in
+        let k = opens-within W end pos h o w e in
+        let x = t .handle in
+        let y = t .width in
+        let next : behind y + y .value ≡ o + w = ap₂ (λ (a b : ℕ). a + b) (t .offset-is) (t .width-is) in
+        let m : 0 < v .most = omega (arith, v .enough) in
+        let f : fieldsFrom (v .most) W end pos ≡ withField x y (fieldsFrom (v .most - 1) W end (o + w))
+        = from-lead (v .most) W end pos (opens x y) m (t .is) ∙ ap (λ (q : ℕ). withField x y (fieldsFrom (v .most - 1) W end q)) next in
+        let rec-is : fieldRecord (rawField x y) ≡ h ∷ o ∷ w ∷ [] = simp (t .handle-is, t .offset-is, t .width-is) in
+        let s′ : d′ ≡ store d (3 * n) (fieldRecord (rawField x y)) = s ∙ ap (store d (3 * n)) (sym rec-is) in
+        record {
+          most = v .most - 1;
+          enough = omega (arith, v .enough);
+          within = k .1;
+          slots = omega (arith, v .slots);
+          same = l ∙ v .same;
+          says = said-more n x y (fieldsFrom (v .most - 1) W end (o + w)) ∙ sym (ap (fieldsReadOf n) f) ∙ v .says;
+          stores = λ e u. v .stores e
+              (subst (λ (r : Option Stream). FieldsStored r d n e) (sym f)
+              (stored-more n x y (fieldsFrom (v .most - 1) W end (o + w)) d e
+              (subst (λ (a : List ℕ). FieldsStored (fieldsFrom (v .most - 1) W end (o + w)) a (n + 1) e) s′ u)));
+        }

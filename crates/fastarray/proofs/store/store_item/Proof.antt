@@ -1,0 +1,41 @@
+-- `fastarray::store_item` meets its contract: the stores of a record that fits are its run.
+use borrow.Author.Needs.{needs}
+use mathlib.Core.Path.{sym}
+use native.Mathlib.Omega.{arith}
+use lib.ListN.{length-set}
+use Rattle.fastarray.proofs.StoreLaws.{store-two, store-not}
+use Rattle.fastarray.proofs.store.store_item.Statement.{statement}
+use Rattle.fastarray.proofs.store.store_item.Tie as tie
+
+mul-i : tie.Need-mul-i
+mul-i c = search needs
+
+add-if1 : tie.Need-add-if1
+add-if1 c = search needs
+
+mul-d : tie.Need-mul-d
+mul-d c = search needs
+
+slice-write-d : tie.Need-slice-write-d
+slice-write-d c = search needs
+
+add-d : tie.Need-add-d
+add-d c = search needs
+
+mul-d-2 : tie.Need-mul-d-2
+mul-d-2 c = search needs
+
+slice-write-d-2 : tie.Need-slice-write-d-2
+slice-write-d-2 c = simp length-set (omega arith)
+
+same-length : tie.Need-same-length
+same-length c = search needs
+
+returns : tie.Need-returns
+returns c = store-two _ _ _ _ (omega arith)
+
+returns-2 : tie.Need-returns-2
+returns-2 c = sym (store-not _ _ _ (omega arith))
+
+pub store-item-spec : {M : Type 1} → statement M
+store-item-spec = tie.close (tie.spec mul-i add-if1 mul-d slice-write-d add-d mul-d-2 slice-write-d-2 same-length returns returns-2)

@@ -1,0 +1,63 @@
+-- What the inner functions say of the parts of a body: the answers of the code's enums, and what a reading leaves in the lent buffers.
+use Prim.Native.Nat.{ℕ, _+_, _-_, _*_}
+use mathlib.Core.Path.{_≡_}
+use mathlib.Core.List.{List}
+use mathlib.Core.Option.{Option, none, some}
+use lib.ListN.{length}
+use Rattle.fastarray.specs.Body.{Number, behind, Lead, breaks, closes, opens, Stream, Items, Body, fieldsOf}
+use Rattle.fastarray.specs.Records.{itemWords, itemRecord, fieldWords, fieldRecord, storeAll}
+use Rattle.fastarray.specs.declared.Delta.{Delta}
+use Rattle.fastarray.specs.declared.Taken.{Taken}
+use Rattle.fastarray.specs.declared.Taken.the-variants as T
+use Rattle.fastarray.specs.declared.FieldHead.{FieldHead}
+use Rattle.fastarray.specs.declared.FieldHead.the-variants as H
+use Rattle.fastarray.specs.declared.FieldsRead.{FieldsRead}
+use Rattle.fastarray.specs.declared.FieldsRead.the-variants as F
+use Rattle.fastarray.specs.declared.ItemsRead.{ItemsRead}
+use Rattle.fastarray.specs.declared.ItemsRead.the-variants as I
+use Rattle.fastarray.specs.declared.Measured.{Measured}
+use Rattle.fastarray.specs.declared.Measured.the-variants as M
+
+unfoldable pub takenOf : Option Number → Taken
+takenOf none = T.Broken
+takenOf (some x) = T.Value (x .value) (behind x)
+
+unfoldable pub headOf : Lead → FieldHead
+headOf breaks = H.Broken
+headOf (closes h) = H.Closes (behind h)
+headOf (opens h w) = H.Opens (h .value - 1) (behind w) (w .value)
+
+-- slot: the fields before these
+unfoldable pub fieldsReadOf : (slot : ℕ) → Option Stream → FieldsRead
+fieldsReadOf slot none = F.Broken
+fieldsReadOf slot (some r) = F.Read (slot + length (r .fields)) (r .next)
+
+unfoldable pub itemsReadOf : (slot : ℕ) → Option Items → ItemsRead
+itemsReadOf slot none = I.Broken
+itemsReadOf slot (some r) = I.Read (slot + length (fieldsOf (r .items))) (r .next)
+
+abbrev pub deltaOf : Body → Delta
+deltaOf b =
+    record {
+      key = b .key;
+      base = b .baseKey;
+      deletes = length (b .deleted);
+      changes = length (b .items);
+      fields = length (fieldsOf (b .items));
+      used = b .used;
+    }
+
+unfoldable pub measuredOf : Option Body → Measured
+measuredOf none = M.NotFastArray
+measuredOf (some b) = M.Body (deltaOf b)
+
+-- What a reading leaves, from d to e: where it succeeds, each record is stored; where it does not, the caller uses nothing of it.
+unfoldable pub FieldsStored : Option Stream → (d : List ℕ) (slot : ℕ) (e : List ℕ) → Type 0
+FieldsStored none d slot e = Unit
+FieldsStored (some r) d slot e = e ≡ storeAll fieldRecord d (fieldWords * slot) (r .fields)
+
+-- done, slot: the items and fields before these
+unfoldable pub ItemsStored : Option Items → (done slot : ℕ) (items fields items′ fields′ : List ℕ) → Type 0
+ItemsStored none done slot di df ei ef = Unit
+ItemsStored (some r) done slot di df ei ef =
+    (ei ≡ storeAll itemRecord di (itemWords * done) (r .items)) × (ef ≡ storeAll fieldRecord df (fieldWords * slot) (fieldsOf (r .items)))

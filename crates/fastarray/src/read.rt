@@ -1,0 +1,65 @@
+// Reads inside a window of end bits at the front of the bytes.
+ghost use mathlib.Core.Path.{_≡_};
+ghost use Prim.Native.Nat.{_+_, _*_, _≤_};
+ghost use lib.ListN.{length};
+ghost use Rattle.bits.specs.Bits.{field};
+ghost use Rattle.fastarray.specs.Body.{window, numberAt, signedAt, flagBits};
+ghost use Rattle.fastarray.specs.Parts.{takenOf};
+use crate::ChecksumMode;
+use crate::Taken;
+use bits::Packed;
+
+// The bits between an item's id and its fields.
+pub fn flag_bits(mode: ChecksumMode) -> u64
+    ensures { λ r. ⌜ r ≡ flagBits mode ⌝ }
+{
+    match mode {
+        ChecksumMode::Absent => 0,
+        ChecksumMode::Present => 1,
+    }
+}
+
+// The support bit.
+pub fn first_bit(s: &[u8], end: u64) -> u64
+    requires { ⌜ (1 ≤ end) × (end ≤ 8 * length (now s)) ⌝ }
+    ensures { λ r. ⌜ r ≡ field (window (now (s .entry)) end) 0 1 ⌝ }
+{
+    bits::field::field_of(s, 0, 1)
+}
+
+// The 32 bits at bit at.
+pub fn word_of(s: &[u8], at: u64, end: u64) -> u32
+    requires { ⌜ (at + 32 ≤ end) × (end ≤ 8 * length (now s)) ⌝ }
+    ensures { λ r. ⌜ r ≡ field (window (now (s .entry)) end) at 32 ⌝ }
+{
+    let word = bits::field::field_of(s, at, 32);
+    word as u32
+}
+
+// The same as an i32.
+pub fn signed_of(s: &[u8], at: u64, end: u64) -> i32
+    requires { ⌜ (at + 32 ≤ end) × (end ≤ 8 * length (now s)) ⌝ }
+    ensures { λ r. ⌜ r ≡ signedAt (window (now (s .entry)) end) at ⌝ }
+{
+    let word = word_of(s, at, end);
+    let raw = word as u64;
+    let value = bits::integer::signed(raw, 32);
+    value as i32
+}
+
+// The packed number at bit at.
+pub fn number_of(s: &[u8], at: u64, end: u64) -> Taken
+    requires { ⌜ (at ≤ end) × (end ≤ 8 * length (now s)) × (end ≤ 524288) ⌝ }
+    ensures { λ r. ⌜ r ≡ takenOf (numberAt (window (now (s .entry)) end) end at) ⌝ }
+{
+    let number = bits::number::packed_at(s, at, end);
+    match number {
+        Packed::Whole(value, n) => {
+            let next = at + 8 * n;
+            Taken::Value(value, next)
+        }
+        Packed::Cut(_) => Taken::Broken,
+        Packed::GoesOn => Taken::Broken,
+        Packed::Overflows => Taken::Broken,
+    }
+}

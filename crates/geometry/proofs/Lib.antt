@@ -1,0 +1,5 @@
+pub mod PartLaws
+pub mod VectorLaws
+pub mod RotationLaws
+pub mod MovementLaws
+pub mod CasesProved

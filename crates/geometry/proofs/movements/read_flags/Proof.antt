@@ -1,0 +1,90 @@
+-- `geometry::movements::read_flags` meets its contract: each way out has its law.
+use borrow.Author.Needs.{needs}
+use Rattle.geometry.proofs.MovementLaws.{flags-first-refused, flags-second-refused, flags-third-refused, flags-fourth-refused, flags-read}
+use Rattle.geometry.proofs.movements.read_flags.Statement.{statement}
+use Rattle.geometry.proofs.movements.read_flags.Tie as tie
+
+read-bit-requires : tie.Need-read-bit-requires
+read-bit-requires c κs = search needs
+
+enum-known-first : tie.Need-enum-known-first
+enum-known-first c = search needs
+
+moved-requires : tie.Need-moved-requires
+moved-requires c κs = search needs
+
+read-bit-requires-2 : tie.Need-read-bit-requires-2
+read-bit-requires-2 c κs = search needs
+
+enum-known-second : tie.Need-enum-known-second
+enum-known-second c = search needs
+
+moved-requires-2 : tie.Need-moved-requires-2
+moved-requires-2 c κs = search needs
+
+read-bit-requires-3 : tie.Need-read-bit-requires-3
+read-bit-requires-3 c κs = search needs
+
+enum-known-third : tie.Need-enum-known-third
+enum-known-third c = search needs
+
+moved-requires-3 : tie.Need-moved-requires-3
+moved-requires-3 c κs = search needs
+
+read-bit-requires-4 : tie.Need-read-bit-requires-4
+read-bit-requires-4 c κs = search needs
+
+enum-known-fourth : tie.Need-enum-known-fourth
+enum-known-fourth c = search needs
+
+enum-known-fourth-2 : tie.Need-enum-known-fourth-2
+enum-known-fourth-2 c = search needs
+
+enum-known-third-2 : tie.Need-enum-known-third-2
+enum-known-third-2 c = search needs
+
+enum-known-second-2 : tie.Need-enum-known-second-2
+enum-known-second-2 c = search needs
+
+enum-known-first-2 : tie.Need-enum-known-first-2
+enum-known-first-2 c = search needs
+
+returns : tie.Need-returns
+returns c = flags-read _ _ (c .before .before .before .before .before .before .before .before .before .before .before .before .before .before .before .before .before .before .read-bit .ensures) (c .before .before .before .before .before .before .before .before .before .before .before .before .before .before .before .before .first .given .1) (c .before .before .before .before .before .before .before .before .before .before .before .before .before .before .moved .ensures) (c .before .before .before .before .before .before .before .before .before .before .before .before .before .read-bit2 .ensures) (c .before .before .before .before .before .before .before .before .before .before .before .second .given .1) (c .before .before .before .before .before .before .before .before .before .moved2 .ensures) (c .before .before .before .before .before .before .before .before .read-bit3 .ensures) (c .before .before .before .before .before .before .third .given .1) (c .before .before .before .before .moved3 .ensures) (c .before .before .before .read-bit4 .ensures) (c .before .fourth .given .1)
+
+returns-2 : tie.Need-returns-2
+returns-2 c = flags-fourth-refused _ _ (c .before .before .before .before .before .before .before .before .before .before .before .before .before .before .before .before .before .before .read-bit .ensures) (c .before .before .before .before .before .before .before .before .before .before .before .before .before .before .before .before .first .given .1) (c .before .before .before .before .before .before .before .before .before .before .before .before .before .before .moved .ensures) (c .before .before .before .before .before .before .before .before .before .before .before .before .before .read-bit2 .ensures) (c .before .before .before .before .before .before .before .before .before .before .before .second .given .1) (c .before .before .before .before .before .before .before .before .before .moved2 .ensures) (c .before .before .before .before .before .before .before .before .read-bit3 .ensures) (c .before .before .before .before .before .before .third .given .1) (c .before .before .before .before .moved3 .ensures) (c .before .before .before .read-bit4 .ensures) (c .before .fourth2 .given .1)
+
+returns-3 : tie.Need-returns-3
+returns-3 c = flags-third-refused _ _ (c .before .before .before .before .before .before .before .before .before .before .before .before .before .read-bit .ensures) (c .before .before .before .before .before .before .before .before .before .before .before .first .given .1) (c .before .before .before .before .before .before .before .before .before .moved .ensures) (c .before .before .before .before .before .before .before .before .read-bit2 .ensures) (c .before .before .before .before .before .before .second .given .1) (c .before .before .before .before .moved2 .ensures) (c .before .before .before .read-bit3 .ensures) (c .before .third2 .given .1)
+
+returns-4 : tie.Need-returns-4
+returns-4 c = flags-second-refused _ _ (c .before .before .before .before .before .before .before .before .read-bit .ensures) (c .before .before .before .before .before .before .first .given .1) (c .before .before .before .before .moved .ensures) (c .before .before .before .read-bit2 .ensures) (c .before .second2 .given .1)
+
+returns-5 : tie.Need-returns-5
+returns-5 c = flags-first-refused _ _ (c .before .before .before .read-bit .ensures) (c .before .first2 .given .1)
+
+pub read-flags-spec : {M : Type 1} → statement M
+read-flags-spec =
+    tie.close
+    (tie.spec
+    read-bit-requires
+    enum-known-first
+    moved-requires
+    read-bit-requires-2
+    enum-known-second
+    moved-requires-2
+    read-bit-requires-3
+    enum-known-third
+    moved-requires-3
+    read-bit-requires-4
+    enum-known-fourth
+    enum-known-fourth-2
+    enum-known-third-2
+    enum-known-second-2
+    enum-known-first-2
+    returns
+    returns-2
+    returns-3
+    returns-4
+    returns-5)

@@ -1,0 +1,70 @@
+-- `geometry::parts::read_three` meets its contract: each way out has its law.
+use borrow.Author.Needs.{needs}
+use Rattle.geometry.proofs.PartLaws.{first-refused, second-refused, third-refused, three-read}
+use Rattle.geometry.proofs.parts.read_three.Statement.{statement}
+use Rattle.geometry.proofs.parts.read_three.Tie as tie
+
+read-part-requires : tie.Need-read-part-requires
+read-part-requires c κs = search needs
+
+enum-known-first : tie.Need-enum-known-first
+enum-known-first c = search needs
+
+moved-requires : tie.Need-moved-requires
+moved-requires c κs = search needs
+
+read-part-requires-2 : tie.Need-read-part-requires-2
+read-part-requires-2 c κs = search needs
+
+enum-known-second : tie.Need-enum-known-second
+enum-known-second c = search needs
+
+moved-requires-2 : tie.Need-moved-requires-2
+moved-requires-2 c κs = search needs
+
+read-part-requires-3 : tie.Need-read-part-requires-3
+read-part-requires-3 c κs = search needs
+
+enum-known-third : tie.Need-enum-known-third
+enum-known-third c = search needs
+
+enum-known-third-2 : tie.Need-enum-known-third-2
+enum-known-third-2 c = search needs
+
+enum-known-second-2 : tie.Need-enum-known-second-2
+enum-known-second-2 c = search needs
+
+enum-known-first-2 : tie.Need-enum-known-first-2
+enum-known-first-2 c = search needs
+
+returns : tie.Need-returns
+returns c = three-read _ _ _ (c .before .before .before .before .before .before .before .before .before .before .before .before .before .read-part .ensures) (c .before .before .before .before .before .before .before .before .before .before .before .first .given .1) (c .before .before .before .before .before .before .before .before .before .moved .ensures) (c .before .before .before .before .before .before .before .before .read-part2 .ensures) (c .before .before .before .before .before .before .second .given .1) (c .before .before .before .before .moved2 .ensures) (c .before .before .before .read-part3 .ensures) (c .before .third .given .1)
+
+returns-2 : tie.Need-returns-2
+returns-2 c = third-refused _ _ _ (c .before .before .before .before .before .before .before .before .before .before .before .before .before .read-part .ensures) (c .before .before .before .before .before .before .before .before .before .before .before .first .given .1) (c .before .before .before .before .before .before .before .before .before .moved .ensures) (c .before .before .before .before .before .before .before .before .read-part2 .ensures) (c .before .before .before .before .before .before .second .given .1) (c .before .before .before .before .moved2 .ensures) (c .before .before .before .read-part3 .ensures) (c .before .third2 .given .1)
+
+returns-3 : tie.Need-returns-3
+returns-3 c = second-refused _ _ _ (c .before .before .before .before .before .before .before .before .read-part .ensures) (c .before .before .before .before .before .before .first .given .1) (c .before .before .before .before .moved .ensures) (c .before .before .before .read-part2 .ensures) (c .before .second2 .given .1)
+
+returns-4 : tie.Need-returns-4
+returns-4 c = first-refused _ _ _ (c .before .before .before .read-part .ensures) (c .before .first2 .given .1)
+
+pub read-three-spec : {M : Type 1} → statement M
+read-three-spec =
+    tie.close
+    (tie.spec
+    read-part-requires
+    enum-known-first
+    moved-requires
+    read-part-requires-2
+    enum-known-second
+    moved-requires-2
+    read-part-requires-3
+    enum-known-third
+    enum-known-third-2
+    enum-known-second-2
+    enum-known-first-2
+    returns
+    returns-2
+    returns-3
+    returns-4)

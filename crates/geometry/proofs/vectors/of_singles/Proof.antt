@@ -1,0 +1,70 @@
+-- `geometry::vectors::of_singles` meets its contract: each return has the tests that led there.
+use borrow.Author.Needs.{needs}
+use mathlib.Core.Path.{sym, ap, _∙_}
+use borrow.Author.Tests.{not-true, not-false}
+use Rattle.geometry.proofs.VectorLaws.{first-infinite, second-infinite, third-infinite, all-finite}
+use Rattle.geometry.specs.Vectors.{vector}
+use Rattle.geometry.specs.declared.VectorRead.the-variants.{Value}
+use Rattle.geometry.proofs.vectors.of_singles.Statement.{statement}
+use Rattle.geometry.proofs.vectors.of_singles.Tie as tie
+
+finite-single-requires : tie.Need-finite-single-requires
+finite-single-requires c κs = search needs
+
+not-finite-requires : tie.Need-not-finite-requires
+not-finite-requires c κs = search needs
+
+returns : tie.Need-returns
+returns c = c .not-finite .ensures ∙ first-infinite _ _ _ _ (sym (c .before .before .finite-single .ensures) ∙ not-true _ (c .before .if1 .taken))
+
+finite-single-requires-2 : tie.Need-finite-single-requires-2
+finite-single-requires-2 c κs = search needs
+
+not-finite-requires-2 : tie.Need-not-finite-requires-2
+not-finite-requires-2 c κs = search needs
+
+returns-2 : tie.Need-returns-2
+returns-2 c = c .not-finite2 .ensures ∙ second-infinite _ _ _ _ (sym (c .before .before .before .before .finite-single .ensures) ∙ not-false _ (c .before .before .before .if1 .left)) (sym (c .before .before .finite-single2 .ensures) ∙ not-true _ (c .before .if2 .taken))
+
+finite-single-requires-3 : tie.Need-finite-single-requires-3
+finite-single-requires-3 c κs = search needs
+
+not-finite-requires-3 : tie.Need-not-finite-requires-3
+not-finite-requires-3 c κs = search needs
+
+returns-3 : tie.Need-returns-3
+returns-3 c = c .not-finite3 .ensures ∙ third-infinite _ _ _ _ (sym (c .before .before .before .before .before .before .finite-single .ensures) ∙ not-false _ (c .before .before .before .before .before .if1 .left)) (sym (c .before .before .before .before .finite-single2 .ensures) ∙ not-false _ (c .before .before .before .if2 .left)) (sym (c .before .before .finite-single3 .ensures) ∙ not-true _ (c .before .if3 .taken))
+
+widened-requires : tie.Need-widened-requires
+widened-requires c κs = sym (c .before .before .before .before .before .finite-single .ensures) ∙ not-false _ (c .before .before .before .before .if1 .left)
+
+widened-requires-2 : tie.Need-widened-requires-2
+widened-requires-2 c κs = sym (c .before .before .before .before .finite-single2 .ensures) ∙ not-false _ (c .before .before .before .if2 .left)
+
+widened-requires-3 : tie.Need-widened-requires-3
+widened-requires-3 c κs = sym (c .before .before .before .finite-single3 .ensures) ∙ not-false _ (c .before .before .if3 .left)
+
+made-requires : tie.Need-made-requires
+made-requires c κs = search needs
+
+returns-4 : tie.Need-returns-4
+returns-4 c = c .made .ensures ∙ rw (c .before .before .before .widened .ensures, c .before .before .widened2 .ensures, c .before .widened3 .ensures) (all-finite _ _ _ _ (sym (c .before .before .before .before .before .before .before .before .before .finite-single .ensures) ∙ not-false _ (c .before .before .before .before .before .before .before .before .if1 .left)) (sym (c .before .before .before .before .before .before .before .finite-single2 .ensures) ∙ not-false _ (c .before .before .before .before .before .before .if2 .left)) (sym (c .before .before .before .before .before .finite-single3 .ensures) ∙ not-false _ (c .before .before .before .before .if3 .left)))
+
+pub of-singles-spec : {M : Type 1} → statement M
+of-singles-spec =
+    tie.close
+    (tie.spec
+    finite-single-requires
+    not-finite-requires
+    returns
+    finite-single-requires-2
+    not-finite-requires-2
+    returns-2
+    finite-single-requires-3
+    not-finite-requires-3
+    returns-3
+    widened-requires
+    widened-requires-2
+    widened-requires-3
+    made-requires
+    returns-4)

@@ -1,0 +1,6 @@
+pub mod Refusals
+pub mod Parts
+pub mod Vectors
+pub mod Rotations
+pub mod Movements
+pub mod Cases
