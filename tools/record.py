@@ -3,10 +3,13 @@
 
     record.py CASES ANSWERS OUT
 
-CASES and ANSWERS are text, one line a case, matched by the id that starts each line. OUT is eight bytes of magic, then for
-each case its size, its kind's letter, its id, its fields and the Rust's answer, all numbers with the low byte first; the
-comment at the top of crates/replay/src/main.rt states the format. Cases of other kinds are left out and counted on
-standard error.
+CASES and ANSWERS are text, one line a case, matched by the id that starts each line. A case that the Rust can't answer
+has its expected answer in its own line, behind a `=`. A `#` between blanks, or at a line's start, begins a comment. OUT is
+eight bytes of magic, then for each case its size, its kind's letter, its id, its fields and the answer, all numbers with the
+low byte first; the comment at the top of crates/replay/src/main.rt states the format. Cases of other kinds are left out and
+counted on standard error.
+
+In the lists and pools of a case of kind L parts may be joined by `+` and repeated by `count*`: `2*0,1+5` is `0,1,0,1,5`.
 """
 import struct
 import sys
@@ -14,6 +17,8 @@ import sys
 MAGIC = b"VRFCASE1"
 # What the replay holds of a file at once, less the size in front of a case.
 LARGEST = 4194304 - 4
+# The numbers that it takes of a case of kind L: of rows, of declared names.
+ROW_ROOM, DECLARED_ROOM = 2600, 2100
 # The refusal numbers of document 01, and how many values its table names.
 REFUSALS = {
     "Eof": (7, 3),
@@ -28,10 +33,10 @@ class Broken(Exception):
     """A line that can't be recorded."""
 
 
-def number(word):
+def number(word, bits=64):
     value = int(word)
-    if not 0 <= value < 1 << 64:
-        raise Broken("%s doesn't fit 64 bits" % word)
+    if not 0 <= value < 1 << bits:
+        raise Broken("%s doesn't fit %d bits" % (word, bits))
     return value
 
 
@@ -118,14 +123,56 @@ def copied(words, answer):
     return u64(count, room) + window(words[2:]) + copy(answer, room)
 
 
+def parts(word):
+    """The parts of a list or a pool, each as often as it is repeated; `-` has none."""
+    for part in [] if word == "-" else word.split("+"):
+        count, star, item = part.rpartition("*")
+        for _ in range(int(count) if star else 1):
+            yield item
+
+
+def u32s(word, room):
+    values = [number(value, 32) for part in parts(word) for value in part.split(",")]
+    if len(values) > room:
+        raise Broken("a list of %d numbers; the replay takes %d" % (len(values), room))
+    return run(struct.pack("<%dI" % len(values), *values))
+
+
+def pool(word):
+    return run(b"".join(bytes.fromhex(part) for part in parts(word)))
+
+
+def tables(words, answer):
+    if len(words) != 6:
+        raise Broken("6 fields were expected")
+    expected = {"accepted": 0, "refused 2": 2}.get(" ".join(answer))
+    if expected is None:
+        raise Broken("tables are accepted or refused 2")
+    levels, root, rows, names, declared, declared_names = words
+    return (
+        u64(number(levels, 32), number(root, 32))
+        + u32s(rows, ROW_ROOM)
+        + pool(names)
+        + u32s(declared, DECLARED_ROOM)
+        + pool(declared_names)
+        + u64(expected)
+    )
+
+
 # A kind's fields and answer as bytes.
-KINDS = {"P": plain(0), "I": plain(1), "G": plain(1), "C": copied}
+KINDS = {"P": plain(0), "I": plain(1), "G": plain(1), "C": copied, "L": tables}
+
+
+def before(words, mark):
+    """The words up to the mark, and those behind it."""
+    at = words.index(mark) if mark in words else len(words)
+    return words[:at], words[at + 1 :]
 
 
 def lines(path):
     with open(path, encoding="ascii") as f:
         for at, line in enumerate(f, 1):
-            words = line.split()
+            words = before(line.split(), "#")[0]
             if words:
                 yield at, words
 
@@ -136,9 +183,21 @@ def answers_of(path):
     for at, words in lines(path):
         if words[0] in answers:
             raise Broken("%s:%d: a second answer of case %s" % (path, at, words[0]))
-        cut = words.index("trace") if "trace" in words else len(words)
-        answers[words[0]] = words[1:cut]
+        answers[words[0]] = before(words, "trace")[0][1:]
     return answers
+
+
+def answered(words, answers):
+    """A case's words, and those of its answer: its own, or the one of its id."""
+    words, own = before(words, "=")
+    if own and words[0] in answers:
+        raise Broken("a second answer of case %s" % words[0])
+    answer = own or answers.get(words[0])
+    if answer is None:
+        raise Broken("no answer of case %s" % words[0])
+    if answer[:1] == ["PANIC"]:
+        raise Broken("the Rust has no answer of case %s: it panics" % words[0])
+    return words, answer
 
 
 def case(words, answer):
@@ -158,23 +217,19 @@ def main():
     taken, skipped = 0, {}
     try:
         answers = answers_of(answers_path)
-        parts = [MAGIC]
+        recorded = [MAGIC]
         for at, words in lines(cases):
             kind = words[1] if len(words) > 1 else "none"
             if kind not in KINDS:
                 skipped[kind] = skipped.get(kind, 0) + 1
                 continue
             try:
-                if words[0] not in answers:
-                    raise Broken("no answer of case %s" % words[0])
-                if answers[words[0]][:1] == ["PANIC"]:
-                    raise Broken("the Rust has no answer of case %s: it panics" % words[0])
-                parts.append(case(words, answers[words[0]]))
+                recorded.append(case(*answered(words, answers)))
             except (Broken, ValueError) as e:
                 raise Broken("%s:%d: %s" % (cases, at, e))
             taken += 1
         with open(out, "wb") as f:
-            f.write(b"".join(parts))
+            f.write(b"".join(recorded))
     except (Broken, OSError, UnicodeDecodeError) as e:
         sys.exit("record.py: %s" % e)
     for kind, count in sorted(skipped.items()):

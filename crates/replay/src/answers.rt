@@ -1,7 +1,7 @@
 // Answers of a read, ours and the recorded one, and what comes of a case.
 ghost use mathlib.Core.Path.{_≡_};
 ghost use Prim.Native.Nat.{_%_, _^_};
-ghost use Rattle.bitio.specs.Refusals.{numbered, standsAfter, with};
+ghost use Rattle.bitio.specs.Refusals.{numbered, refusal, standsAfter};
 ghost use Rattle.replay.specs.Says.{Says};
 use crate::fields;
 use crate::say;
@@ -38,6 +38,8 @@ pub enum Fault {
     Layout,
     // A number that the kind doesn't take.
     Number,
+    // A list of u32 with more than the kind takes.
+    List,
 }
 
 pub enum Outcome {
@@ -54,7 +56,7 @@ pub enum Placed {
 }
 
 fn answer_of(number: u64, first: u64, second: u64, third: u64, cursor: u64) -> Answer
-    ensures says { λ a. ⌜ Says a (with number first second third) ⌝ }
+    ensures says { λ a. ⌜ Says a (refusal number first second third) ⌝ }
     ensures stands { λ a. ⌜ a .cursor ≡ cursor ⌝ }
 {
     Answer {

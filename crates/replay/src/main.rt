@@ -1,11 +1,12 @@
 // Replays recorded cases: `replay FILE` computes the answer of each case with our crates, prints a line for each one that
-// differs from the answer that the Rust gave, and last how many cases there were and how many differ.
+// differs from the expected answer, and last how many cases there were and how many differ.
 //
 // The file. Every number is u64, the low byte first, where nothing else is said.
 //
 //     file   = "VRFCASE1" case*
 //     case   = size (u32: the bytes of what follows) kind (u8: a letter) length (u8) id (length bytes) fields
 //     run    = count, count bytes
+//     list   = a run of u32: of rows at most 2,600 of them, of declared names at most 2,100
 //     window = skip, bits, run: the first `bits` bits of the bytes, read at bit `skip`
 //     answer = number, first, second, third, cursor
 //
@@ -14,11 +15,16 @@
 //     I      maximum window answer                            a serialized integer (maximum is below 2^32)
 //     G      count window answer                              `count` bits as one number
 //     C      count room window answer target (room bytes)     a copy of `count` bits to a target of `room` bytes
+//     L      levels root list run list run number             schema and declared tables: level count and root (below 2^32);
+//                                                             the rows and their name pool; the declared numbers and theirs
 //
 // An answer's number is 0 for an accepted read, whose first value is what was read (of a copy 0), or a refusal's number by
 // document 01, with the values of its table in its order; values that it doesn't name are 0. The cursor is the one after
 // the read, in the window; 0 where no window was opened. A target holds 0xEE in each byte before the copy. A window of
 // more than 524,288 bits is refused by document 01 and read by the Rust, so a case with one differs.
+//
+// Tables are accepted (number 0) or refused (number 2). The Rust has no such tables: what is expected of them is derived
+// from document 01's layout by hand.
 //
 // A difference is one line with both answers. At a case that breaks these rules the replay stops, says which case it is,
 // counted from 1, and the last line says that it stopped.
@@ -32,6 +38,7 @@ mod fixed;
 mod packed;
 mod say;
 mod serialized;
+mod tables;
 
 ghost use Prim.Native.Nat.{_≤_};
 ghost use mathlib.Core.Path.{_≡_};
@@ -84,6 +91,7 @@ fn replay_case(s: &[u8]) -> Outcome {
         b'I' => serialized::replay(s, at),
         b'G' => fixed::replay(s, at),
         b'C' => copied::replay(s, at),
+        b'L' => tables::replay(s, at),
         _ => Outcome::Damaged(Fault::Kind),
     }
 }

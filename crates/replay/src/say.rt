@@ -74,6 +74,9 @@ fn reason(f: Fault) {
         Fault::Number => {
             text(b"a number in it is larger than its kind allows");
         }
+        Fault::List => {
+            text(b"it has rows of more than 2600 numbers, or declared names of more than 2100");
+        }
     }
 }
 

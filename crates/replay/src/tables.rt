@@ -1,0 +1,127 @@
+// Kind L: schema and declared tables, accepted or refused 2.
+ghost use mathlib.Core.Path.{_≡_};
+ghost use Prim.Native.Nat.{_/_, _≤_};
+ghost use lib.ListN.{length};
+use crate::answers::Fault;
+use crate::answers::Outcome;
+use crate::fields;
+use crate::say;
+
+// Rooms for the numbers of the two lists: more than document 01 accepts (512 rows of 5, 1,024 handles of 2), so that lists
+// over size are replayed too. `say` names both for a longer one.
+const ROW_ROOM: usize = 2600;
+
+const DECLARED_ROOM: usize = 2100;
+
+fn row_room() -> [u32; 2600]
+    ensures { λ r. ⌜ 2600 ≡ length r ⌝ }
+{
+    [0; 2600]
+}
+
+fn declared_room() -> [u32; 2100]
+    ensures { λ r. ⌜ 2100 ≡ length r ⌝ }
+{
+    [0; 2100]
+}
+
+// The u32 of a list, to the front of `room`; how many they are.
+fn unpack(list: &[u8], room: &mut [u32]) -> usize
+    requires { ⌜ length (now list) / 4 ≤ length (now room) ⌝ }
+    ensures { λ r. ⌜ r ≤ length (now (room .entry)) ⌝ }
+{
+    let n = list.len() / 4;
+    let mut i = 0;
+    while i < n {
+        let value = bits::load::load32(list, 4 * i);
+        room[i] = value as u32;
+        i += 1;
+    }
+    n
+}
+
+// Our answer: 0 for accepted tables, or the refusal's number.
+fn answer(
+    rows: &[u8],
+    levels: u32,
+    root: u32,
+    names: &[u8],
+    declared: &[u8],
+    declared_names: &[u8],
+) -> u64
+    requires { ⌜ (length (now rows) / 4 ≤ 2600) × (length (now declared) / 4 ≤ 2100) ⌝ }
+{
+    let mut row_numbers = row_room();
+    let mut declared_numbers = declared_room();
+    let n = unpack(rows, &mut row_numbers);
+    let m = unpack(declared, &mut declared_numbers);
+    let row_space: &[u32] = &row_numbers;
+    let declared_space: &[u32] = &declared_numbers;
+    let row_list = &row_space[0..n];
+    let declared_list = &declared_space[0..m];
+    let accepted = schema::layout::check_tables(
+        row_list,
+        levels,
+        root,
+        names,
+        declared_list,
+        declared_names,
+    );
+    if accepted { 0 } else { 2 }
+}
+
+fn say_answer(number: u64) {
+    if number == 0 {
+        say::text(b"accepted");
+    } else {
+        say::text(b"refusal ");
+        say::number(number);
+    }
+}
+
+fn judge(s: &[u8], expected: u64, got: u64) -> Outcome {
+    if expected == got {
+        return Outcome::Same;
+    }
+    say::case(s);
+    say_answer(expected);
+    say::text(b", got ");
+    say_answer(got);
+    say::text(b"\n");
+    Outcome::Differs
+}
+
+pub fn replay(s: &[u8], at: usize) -> Outcome {
+    let level_count = fields::number(s, at);
+    let root_level = fields::number(s, level_count.next);
+    let rows = fields::run(s, root_level.next);
+    let names_at = fields::after_run(s, root_level.next);
+    let names = fields::run(s, names_at);
+    let declared_at = fields::after_run(s, names_at);
+    let declared = fields::run(s, declared_at);
+    let declared_names_at = fields::after_run(s, declared_at);
+    let declared_names = fields::run(s, declared_names_at);
+    let end = fields::after_run(s, declared_names_at);
+    let expected = fields::number(s, end);
+    if expected.next != s.len() || rows.len() % 4 != 0 || declared.len() % 4 != 0 {
+        return Outcome::Damaged(Fault::Layout);
+    }
+    if ROW_ROOM < rows.len() / 4 {
+        return Outcome::Damaged(Fault::List);
+    }
+    if DECLARED_ROOM < declared.len() / 4 {
+        return Outcome::Damaged(Fault::List);
+    }
+    let large_levels = level_count.value;
+    let large_root = root_level.value;
+    if 0xffff_ffff < large_levels {
+        return Outcome::Damaged(Fault::Number);
+    }
+    if 0xffff_ffff < large_root {
+        return Outcome::Damaged(Fault::Number);
+    }
+    let levels = large_levels as u32;
+    let root = large_root as u32;
+    let got = answer(rows, levels, root, names, declared, declared_names);
+    judge(s, expected.value, got)
+}
