@@ -19,14 +19,18 @@ MAGIC = b"VRFCASE1"
 LARGEST = 4194304 - 4
 # The numbers that it takes of a case of kind L: of rows, of declared names.
 ROW_ROOM, DECLARED_ROOM = 2600, 2100
-# The refusal numbers of document 01, and how many values its table names.
+# The refusal numbers of document 01, how many values its table names, and how many numbers the oracle prints.
 REFUSALS = {
-    "Eof": (7, 3),
-    "MalformedIntPacked": (8, 1),
-    "IntPackedOverflow": (9, 1),
-    "InvalidSerializedIntMax": (10, 0),
-    "InvalidBitLength": (14, 2),
+    "Eof": (7, 3, 3),
+    "MalformedIntPacked": (8, 1, 1),
+    "IntPackedOverflow": (9, 1, 1),
+    "InvalidSerializedIntMax": (10, 0, 1),
+    "InvalidQuantizationScale": (11, 0, 1),
+    "NonFiniteComponent": (12, 0, 0),
+    "InvalidBitLength": (14, 2, 2),
 }
+# The numbers of a movement's record.
+RECORD = 19
 
 
 class Broken(Exception):
@@ -63,8 +67,7 @@ def refusal(words, after):
     """`<variant> <numbers>` as an answer, and the words behind it."""
     if not words or words[0] not in REFUSALS:
         raise Broken("unknown refusal %s" % " ".join(words[:1]))
-    value, named = REFUSALS[words[0]]
-    printed = max(named, 1)
+    value, named, printed = REFUSALS[words[0]]
     values = [number(w) for w in words[1 : 1 + named]]
     if len(values) != named or len(words) < 1 + printed:
         raise Broken("the refusal %s lacks values" % words[0])
@@ -98,6 +101,50 @@ def copy(words, room):
     if len(rest) > 1 or len(target) != room:
         raise Broken("a target of %d bytes was expected" % room)
     return answer + target
+
+
+def patterns(word, digits):
+    """Three floats, printed as hex digits, as numbers."""
+    parts = word.split(",")
+    if len(parts) != 3 or any(len(p) != digits for p in parts):
+        raise Broken("three patterns of %d digits were expected" % digits)
+    return [int(p, 16) for p in parts]
+
+
+def three(words, digits):
+    """The answer of a read of three floats."""
+    words, after = cursor(words)
+    if words[:1] == ["ERR"]:
+        answer, rest = refusal(words[1:], after)
+        if rest:
+            raise Broken("words after the answer")
+        return answer
+    if words[:1] == ["ok"] and len(words) == 2:
+        return u64(0, *patterns(words[1], digits), after)
+    raise Broken("no answer of three floats")
+
+
+def present(word):
+    """A number that is there or not."""
+    return [0, 0] if word == "-" else [1, number(word)]
+
+
+def record_of(words):
+    """`sleep physics loc v rot v lin v ang v|- frame n|- handle n|-` as the record's numbers."""
+    names = ["loc", "rot", "lin", "ang", "frame", "handle"]
+    if len(words) != 14 or words[2::2] != names:
+        raise Broken("no record of a movement")
+    loc, rot, lin, ang, frame, handle = words[3::2]
+    spin = [0, 0, 0, 0] if ang == "-" else [1] + patterns(ang, 16)
+    return (
+        [number(words[0]), number(words[1])]
+        + patterns(loc, 16)
+        + patterns(rot, 8)
+        + patterns(lin, 16)
+        + spin
+        + present(frame)
+        + present(handle)
+    )
 
 
 def window(words):
@@ -159,8 +206,45 @@ def tables(words, answer):
     )
 
 
+def floats(count, digits):
+    """A kind with so many numbers, a window, and the answer of a read of three floats."""
+
+    def record(words, answer):
+        if len(words) != count + 3:
+            raise Broken("%d fields were expected" % (count + 3))
+        return u64(*map(number, words[:count])) + window(words[count:]) + three(answer, digits)
+
+    return record
+
+
+def moved(words, answer):
+    if len(words) != 4:
+        raise Broken("4 fields were expected")
+    scale, width, bits, data = words
+    case = u64(number(scale), number(width), number(bits)) + run(hexed(data))
+    answer, after = cursor(answer)
+    if answer[:1] == ["ok"]:
+        return case + u64(0, 0, 0, 0, after, *record_of(answer[1:]))
+    if answer[:1] != ["ERR"]:
+        raise Broken("no answer of a movement")
+    refused, rest = refusal(answer[1:], after)
+    if rest:
+        raise Broken("words after the answer")
+    return case + refused + u64(*[0] * RECORD)
+
+
 # A kind's fields and answer as bytes.
-KINDS = {"P": plain(0), "I": plain(1), "G": plain(1), "C": copied, "L": tables}
+KINDS = {
+    "P": plain(0),
+    "I": plain(1),
+    "G": plain(1),
+    "C": copied,
+    "L": tables,
+    "V": floats(1, 16),
+    "N": floats(0, 16),
+    "R": floats(1, 8),
+    "M": moved,
+}
 
 
 def before(words, mark):

@@ -55,7 +55,7 @@ pub enum Placed {
     Refused(Answer),
 }
 
-fn answer_of(number: u64, first: u64, second: u64, third: u64, cursor: u64) -> Answer
+pub fn answer_of(number: u64, first: u64, second: u64, third: u64, cursor: u64) -> Answer
     ensures says { λ a. ⌜ Says a (refusal number first second third) ⌝ }
     ensures stands { λ a. ⌜ a .cursor ≡ cursor ⌝ }
 {

@@ -17,8 +17,13 @@
 //     C      count room window answer target (room bytes)     a copy of `count` bits to a target of `room` bytes
 //     L      levels root list run list run number             schema and declared tables: level count and root (below 2^32);
 //                                                             the rows and their name pool; the declared numbers and theirs
+//     V      scale window answer                              a quantized vector (scale is below 2^32)
+//     N      window answer                                    a fixed normal
+//     R      width window answer                              a rotation (width is below 2^32)
+//     M      scale width bits run answer record               a movement in the first `bits` bits (record: movement.rt)
 //
-// An answer's number is 0 for an accepted read, whose first value is what was read (of a copy 0), or a refusal's number by
+// An answer's number is 0 for an accepted read, whose first value is what was read (of a copy or a movement 0; of V, N and
+// R the three values are the bit patterns of the three floats), or a refusal's number by
 // document 01, with the values of its table in its order; values that it doesn't name are 0. The cursor is the one after
 // the read, in the window; 0 where no window was opened. A target holds 0xEE in each byte before the copy. A window of
 // more than 524,288 bits is refused by document 01 and read by the Rust, so a case with one differs.
@@ -35,10 +40,15 @@ mod answers;
 mod copied;
 mod fields;
 mod fixed;
+mod geometric;
+mod movement;
+mod normal;
 mod packed;
+mod rotation;
 mod say;
 mod serialized;
 mod tables;
+mod vector;
 
 ghost use Prim.Native.Nat.{_≤_};
 ghost use mathlib.Core.Path.{_≡_};
@@ -92,6 +102,10 @@ fn replay_case(s: &[u8]) -> Outcome {
         b'G' => fixed::replay(s, at),
         b'C' => copied::replay(s, at),
         b'L' => tables::replay(s, at),
+        b'V' => vector::replay(s, at),
+        b'N' => normal::replay(s, at),
+        b'R' => rotation::replay(s, at),
+        b'M' => movement::replay(s, at),
         _ => Outcome::Damaged(Fault::Kind),
     }
 }

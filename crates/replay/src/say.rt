@@ -12,6 +12,11 @@ pub fn number(x: u64) {
     io::print_decimal(STDOUT_FILENO, x);
 }
 
+// All 64 bits, in hex.
+pub fn pattern(x: u64) {
+    io::print_hex(STDOUT_FILENO, x, 16);
+}
+
 fn wide(x: u8) -> u64 {
     x as u64
 }

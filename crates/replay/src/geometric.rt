@@ -1,0 +1,57 @@
+// What the kinds V, N, R and M share: floats as bit patterns, so that the two zeros are told apart, and refusals.
+ghost use mathlib.Core.Path.{_≡_};
+ghost use Prim.Native.Nat.{_%_, _^_};
+ghost use Rattle.geometry.specs.Refusals.{numbered, standsAfter};
+ghost use Rattle.replay.specs.Says.{Says};
+use crate::answers;
+use crate::answers::Answer;
+use geometry::Refusal;
+use geometry::Vector;
+use geometry::VectorRead;
+
+// A NaN, which no answer holds, has the pattern of the quiet one.
+pub fn double_bits(x: f64) -> u64 {
+    if x != x {
+        return 0x7ff8_0000_0000_0000;
+    }
+    f64::to_bits(x)
+}
+
+fn narrow_bits(x: f32) -> u32 {
+    if x != x {
+        return 0x7fc0_0000;
+    }
+    f32::to_bits(x)
+}
+
+pub fn single_bits(x: f32) -> u64 {
+    let narrow = narrow_bits(x);
+    narrow as u64
+}
+
+// What a refusal says, and where the cursor that stood at `at` stands after it (geometry's specs/Refusals).
+pub fn refused(r: Refusal, at: u64) -> Answer
+    ensures says { λ a. ⌜ Says a (numbered r) ⌝ }
+    ensures stands { λ a. ⌜ a .cursor ≡ standsAfter at r % 2 ^ 64 ⌝ }
+{
+    match r {
+        Refusal::Unread(part) => answers::refused(part, at),
+        Refusal::NoScale => answers::answer_of(11, 0, 0, 0, at),
+        Refusal::NotFinite(position) => answers::answer_of(12, 0, 0, 0, position),
+        Refusal::NoSuchWidth => answers::answer_of(13, 0, 0, 0, at),
+    }
+}
+
+fn vector_answer(v: Vector, next: u64) -> Answer {
+    let x = double_bits(v.x);
+    let y = double_bits(v.y);
+    let z = double_bits(v.z);
+    answers::answer_of(0, x, y, z, next)
+}
+
+pub fn of_vector(read: VectorRead, at: u64) -> Answer {
+    match read {
+        VectorRead::Value(v, next) => vector_answer(v, next),
+        VectorRead::Refused(r) => refused(r, at),
+    }
+}
