@@ -21,6 +21,7 @@ LARGEST = 4194304 - 4
 ROW_ROOM, DECLARED_ROOM = 2600, 2100
 # The refusal numbers of document 01, how many values its table names, and how many numbers the oracle prints.
 REFUSALS = {
+    "NotAFastArray": (6, 0, 0),
     "Eof": (7, 3, 3),
     "MalformedIntPacked": (8, 1, 1),
     "IntPackedOverflow": (9, 1, 1),
@@ -233,12 +234,48 @@ def moved(words, answer):
     return case + refused + u64(*[0] * RECORD)
 
 
+def u32(*values):
+    return struct.pack("<%dI" % len(values), *(v & 0xFFFFFFFF for v in values))
+
+
+def body(words):
+    """`<keys> <deletes> <changes> used <bits> need <deletes> <items> <fields> D <id>.. I <id>:<fields> <field>..`: the counts and the
+    bits used as an answer, then the keys, the ids, the items and the fields, each number as 32 bits."""
+    if len(words) < 11 or words[4] != "used" or words[6] != "need" or words[10] != "D":
+        raise Broken("no fast-array body")
+    key, base, deletes, changes, used, items, fields = (int(words[i]) for i in (0, 1, 2, 3, 5, 8, 9))
+    rest = words[11:]
+    first = rest.index("I") if "I" in rest else len(rest)
+    ids = [int(w) for w in rest[:first]]
+    item_words, field_words = [], []
+    for at, word in enumerate(rest[first:], first):
+        if word == "I":
+            continue
+        parts = [number(w) for w in word.split(":")]
+        (item_words if rest[at - 1] == "I" else field_words).extend(parts)
+    if len(ids) != deletes or len(item_words) != 2 * changes or items != changes or len(field_words) != 3 * fields:
+        raise Broken("the lists don't have as many entries as the counts say")
+    return u64(0, deletes, changes, fields, used) + u32(key, base, *ids, *item_words, *field_words)
+
+
+def fast(words, answer):
+    if len(words) != 3:
+        raise Broken("3 fields were expected")
+    front = u64(number(words[0]), number(words[1])) + run(hexed(words[2]))
+    if answer[:1] == ["ok"]:
+        return front + body(answer[1:])
+    if answer[:1] != ["ERR"]:
+        raise Broken("no answer of a fast array")
+    return front + refusal(answer[1:], 0)[0]
+
+
 # A kind's fields and answer as bytes.
 KINDS = {
     "P": plain(0),
     "I": plain(1),
     "G": plain(1),
     "C": copied,
+    "F": fast,
     "L": tables,
     "V": floats(1, 16),
     "N": floats(0, 16),

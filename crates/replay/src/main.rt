@@ -21,15 +21,20 @@
 //     N      window answer                                    a fixed normal
 //     R      width window answer                              a rotation (width is below 2^32)
 //     M      scale width bits run answer record               a movement in the first `bits` bits (record: movement.rt)
+//     F      mode bits run answer lists                       a fast-array body (mode 0: no checksum flag, 1: a flag)
 //
 // An answer's number is 0 for an accepted read, whose first value is what was read (of a copy or a movement 0; of V, N and
-// R the three values are the bit patterns of the three floats), or a refusal's number by
-// document 01, with the values of its table in its order; values that it doesn't name are 0. The cursor is the one after
-// the read, in the window; 0 where no window was opened. A target holds 0xEE in each byte before the copy. A window of
+// R the three values are the bit patterns of the three floats), or a refusal's number by document 01, with the values of
+// its table in its order; values that it doesn't name are 0. The cursor is the one after the read, in the window; 0 where
+// no window was opened. A target holds 0xEE in each byte before the copy. A window of
 // more than 524,288 bits is refused by document 01 and read by the Rust, so a case with one differs.
 //
 // Tables are accepted (number 0) or refused (number 2). The Rust has no such tables: what is expected of them is derived
 // from document 01's layout by hand.
+//
+// Of a fast-array body the answer's values are the deletes, items and fields, and its cursor the bits used; the lists are,
+// in u32, the two keys, the deleted ids, the items and the fields, and none where it is refused. Each buffer is lent exactly
+// as large as needed; a further call for each buffer that needs something lacks one record there, and has to give 3.
 //
 // A difference is one line with both answers. At a case that breaks these rules the replay stops, says which case it is,
 // counted from 1, and the last line says that it stopped.
@@ -38,6 +43,7 @@
 // `replay_case`.
 mod answers;
 mod copied;
+mod fast;
 mod fields;
 mod fixed;
 mod geometric;
@@ -106,6 +112,7 @@ fn replay_case(s: &[u8]) -> Outcome {
         b'N' => normal::replay(s, at),
         b'R' => rotation::replay(s, at),
         b'M' => movement::replay(s, at),
+        b'F' => fast::replay(s, at),
         _ => Outcome::Damaged(Fault::Kind),
     }
 }

@@ -1,0 +1,18 @@
+-- `replay::front_words` meets its contract: the part ends in the slice.
+use borrow.Author.Needs.{needs}
+use mathlib.Core.Path.{sym}
+use lib.Seq.{length-take-le}
+use Rattle.replay.proofs.fast.front_words.Statement.{statement}
+use Rattle.replay.proofs.fast.front_words.Tie as tie
+
+least-requires : tie.Need-least-requires
+least-requires c κs = search needs
+
+slice-aggregate-result : tie.Need-slice-aggregate-result
+slice-aggregate-result c = sym (length-take-le _ _ (c .before .least .ensures))
+
+returns : tie.Need-returns
+returns c = search needs
+
+pub front-words-spec : {M : Type 1} → statement M
+front-words-spec = tie.close (tie.spec least-requires slice-aggregate-result returns)

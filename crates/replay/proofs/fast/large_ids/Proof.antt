@@ -1,0 +1,10 @@
+use lib.IntN.{pos}
+use Rattle.replay.proofs.FillLaws.{filled-signed}
+use Rattle.replay.proofs.fast.large_ids.Statement.{statement}
+use Rattle.replay.proofs.fast.large_ids.Tie as tie
+
+returns : tie.Need-returns
+returns c = filled-signed 16384 (pos 7)
+
+pub large-ids-spec : {M : Type 1} → statement M
+large-ids-spec = tie.close (tie.spec returns)

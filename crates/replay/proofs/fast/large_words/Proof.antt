@@ -1,0 +1,9 @@
+use Rattle.replay.proofs.FillLaws.{filled}
+use Rattle.replay.proofs.fast.large_words.Statement.{statement}
+use Rattle.replay.proofs.fast.large_words.Tie as tie
+
+returns : tie.Need-returns
+returns c = filled 98304 7
+
+pub large-words-spec : {M : Type 1} → statement M
+large-words-spec = tie.close (tie.spec returns)
