@@ -1,19 +1,15 @@
 -- A quotient of an integer of at most 63 bits by one from 1 to 2 ^ 53 is finite.
-use mathlib.Core.Path.{_≡_, refl, sym, ap, _∙_, subst}
+use mathlib.Core.Path.{_≡_, refl, ap, _∙_, subst}
 use mathlib.Core.Logic.{_⊎_, inl, inr}
-use mathlib.Core.Bool.{Bool, true, false, not, cond, Bool·beq, _&&_, _||_}
+use mathlib.Core.Bool.{Bool, true, false, not, cond}
 use Prim.Native.Nat.{ℕ, zero, suc, _+_, _-_, _*_, _/_, _%_, _^_, _≤_, _<_, compare}
-use native.Mathlib.Nat.{le-trans, le-of-eq, mul-one, one-mul, mul-comm, mul-assoc, mul-pos, mul-le-mul, mul-le-mul-left, mul-le-mul-right, mul-right-comm, zero-lt-suc}
+use native.Mathlib.Nat.{le-trans, le-of-eq, mul-one, mul-comm, mul-assoc, mul-pos, mul-le-mul, mul-le-mul-right, zero-lt-suc}
 use native.Mathlib.Omega.{arith}
-use lib.Dec.{T, ltb, eqb, eqb·suc-zero, lit≤, lit<}
-use lib.Pow.{pow-pos, pow-mono}
+use lib.Dec.{T, ltb, eqb, eqb·suc-zero, lit≤}
 use lib.IntN.{ℤ, pos, negsuc, natAbs}
 use lib.Ieee.{Float, nan, inf, fin, Format, binary64, prec, low, emax, up, down, unlike, size, nearest, odd, units, round, neg, div, ofInt, le}
-use lib.Ieee.Fits.{down-pos, round-is}
-use lib.Ieee.Exact.{HasValue}
 use lib.Ieee.Scale.{finite}
 use lib.Ieee.Order.{round-mono}
-use lib.Ieee.Back.{round-whole}
 use lib.Ieee.Positive.{positive, num, den, den-pos, own-value, value-pos, between, le→cross}
 use Rattle.floats.specs.Numbers.{quotient}
 use Rattle.floats.proofs.Rounding.{quotient-once}

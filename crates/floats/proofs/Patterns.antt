@@ -1,14 +1,13 @@
 -- Which bit patterns are finite numbers: those that, without the sign's bit, are below the infinity's.
 use mathlib.Core.Path.{_≡_, refl, sym, ap, _∙_, subst}
-use mathlib.Core.Logic.{_⊎_, inl, inr}
 use mathlib.Core.Bool.{Bool, true, false, not, cond, _&&_}
 use Prim.Native.Nat.{ℕ, zero, suc, _+_, _-_, _*_, _/_, _%_, _^_, _≤_, _<_}
-use native.Mathlib.Nat.{mod-lt, mul-one, mul-pos, mul-comm, div-lt-iff-lt-mul, le-div-iff-mul-le, lt-of-lt-of-le}
+use native.Mathlib.Nat.{mod-lt, mul-one, mul-pos, mul-comm, div-lt-iff-lt-mul, le-div-iff-mul-le}
 use native.Mathlib.Omega.{arith}
-use lib.Dec.{T, leb, ltb, eqb, eqb→eq, ltb→lt, lt→ltb, nltb→le}
+use lib.Dec.{T, leb, ltb, eqb, ltb→lt, nltb→le}
 use lib.Pow.{pow-pos}
-use borrow.Author.Tests.{lt-ltb, le-ltb, eq-eqb, ne-eqb}
-use lib.Ieee.{Float, nan, inf, fin, Format, binary32, binary64, prec, emax, low, odd, hid, ones, top, ofFields, ofBits, nanBits, isNan, fits}
+use borrow.Author.Tests.{eq-eqb, ne-eqb}
+use lib.Ieee.{Float, nan, inf, fin, Format, binary32, binary64, prec, low, odd, hid, ones, top, ofFields, ofBits, nanBits, isNan, fits}
 use lib.Ieee.Exact.{HasValue, odd-sign}
 use Rattle.floats.specs.Numbers.{fieldUnits}
 use lib.Ieee.Bits.{ofBits-fits, nanBits-is}

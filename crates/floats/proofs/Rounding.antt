@@ -1,18 +1,18 @@
 -- Products and quotients of floats by the fractions that they equal, and where a rounding changes nothing.
 use mathlib.Core.Path.{_≡_, refl, sym, ap, _∙_, subst}
-use mathlib.Core.Bool.{Bool, true, false, not, cond}
-use Prim.Native.Nat.{ℕ, zero, suc, _+_, _-_, _*_, _/_, _%_, _^_, _≤_, _<_}
+use mathlib.Core.Bool.{Bool, true, false, cond}
+use Prim.Native.Nat.{ℕ, zero, suc, _+_, _-_, _*_, _^_, _≤_, _<_}
 use native.Mathlib.Nat.{mul-pos, mul-mul-mul-comm, mul-comm, mul-assoc, zero-mul, one-mul, lt-irrefl, lt-of-lt-of-le, zero-lt-suc}
 use native.Mathlib.Omega.{arith}
-use lib.Dec.{T, eqb, eqb·suc-zero, lit≤}
+use lib.Dec.{eqb, eqb·suc-zero}
 use lib.Pow.{pow-add, pow-pos, pow-mono, shl-lt}
 use lib.IntN.{ℤ, pos, negsuc, natAbs}
-use lib.Ieee.{Float, nan, inf, fin, Format, binary32, binary64, up, down, unlike, round, mul, div, ofInt, prec}
+use lib.Ieee.{Float, nan, inf, fin, Format, binary32, binary64, up, down, unlike, round, mul, div, ofInt}
 use lib.Ieee.Fits.{down-pos, up-pos}
 use lib.Ieee.Exact.{HasValue, round-exact}
 use lib.Ieee.Scale.{round-same}
 use lib.Ieee.Back.{round-whole}
-use Rattle.floats.specs.Numbers.{quotient, rounded, angle}
+use Rattle.floats.specs.Numbers.{quotient, rounded, angle, Angle}
 
 -- x is a / c with the sign s, y is b / d with the sign t
 pub mul-at : (f : Format) (x y : Float) (s t : Bool) (a c b d : ℕ) → 0 < c → 0 < d → HasValue x s a c → HasValue y t b d → mul f x y ≡ round f (unlike s t) (a * b) (c * d)
@@ -96,13 +96,22 @@ angle-byte k = round-same binary32 false (45 * k) 32 (k * 360) 256 (zero-lt-suc 
 pub angle-short : (k : ℕ) → round binary32 false (45 * k) 8192 ≡ angle 16 k
 angle-short k = round-same binary32 false (45 * k) 8192 (k * 360) 65536 (zero-lt-suc 8191) (zero-lt-suc 65535) (omega arith)
 
--- ---- a zero over a divisor is +0
-zero-rounds : round binary64 false 0 1 ≡ fin false 0 (pos 0)
-unfolding round
-zero-rounds = refl
+-- ---- the rule's angle itself: no rounding changes it
+pub byte-exact : (k : ℕ) → k < 256 → Angle 8 k (angle 8 k)
+byte-exact k h =
+    record {
+      value = refl;
+      exact = subst (λ (x : Float). HasValue x false (45 * k) 32) (angle-byte k) (dyadic false (45 * k) 5 (omega arith) (omega arith));
+    }
 
-pub zero-over : (d : ℕ) → 0 < d → d ≤ 2 ^ 53 → quotient (pos 0) d ≡ fin false 0 (pos 0)
-zero-over d D E =
-    quotient-once (pos 0) d (lit≤ tt) D E
-    ∙ round-same binary64 false 0 d 0 1 D (zero-lt-suc 0) (zero-mul 1 ∙ sym (zero-mul d))
-    ∙ zero-rounds
+pub short-exact : (k : ℕ) → k < 65536 → Angle 16 k (angle 16 k)
+short-exact k h =
+    record {
+      value = refl;
+      exact = subst (λ (x : Float). HasValue x false (45 * k) 8192) (angle-short k) (dyadic false (45 * k) 13 (omega arith) (omega arith));
+    }
+
+-- the angle of 0 is +0
+pub angle-zero : (angle 8 0 ≡ fin false 0 (pos 0)) × (angle 16 0 ≡ fin false 0 (pos 0))
+unfolding round
+angle-zero = (refl, refl)

@@ -3,3 +3,5 @@ pub mod VectorLaws
 pub mod RotationLaws
 pub mod MovementLaws
 pub mod CasesProved
+pub mod Promises
+pub mod Outside

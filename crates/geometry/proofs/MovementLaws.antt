@@ -1,6 +1,6 @@
 -- The laws of movements: what each stage gives, by how far its reads came.
 use Prim.Native.Nat.{ℕ, _<_}
-use mathlib.Core.Path.{_≡_, refl, sym, ap, _∙_}
+use mathlib.Core.Path.{_≡_, sym, ap, _∙_}
 use mathlib.Core.Bool.{Bool, true, false}
 use mathlib.Core.List.{List}
 use native.Mathlib.Omega.{arith}
@@ -52,6 +52,10 @@ unfolding scaleOf
 scale-pos RoundWholeNumber e = omega arith
 scale-pos RoundOneDecimal e = omega arith
 scale-pos RoundTwoDecimals e = omega arith
+
+-- a vector that was read with the location's scale
+pub scaled : (s : List ℕ) (c : Cursor) {k n : ℕ} {b : VectorRead} → b ≡ quantizedAt s k c → k ≡ n → b ≡ quantizedAt s n c
+scaled s c e h = e ∙ ap (λ (m : ℕ). quantizedAt s m c) h
 
 -- ---- what a flag announces
 module _ (s : List ℕ) (b : Bool) (c : Cursor) where

@@ -7,7 +7,7 @@ use native.Mathlib.Nat.{one-mul, div-one}
 use native.Mathlib.Omega.{arith}
 use lib.Dec.{leb, ltb, eqb}
 use lib.Pow.{pow-pos, shl-exact}
-use borrow.Author.Tests.{leb-true, leb-false, eqb-true, eqb-false, ltb-true, ltb-false, le-leb, lt-leb}
+use borrow.Author.Tests.{leb-false, le-leb, lt-leb}
 use Rattle.bits.specs.Choice.{if_then_else_}
 use Rattle.bits.specs.Bits.{field}
 use Rattle.bits.proofs.FieldLaws.{field-lt}

@@ -1,7 +1,7 @@
 -- The laws of vectors and normals: what each way through the reads gives.
 use Prim.Native.Nat.{ℕ, _/_, _%_, _^_, _≤_, _<_}
-use mathlib.Core.Path.{_≡_, refl, sym, ap, _∙_}
-use mathlib.Core.Bool.{Bool, true, false, _&&_}
+use mathlib.Core.Path.{_≡_, sym, ap, _∙_}
+use mathlib.Core.Bool.{Bool, true, false}
 use mathlib.Core.List.{List}
 use native.Mathlib.Omega.{arith}
 use lib.Dec.{eqb}
@@ -16,10 +16,9 @@ use Rattle.floats.proofs.Finite.{quotient-finite}
 use Rattle.bitio.specs.Numbers.{readSerializedInt}
 use Rattle.bitio.specs.declared.Cursor.{Cursor}
 use Rattle.bitio.specs.declared.Refusal as bitio
-use Rattle.bitio.specs.declared.BitsRead.{BitsRead}
 use Rattle.bitio.specs.declared.SerializedRead.the-variants as Ser
 use Rattle.geometry.specs.Parts.{at, after, asBits, threeAt, componentsAt, Below}
-use Rattle.geometry.specs.Vectors.{vector, checked, vectorOf, divisor, behind, headers, quantizedAt, normalOf}
+use Rattle.geometry.specs.Vectors.{vector, checked, vectorOf, divisor, behind, headerMaximum, quantizedAt, normalOf}
 use Rattle.geometry.proofs.PartLaws.{below-at}
 use Rattle.geometry.specs.declared.VectorRead.{VectorRead}
 use Rattle.geometry.specs.declared.VectorRead.the-variants as Vec
@@ -106,12 +105,12 @@ module _ (s : List ℕ) (scale w e : ℕ) (c : Cursor) {t : Three} {v : VectorRe
 
 -- ---- a header, and what is behind it
 module _ (s : List ℕ) (scale : ℕ) (c : Cursor) where
-  pub header-refused : {r : bitio.Refusal} → readSerializedInt s c headers ≡ Ser.Refused r → Vec.Refused (Unread r) ≡ quantizedAt s scale c
+  pub header-refused : {r : bitio.Refusal} → readSerializedInt s c headerMaximum ≡ Ser.Refused r → Vec.Refused (Unread r) ≡ quantizedAt s scale c
   unfolding quantizedAt after asBits
   header-refused g = rw g
 
   pub header-read : {h p : ℕ} {d : Cursor} {v : VectorRead}
-      → readSerializedInt s c headers ≡ Ser.Value h p → d ≡ at c p → v ≡ behind s scale (h % 64) (h / 64) d → v ≡ quantizedAt s scale c
+      → readSerializedInt s c headerMaximum ≡ Ser.Value h p → d ≡ at c p → v ≡ behind s scale (h % 64) (h / 64) d → v ≡ quantizedAt s scale c
   unfolding quantizedAt after asBits
   header-read {h} g m ev = ev ∙ ap (behind s scale (h % 64) (h / 64)) m ∙ sym (rw g)
 

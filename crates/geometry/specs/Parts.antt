@@ -1,6 +1,6 @@
 -- Parts of one kind, one after another: what is read three times for a vector, a normal or a rotation (01, Bits and numbers).
-use Prim.Native.Nat.{ℕ, _+_, _*_, _^_, _<_}
-use mathlib.Core.Bool.{Bool, true, false}
+use Prim.Native.Nat.{ℕ, _*_, _<_}
+use mathlib.Core.Bool.{true, false}
 use mathlib.Core.List.{List}
 use lib.Dec.{leb}
 use Rattle.bits.specs.Choice.{if_then_else_}

@@ -1,6 +1,6 @@
 -- Quantized vectors and fixed normals (01, Bits and numbers).
-use Prim.Native.Nat.{ℕ, _*_, _/_, _%_}
-use mathlib.Core.Bool.{Bool, true, false, _&&_}
+use Prim.Native.Nat.{ℕ, _/_, _%_}
+use mathlib.Core.Bool.{_&&_}
 use mathlib.Core.List.{List}
 use lib.Dec.{eqb}
 use lib.Ieee.{Float, binary32, binary64, ofBits}
@@ -15,7 +15,6 @@ use Rattle.geometry.specs.Parts.{at, after, asBits, threeAt, componentsA
 use Rattle.geometry.specs.declared.Vector.{Vector}
 use Rattle.geometry.specs.declared.VectorRead.{VectorRead}
 use Rattle.geometry.specs.declared.VectorRead.the-variants as Vec
-use Rattle.geometry.specs.declared.Refusal.{Refusal}
 use Rattle.geometry.specs.declared.Refusal.the-variants.{Unread, NoScale, NotFinite}
 use Rattle.geometry.specs.declared.parts.Part.the-variants.{Bits, Integer}
 use Rattle.geometry.specs.declared.parts.Three.{Three}
@@ -44,14 +43,14 @@ behind s scale w e c =
     (if eqb e 0 then vectorOf (ofBits binary32) (threeAt s (Bits 32) c) else vectorOf (ofBits binary64) (threeAt s (Bits 64) c)) else
     vectorOf (λ x. quotient (twos w x) (divisor e scale)) (componentsAt s w c)
 
--- a header is below this
-abbrev pub headers : ℕ
-headers = 128
+-- the maximum of a header, a serialized integer
+abbrev pub headerMaximum : ℕ
+headerMaximum = 128
 
--- a quantized vector at a cursor: the low six bits of its header are the width
+-- a quantized vector at a cursor: the low six bits of its header are the width w, the rest is e
 unfoldable pub quantizedAt : List ℕ → (scale : ℕ) → Cursor → VectorRead
 quantizedAt s scale c =
-    after (λ r. Vec.Refused (Unread r)) (asBits (readSerializedInt s c headers)) (λ h p.
+    after (λ r. Vec.Refused (Unread r)) (asBits (readSerializedInt s c headerMaximum)) (λ h p.
     behind s scale (h % 64) (h / 64) (at c p))
 
 -- `read_vector_net_quantize`: 14 for a bad cursor, then 11, before any read
@@ -64,10 +63,10 @@ unfoldable pub normalOf : Three → VectorRead
 normalOf (T.Value x y z p) = Vec.Value (vector (normalAxis x) (normalAxis y) (normalAxis z)) p
 normalOf (T.Refused r) = Vec.Refused (Unread r)
 
--- an axis is a serialized integer below this
-abbrev pub normals : ℕ
-normals = 65536
+-- the maximum of an axis, a serialized integer
+abbrev pub normalMaximum : ℕ
+normalMaximum = 65536
 
 -- `read_fixed_vector_normal`
 abbrev pub readNormal : List ℕ → Cursor → VectorRead
-readNormal s c = normalOf (threeAt s (Integer normals) c)
+readNormal s c = normalOf (threeAt s (Integer normalMaximum) c)

@@ -1,6 +1,6 @@
 // Quantized vectors and fixed normals.
 ghost use mathlib.Core.Path.{_≡_};
-ghost use Prim.Native.Nat.{_*_, _≤_, _<_, _^_};
+ghost use Prim.Native.Nat.{_≤_, _<_, _^_};
 ghost use lib.Ieee.{binary32, binary64, ofBits};
 ghost use Rattle.bits.specs.TwosComplement.{twos};
 ghost use Rattle.floats.specs.Numbers.{quotient};

@@ -1,7 +1,7 @@
 -- `floats::component` meets its contract: what `signed` and `nearest_i64_to_f64` ensure, one in the other.
-use mathlib.Core.Path.{_≡_, ap, _∙_}
+use mathlib.Core.Path.{ap, _∙_}
 use borrow.Author.Needs.{needs}
-use lib.IntN.{ℤ, pos}
+use lib.IntN.{pos}
 use lib.Ieee.{Float, binary64, div, ofInt}
 use mir.Syntax.{w64}
 use mir.Facts.{toZ-ofZ}

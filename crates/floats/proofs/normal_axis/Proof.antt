@@ -1,5 +1,5 @@
 -- `floats::normal_axis` meets its contract: k less 32768 fits an `i32`, and the literal 32767.0 is the integer.
-use mathlib.Core.Path.{_≡_, refl, sym, ap, _∙_}
+use mathlib.Core.Path.{_≡_, refl, ap, _∙_}
 use Prim.Native.Nat.{ℕ, _<_}
 use native.Mathlib.Omega.{arith}
 use borrow.Author.Needs.{needs}
@@ -7,8 +7,8 @@ use native.Mathlib.Nat.{le-trans}
 use lib.Dec.{lit≤}
 use lib.Signed.{natAbs-le}
 use lib.IntN.{ℤ, pos, subℕ, _-ℤ_}
-use lib.Ieee.{Float, binary64, div, ofInt, ofBits}
-use mir.Val.{SFits, toZ, ofZ}
+use lib.Ieee.{binary64, div, ofInt, ofBits}
+use mir.Val.{SFits, toZ}
 use mir.Syntax.{w32}
 use mir.Facts.{toZ-pos, toZ-ofZ}
 use Rattle.bits.proofs.TwosLaws.{sub-is, sub-fits}

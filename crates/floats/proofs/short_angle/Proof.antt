@@ -1,9 +1,7 @@
 -- `floats::short_angle` meets its contract: the step is 45 / 2 ^ 13, and the product of it and k is exact.
-use mathlib.Core.Path.{_≡_, refl, _∙_}
-use mathlib.Core.Bool.{false}
+use mathlib.Core.Path.{refl, _∙_}
 use native.Mathlib.Omega.{arith}
-use lib.Dec.{T, le→leb}
-use lib.IntN.{pos}
+use lib.Dec.{le→leb}
 use lib.Ieee.{binary32, inFloat, ofBits, div}
 use Rattle.floats.proofs.Rounding.{steps, steps-exact, angle-short}
 use Rattle.floats.proofs.short_angle.Statement.{statement}

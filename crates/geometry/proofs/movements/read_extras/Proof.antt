@@ -1,4 +1,4 @@
--- `geometry::movements::read_extras` meets its contract: each way out has its law.
+-- `geometry::movements::read_extras` meets its contract: each way out has its law, by the reads that led there.
 use borrow.Author.Needs.{needs}
 use Rattle.geometry.proofs.MovementLaws.{extras-first-refused, extras-second-refused, extras-third-refused, extras-read}
 use Rattle.geometry.proofs.movements.read_extras.Statement.{statement}
@@ -38,16 +38,29 @@ enum-known-first-2 : tie.Need-enum-known-first-2
 enum-known-first-2 c = search needs
 
 returns : tie.Need-returns
-returns c = extras-read _ _ _ _ _ (c .before .before .before .before .before .before .before .before .before .before .before .before .before .read-spin .ensures) (c .before .before .before .before .before .before .before .before .before .before .before .first .given .1) (c .before .before .before .before .before .before .before .before .before .moved .ensures) (c .before .before .before .before .before .before .before .before .read-number .ensures) (c .before .before .before .before .before .before .second .given .1) (c .before .before .before .before .moved2 .ensures) (c .before .before .before .read-number2 .ensures) (c .before .third .given .1)
+returns c =
+    let k₃ = c .before in
+    let k₂ = k₃ .before .before .before .before .before in
+    let k₁ = k₂ .before .before .before .before .before in
+    extras-read _ _ _ _ _ (k₁ .before .before .read-spin .ensures) (k₁ .first .given .1) (k₂ .before .before .before .moved .ensures) (k₂ .before .before .read-number .ensures) (k₂ .second .given .1) (k₃ .before .before .before .moved2 .ensures) (k₃ .before .before .read-number2 .ensures) (k₃ .third .given .1)
 
 returns-2 : tie.Need-returns-2
-returns-2 c = extras-third-refused _ _ _ _ _ (c .before .before .before .before .before .before .before .before .before .before .before .before .before .read-spin .ensures) (c .before .before .before .before .before .before .before .before .before .before .before .first .given .1) (c .before .before .before .before .before .before .before .before .before .moved .ensures) (c .before .before .before .before .before .before .before .before .read-number .ensures) (c .before .before .before .before .before .before .second .given .1) (c .before .before .before .before .moved2 .ensures) (c .before .before .before .read-number2 .ensures) (c .before .third2 .given .1)
+returns-2 c =
+    let k₃ = c .before in
+    let k₂ = k₃ .before .before .before .before .before in
+    let k₁ = k₂ .before .before .before .before .before in
+    extras-third-refused _ _ _ _ _ (k₁ .before .before .read-spin .ensures) (k₁ .first .given .1) (k₂ .before .before .before .moved .ensures) (k₂ .before .before .read-number .ensures) (k₂ .second .given .1) (k₃ .before .before .before .moved2 .ensures) (k₃ .before .before .read-number2 .ensures) (k₃ .third2 .given .1)
 
 returns-3 : tie.Need-returns-3
-returns-3 c = extras-second-refused _ _ _ _ _ (c .before .before .before .before .before .before .before .before .read-spin .ensures) (c .before .before .before .before .before .before .first .given .1) (c .before .before .before .before .moved .ensures) (c .before .before .before .read-number .ensures) (c .before .second2 .given .1)
+returns-3 c =
+    let k₂ = c .before in
+    let k₁ = k₂ .before .before .before .before .before in
+    extras-second-refused _ _ _ _ _ (k₁ .before .before .read-spin .ensures) (k₁ .first .given .1) (k₂ .before .before .before .moved .ensures) (k₂ .before .before .read-number .ensures) (k₂ .second2 .given .1)
 
 returns-4 : tie.Need-returns-4
-returns-4 c = extras-first-refused _ _ _ _ _ (c .before .before .before .read-spin .ensures) (c .before .first2 .given .1)
+returns-4 c =
+    let k₁ = c .before in
+    extras-first-refused _ _ _ _ _ (k₁ .before .before .read-spin .ensures) (k₁ .first2 .given .1)
 
 pub read-extras-spec : {M : Type 1} → statement M
 read-extras-spec =

@@ -1,4 +1,4 @@
--- `geometry::movements::read_flags` meets its contract: each way out has its law.
+-- `geometry::movements::read_flags` meets its contract: each way out has its law, by the reads that led there.
 use borrow.Author.Needs.{needs}
 use Rattle.geometry.proofs.MovementLaws.{flags-first-refused, flags-second-refused, flags-third-refused, flags-fourth-refused, flags-read}
 use Rattle.geometry.proofs.movements.read_flags.Statement.{statement}
@@ -50,19 +50,38 @@ enum-known-first-2 : tie.Need-enum-known-first-2
 enum-known-first-2 c = search needs
 
 returns : tie.Need-returns
-returns c = flags-read _ _ (c .before .before .before .before .before .before .before .before .before .before .before .before .before .before .before .before .before .before .read-bit .ensures) (c .before .before .before .before .before .before .before .before .before .before .before .before .before .before .before .before .first .given .1) (c .before .before .before .before .before .before .before .before .before .before .before .before .before .before .moved .ensures) (c .before .before .before .before .before .before .before .before .before .before .before .before .before .read-bit2 .ensures) (c .before .before .before .before .before .before .before .before .before .before .before .second .given .1) (c .before .before .before .before .before .before .before .before .before .moved2 .ensures) (c .before .before .before .before .before .before .before .before .read-bit3 .ensures) (c .before .before .before .before .before .before .third .given .1) (c .before .before .before .before .moved3 .ensures) (c .before .before .before .read-bit4 .ensures) (c .before .fourth .given .1)
+returns c =
+    let k₄ = c .before in
+    let k₃ = k₄ .before .before .before .before .before in
+    let k₂ = k₃ .before .before .before .before .before in
+    let k₁ = k₂ .before .before .before .before .before in
+    flags-read _ _ (k₁ .before .before .read-bit .ensures) (k₁ .first .given .1) (k₂ .before .before .before .moved .ensures) (k₂ .before .before .read-bit2 .ensures) (k₂ .second .given .1) (k₃ .before .before .before .moved2 .ensures) (k₃ .before .before .read-bit3 .ensures) (k₃ .third .given .1) (k₄ .before .before .before .moved3 .ensures) (k₄ .before .before .read-bit4 .ensures) (k₄ .fourth .given .1)
 
 returns-2 : tie.Need-returns-2
-returns-2 c = flags-fourth-refused _ _ (c .before .before .before .before .before .before .before .before .before .before .before .before .before .before .before .before .before .before .read-bit .ensures) (c .before .before .before .before .before .before .before .before .before .before .before .before .before .before .before .before .first .given .1) (c .before .before .before .before .before .before .before .before .before .before .before .before .before .before .moved .ensures) (c .before .before .before .before .before .before .before .before .before .before .before .before .before .read-bit2 .ensures) (c .before .before .before .before .before .before .before .before .before .before .before .second .given .1) (c .before .before .before .before .before .before .before .before .before .moved2 .ensures) (c .before .before .before .before .before .before .before .before .read-bit3 .ensures) (c .before .before .before .before .before .before .third .given .1) (c .before .before .before .before .moved3 .ensures) (c .before .before .before .read-bit4 .ensures) (c .before .fourth2 .given .1)
+returns-2 c =
+    let k₄ = c .before in
+    let k₃ = k₄ .before .before .before .before .before in
+    let k₂ = k₃ .before .before .before .before .before in
+    let k₁ = k₂ .before .before .before .before .before in
+    flags-fourth-refused _ _ (k₁ .before .before .read-bit .ensures) (k₁ .first .given .1) (k₂ .before .before .before .moved .ensures) (k₂ .before .before .read-bit2 .ensures) (k₂ .second .given .1) (k₃ .before .before .before .moved2 .ensures) (k₃ .before .before .read-bit3 .ensures) (k₃ .third .given .1) (k₄ .before .before .before .moved3 .ensures) (k₄ .before .before .read-bit4 .ensures) (k₄ .fourth2 .given .1)
 
 returns-3 : tie.Need-returns-3
-returns-3 c = flags-third-refused _ _ (c .before .before .before .before .before .before .before .before .before .before .before .before .before .read-bit .ensures) (c .before .before .before .before .before .before .before .before .before .before .before .first .given .1) (c .before .before .before .before .before .before .before .before .before .moved .ensures) (c .before .before .before .before .before .before .before .before .read-bit2 .ensures) (c .before .before .before .before .before .before .second .given .1) (c .before .before .before .before .moved2 .ensures) (c .before .before .before .read-bit3 .ensures) (c .before .third2 .given .1)
+returns-3 c =
+    let k₃ = c .before in
+    let k₂ = k₃ .before .before .before .before .before in
+    let k₁ = k₂ .before .before .before .before .before in
+    flags-third-refused _ _ (k₁ .before .before .read-bit .ensures) (k₁ .first .given .1) (k₂ .before .before .before .moved .ensures) (k₂ .before .before .read-bit2 .ensures) (k₂ .second .given .1) (k₃ .before .before .before .moved2 .ensures) (k₃ .before .before .read-bit3 .ensures) (k₃ .third2 .given .1)
 
 returns-4 : tie.Need-returns-4
-returns-4 c = flags-second-refused _ _ (c .before .before .before .before .before .before .before .before .read-bit .ensures) (c .before .before .before .before .before .before .first .given .1) (c .before .before .before .before .moved .ensures) (c .before .before .before .read-bit2 .ensures) (c .before .second2 .given .1)
+returns-4 c =
+    let k₂ = c .before in
+    let k₁ = k₂ .before .before .before .before .before in
+    flags-second-refused _ _ (k₁ .before .before .read-bit .ensures) (k₁ .first .given .1) (k₂ .before .before .before .moved .ensures) (k₂ .before .before .read-bit2 .ensures) (k₂ .second2 .given .1)
 
 returns-5 : tie.Need-returns-5
-returns-5 c = flags-first-refused _ _ (c .before .before .before .read-bit .ensures) (c .before .first2 .given .1)
+returns-5 c =
+    let k₁ = c .before in
+    flags-first-refused _ _ (k₁ .before .before .read-bit .ensures) (k₁ .first2 .given .1)
 
 pub read-flags-spec : {M : Type 1} → statement M
 read-flags-spec =

@@ -1,9 +1,6 @@
--- `geometry::movements::read_pose` meets its contract: each way out has its law.
+-- `geometry::movements::read_pose` meets its contract: each way out has its law, by the reads that led there.
 use borrow.Author.Needs.{needs}
-use mathlib.Core.Path.{ap, _∙_}
-use Prim.Native.Nat.{ℕ}
-use Rattle.geometry.specs.Vectors.{quantizedAt}
-use Rattle.geometry.proofs.MovementLaws.{scale-pos, pose-first-refused, pose-second-refused, pose-third-refused, pose-read}
+use Rattle.geometry.proofs.MovementLaws.{scale-pos, scaled, pose-first-refused, pose-second-refused, pose-third-refused, pose-read}
 use Rattle.geometry.proofs.movements.read_pose.Statement.{statement}
 use Rattle.geometry.proofs.movements.read_pose.Tie as tie
 
@@ -44,16 +41,29 @@ enum-known-place-2 : tie.Need-enum-known-place-2
 enum-known-place-2 c = search needs
 
 returns : tie.Need-returns
-returns c = pose-read _ _ _ _ (c .before .before .before .before .before .before .before .before .before .before .before .before .before .quantized .ensures ∙ ap (λ (n : ℕ). quantizedAt (c .before .before .before .before .before .before .before .before .before .before .before .before .before .before .before .before .args .bytes .now) n (c .before .before .before .before .before .before .before .before .before .before .before .before .before .before .before .before .args .c)) (c .before .before .before .before .before .before .before .before .before .before .before .before .before .before .scale-of .ensures)) (c .before .before .before .before .before .before .before .before .before .before .before .place .given .1) (c .before .before .before .before .before .before .before .before .before .moved .ensures) (c .before .before .before .before .before .before .before .before .read-rotation .ensures) (c .before .before .before .before .before .before .turn .given .1) (c .before .before .before .before .moved2 .ensures) (c .before .before .before .quantized2 .ensures) (c .before .speed .given .1)
+returns c =
+    let k₃ = c .before in
+    let k₂ = k₃ .before .before .before .before .before in
+    let k₁ = k₂ .before .before .before .before .before in
+    pose-read _ _ _ _ (scaled _ _ (k₁ .before .before .quantized .ensures) (k₁ .before .before .before .scale-of .ensures)) (k₁ .place .given .1) (k₂ .before .before .before .moved .ensures) (k₂ .before .before .read-rotation .ensures) (k₂ .turn .given .1) (k₃ .before .before .before .moved2 .ensures) (k₃ .before .before .quantized2 .ensures) (k₃ .speed .given .1)
 
 returns-2 : tie.Need-returns-2
-returns-2 c = pose-third-refused _ _ _ _ (c .before .before .before .before .before .before .before .before .before .before .before .before .before .quantized .ensures ∙ ap (λ (n : ℕ). quantizedAt (c .before .before .before .before .before .before .before .before .before .before .before .before .before .before .before .before .args .bytes .now) n (c .before .before .before .before .before .before .before .before .before .before .before .before .before .before .before .before .args .c)) (c .before .before .before .before .before .before .before .before .before .before .before .before .before .before .scale-of .ensures)) (c .before .before .before .before .before .before .before .before .before .before .before .place .given .1) (c .before .before .before .before .before .before .before .before .before .moved .ensures) (c .before .before .before .before .before .before .before .before .read-rotation .ensures) (c .before .before .before .before .before .before .turn .given .1) (c .before .before .before .before .moved2 .ensures) (c .before .before .before .quantized2 .ensures) (c .before .speed2 .given .1)
+returns-2 c =
+    let k₃ = c .before in
+    let k₂ = k₃ .before .before .before .before .before in
+    let k₁ = k₂ .before .before .before .before .before in
+    pose-third-refused _ _ _ _ (scaled _ _ (k₁ .before .before .quantized .ensures) (k₁ .before .before .before .scale-of .ensures)) (k₁ .place .given .1) (k₂ .before .before .before .moved .ensures) (k₂ .before .before .read-rotation .ensures) (k₂ .turn .given .1) (k₃ .before .before .before .moved2 .ensures) (k₃ .before .before .quantized2 .ensures) (k₃ .speed2 .given .1)
 
 returns-3 : tie.Need-returns-3
-returns-3 c = pose-second-refused _ _ _ _ (c .before .before .before .before .before .before .before .before .quantized .ensures ∙ ap (λ (n : ℕ). quantizedAt (c .before .before .before .before .before .before .before .before .before .before .before .args .bytes .now) n (c .before .before .before .before .before .before .before .before .before .before .before .args .c)) (c .before .before .before .before .before .before .before .before .before .scale-of .ensures)) (c .before .before .before .before .before .before .place .given .1) (c .before .before .before .before .moved .ensures) (c .before .before .before .read-rotation .ensures) (c .before .turn2 .given .1)
+returns-3 c =
+    let k₂ = c .before in
+    let k₁ = k₂ .before .before .before .before .before in
+    pose-second-refused _ _ _ _ (scaled _ _ (k₁ .before .before .quantized .ensures) (k₁ .before .before .before .scale-of .ensures)) (k₁ .place .given .1) (k₂ .before .before .before .moved .ensures) (k₂ .before .before .read-rotation .ensures) (k₂ .turn2 .given .1)
 
 returns-4 : tie.Need-returns-4
-returns-4 c = pose-first-refused _ _ _ _ (c .before .before .before .quantized .ensures ∙ ap (λ (n : ℕ). quantizedAt (c .before .before .before .before .before .before .args .bytes .now) n (c .before .before .before .before .before .before .args .c)) (c .before .before .before .before .scale-of .ensures)) (c .before .place2 .given .1)
+returns-4 c =
+    let k₁ = c .before in
+    pose-first-refused _ _ _ _ (scaled _ _ (k₁ .before .before .quantized .ensures) (k₁ .before .before .before .scale-of .ensures)) (k₁ .place2 .given .1)
 
 pub read-pose-spec : {M : Type 1} → statement M
 read-pose-spec =

@@ -1,7 +1,7 @@
--- `geometry::movements::read_record` meets its contract: each way out has its law.
+-- `geometry::movements::read_record` meets its contract: each way out has its law, by the reads that led there.
 use borrow.Author.Needs.{needs}
-use Rattle.geometry.proofs.MovementLaws.{record-first-refused, record-second-refused, record-third-refused, record-read}
 use mathlib.Core.Path.{_∙_}
+use Rattle.geometry.proofs.MovementLaws.{record-first-refused, record-second-refused, record-third-refused, record-read}
 use Rattle.geometry.proofs.movements.read_record.Statement.{statement}
 use Rattle.geometry.proofs.movements.read_record.Tie as tie
 
@@ -42,16 +42,29 @@ enum-known-first-2 : tie.Need-enum-known-first-2
 enum-known-first-2 c = search needs
 
 returns : tie.Need-returns
-returns c = c .whole .ensures ∙ record-read _ _ _ _ (c .before .before .before .before .before .before .before .before .before .before .before .before .before .before .read-flags .ensures) (c .before .before .before .before .before .before .before .before .before .before .before .before .first .given .1) (c .before .before .before .before .before .before .before .before .before .before .moved .ensures) (c .before .before .before .before .before .before .before .before .before .read-pose .ensures) (c .before .before .before .before .before .before .before .second .given .1) (c .before .before .before .before .before .moved2 .ensures) (c .before .before .before .before .read-extras .ensures) (c .before .before .third .given .1)
+returns c =
+    let k₃ = c .before .before in
+    let k₂ = k₃ .before .before .before .before .before in
+    let k₁ = k₂ .before .before .before .before .before in
+    c .whole .ensures ∙ record-read _ _ _ _ (k₁ .before .before .read-flags .ensures) (k₁ .first .given .1) (k₂ .before .before .before .moved .ensures) (k₂ .before .before .read-pose .ensures) (k₂ .second .given .1) (k₃ .before .before .before .moved2 .ensures) (k₃ .before .before .read-extras .ensures) (k₃ .third .given .1)
 
 returns-2 : tie.Need-returns-2
-returns-2 c = record-third-refused _ _ _ _ (c .before .before .before .before .before .before .before .before .before .before .before .before .before .read-flags .ensures) (c .before .before .before .before .before .before .before .before .before .before .before .first .given .1) (c .before .before .before .before .before .before .before .before .before .moved .ensures) (c .before .before .before .before .before .before .before .before .read-pose .ensures) (c .before .before .before .before .before .before .second .given .1) (c .before .before .before .before .moved2 .ensures) (c .before .before .before .read-extras .ensures) (c .before .third2 .given .1)
+returns-2 c =
+    let k₃ = c .before in
+    let k₂ = k₃ .before .before .before .before .before in
+    let k₁ = k₂ .before .before .before .before .before in
+    record-third-refused _ _ _ _ (k₁ .before .before .read-flags .ensures) (k₁ .first .given .1) (k₂ .before .before .before .moved .ensures) (k₂ .before .before .read-pose .ensures) (k₂ .second .given .1) (k₃ .before .before .before .moved2 .ensures) (k₃ .before .before .read-extras .ensures) (k₃ .third2 .given .1)
 
 returns-3 : tie.Need-returns-3
-returns-3 c = record-second-refused _ _ _ _ (c .before .before .before .before .before .before .before .before .read-flags .ensures) (c .before .before .before .before .before .before .first .given .1) (c .before .before .before .before .moved .ensures) (c .before .before .before .read-pose .ensures) (c .before .second2 .given .1)
+returns-3 c =
+    let k₂ = c .before in
+    let k₁ = k₂ .before .before .before .before .before in
+    record-second-refused _ _ _ _ (k₁ .before .before .read-flags .ensures) (k₁ .first .given .1) (k₂ .before .before .before .moved .ensures) (k₂ .before .before .read-pose .ensures) (k₂ .second2 .given .1)
 
 returns-4 : tie.Need-returns-4
-returns-4 c = record-first-refused _ _ _ _ (c .before .before .before .read-flags .ensures) (c .before .first2 .given .1)
+returns-4 c =
+    let k₁ = c .before in
+    record-first-refused _ _ _ _ (k₁ .before .before .read-flags .ensures) (k₁ .first2 .given .1)
 
 pub read-record-spec : {M : Type 1} → statement M
 read-record-spec =

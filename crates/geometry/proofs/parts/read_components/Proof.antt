@@ -1,6 +1,5 @@
 -- `geometry::parts::read_components` meets its contract: the test is the definition's.
 use borrow.Author.Needs.{needs}
-use native.Mathlib.Omega.{arith}
 use Rattle.geometry.proofs.PartLaws.{one-read, three-reads}
 use Rattle.geometry.proofs.parts.read_components.Statement.{statement}
 use Rattle.geometry.proofs.parts.read_components.Tie as tie

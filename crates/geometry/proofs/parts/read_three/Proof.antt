@@ -1,4 +1,4 @@
--- `geometry::parts::read_three` meets its contract: each way out has its law.
+-- `geometry::parts::read_three` meets its contract: each way out has its law, by the reads that led there.
 use borrow.Author.Needs.{needs}
 use Rattle.geometry.proofs.PartLaws.{first-refused, second-refused, third-refused, three-read}
 use Rattle.geometry.proofs.parts.read_three.Statement.{statement}
@@ -38,16 +38,29 @@ enum-known-first-2 : tie.Need-enum-known-first-2
 enum-known-first-2 c = search needs
 
 returns : tie.Need-returns
-returns c = three-read _ _ _ (c .before .before .before .before .before .before .before .before .before .before .before .before .before .read-part .ensures) (c .before .before .before .before .before .before .before .before .before .before .before .first .given .1) (c .before .before .before .before .before .before .before .before .before .moved .ensures) (c .before .before .before .before .before .before .before .before .read-part2 .ensures) (c .before .before .before .before .before .before .second .given .1) (c .before .before .before .before .moved2 .ensures) (c .before .before .before .read-part3 .ensures) (c .before .third .given .1)
+returns c =
+    let k₃ = c .before in
+    let k₂ = k₃ .before .before .before .before .before in
+    let k₁ = k₂ .before .before .before .before .before in
+    three-read _ _ _ (k₁ .before .before .read-part .ensures) (k₁ .first .given .1) (k₂ .before .before .before .moved .ensures) (k₂ .before .before .read-part2 .ensures) (k₂ .second .given .1) (k₃ .before .before .before .moved2 .ensures) (k₃ .before .before .read-part3 .ensures) (k₃ .third .given .1)
 
 returns-2 : tie.Need-returns-2
-returns-2 c = third-refused _ _ _ (c .before .before .before .before .before .before .before .before .before .before .before .before .before .read-part .ensures) (c .before .before .before .before .before .before .before .before .before .before .before .first .given .1) (c .before .before .before .before .before .before .before .before .before .moved .ensures) (c .before .before .before .before .before .before .before .before .read-part2 .ensures) (c .before .before .before .before .before .before .second .given .1) (c .before .before .before .before .moved2 .ensures) (c .before .before .before .read-part3 .ensures) (c .before .third2 .given .1)
+returns-2 c =
+    let k₃ = c .before in
+    let k₂ = k₃ .before .before .before .before .before in
+    let k₁ = k₂ .before .before .before .before .before in
+    third-refused _ _ _ (k₁ .before .before .read-part .ensures) (k₁ .first .given .1) (k₂ .before .before .before .moved .ensures) (k₂ .before .before .read-part2 .ensures) (k₂ .second .given .1) (k₃ .before .before .before .moved2 .ensures) (k₃ .before .before .read-part3 .ensures) (k₃ .third2 .given .1)
 
 returns-3 : tie.Need-returns-3
-returns-3 c = second-refused _ _ _ (c .before .before .before .before .before .before .before .before .read-part .ensures) (c .before .before .before .before .before .before .first .given .1) (c .before .before .before .before .moved .ensures) (c .before .before .before .read-part2 .ensures) (c .before .second2 .given .1)
+returns-3 c =
+    let k₂ = c .before in
+    let k₁ = k₂ .before .before .before .before .before in
+    second-refused _ _ _ (k₁ .before .before .read-part .ensures) (k₁ .first .given .1) (k₂ .before .before .before .moved .ensures) (k₂ .before .before .read-part2 .ensures) (k₂ .second2 .given .1)
 
 returns-4 : tie.Need-returns-4
-returns-4 c = first-refused _ _ _ (c .before .before .before .read-part .ensures) (c .before .first2 .given .1)
+returns-4 c =
+    let k₁ = c .before in
+    first-refused _ _ _ (k₁ .before .before .read-part .ensures) (k₁ .first2 .given .1)
 
 pub read-three-spec : {M : Type 1} → statement M
 read-three-spec =

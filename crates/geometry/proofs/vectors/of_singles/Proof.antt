@@ -1,10 +1,8 @@
 -- `geometry::vectors::of_singles` meets its contract: each return has the tests that led there.
 use borrow.Author.Needs.{needs}
-use mathlib.Core.Path.{sym, ap, _∙_}
+use mathlib.Core.Path.{sym, _∙_}
 use borrow.Author.Tests.{not-true, not-false}
 use Rattle.geometry.proofs.VectorLaws.{first-infinite, second-infinite, third-infinite, all-finite}
-use Rattle.geometry.specs.Vectors.{vector}
-use Rattle.geometry.specs.declared.VectorRead.the-variants.{Value}
 use Rattle.geometry.proofs.vectors.of_singles.Statement.{statement}
 use Rattle.geometry.proofs.vectors.of_singles.Tie as tie
 
