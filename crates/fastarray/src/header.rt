@@ -46,7 +46,7 @@ pub fn is_headed(s: &[u8], end: u64, flag: u64) -> bool
     HEADER_BITS + least <= end
 }
 
-// The body's items are read, lent nothing, for their fields and their end.
+// The items are read, lent less than a record, for how many fields they have and where they end.
 pub fn measure(s: &[u8], end: u64, flag: u64) -> Measured
     requires { ⌜ (end ≤ 8 * length (now s)) × (end ≤ 524288) × (flag ≤ 1) ⌝ }
     ensures { λ r. ⌜ r ≡ measuredOf (bodyOf flag (window (now (s .entry)) end) end) ⌝ }
@@ -61,15 +61,8 @@ pub fn measure(s: &[u8], end: u64, flag: u64) -> Measured
     let at = HEADER_BITS + 32 * (deletes as u64);
     let mut no_items = [0u32; 1];
     let mut no_fields = [0u32; 1];
-    let read = read_items(
-        s,
-        at,
-        end,
-        changes as u64,
-        flag,
-        &mut no_items,
-        &mut no_fields,
-    );
+    let wanted = changes as u64;
+    let read = read_items(s, at, end, wanted, flag, &mut no_items, &mut no_fields);
     match read {
         ItemsRead::Broken => Measured::NotFastArray,
         ItemsRead::Read(count, next) => {

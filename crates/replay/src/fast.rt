@@ -260,10 +260,8 @@ fn is_short(needed: u64, needs: Answer, r: FastArray) -> bool {
         return true;
     }
     let got = answer_of(r);
-    got.number == 3
-        && got.first == needs.first
-        && got.second == needs.second
-        && got.third == needs.third
+    let short = answers::answer_of(3, needs.first, needs.second, needs.third, 0);
+    answers::same(short, got)
 }
 
 // Whether the call is refused for its needs where one of the buffers lacks one record of them.

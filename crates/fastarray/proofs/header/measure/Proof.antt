@@ -39,8 +39,8 @@ mul-at c = search needs
 add-at : tie.Need-add-at
 add-at c = search needs
 
-cast-read-items : tie.Need-cast-read-items
-cast-read-items c = search needs
+cast-wanted : tie.Need-cast-wanted
+cast-wanted c = search needs
 
 slice-aggregate-read-items : tie.Need-slice-aggregate-read-items
 slice-aggregate-read-items c = search needs
@@ -86,4 +86,4 @@ returns-4 c =
     (read-back _ _ _ (c .before .before .before .before .before .before .before .before .before .before .before .before .signed-of .ensures)) (read-back _ _ _ (c .before .before .before .before .before .before .before .before .before .before .before .signed-of2 .ensures)) (c .before .before .before .before .before .before .before .before .before .before .word-of .ensures) (c .before .before .before .before .before .before .before .before .before .word-of2 .ensures)
 
 pub measure-spec : {M : Type 1} → statement M
-measure-spec = tie.close (tie.spec is-headed-requires returns signed-of-requires signed-of-requires-2 word-of-requires word-of-requires-2 cast-at mul-at add-at cast-read-items slice-aggregate-read-items slice-aggregate-read-items-2 read-items-requires enum-told enum-known-read returns-2 cast-fields cast-used returns-3 returns-4)
+measure-spec = tie.close (tie.spec is-headed-requires returns signed-of-requires signed-of-requires-2 word-of-requires word-of-requires-2 cast-at mul-at add-at cast-wanted slice-aggregate-read-items slice-aggregate-read-items-2 read-items-requires enum-told enum-known-read returns-2 cast-fields cast-used returns-3 returns-4)
