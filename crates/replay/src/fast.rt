@@ -2,15 +2,15 @@
 ghost use mathlib.Core.Path.{_≡_};
 ghost use Prim.Native.Nat.{_≤_};
 ghost use lib.ListN.{length};
-use crate::answers;
-use crate::answers::Answer;
-use crate::answers::Expected;
-use crate::answers::Fault;
-use crate::answers::Outcome;
-use crate::fields;
-use crate::say;
 use fastarray::ChecksumMode;
 use fastarray::FastArray;
+use recorded::answers;
+use recorded::answers::Answer;
+use recorded::answers::Expected;
+use recorded::answers::Fault;
+use recorded::answers::Outcome;
+use recorded::fields;
+use recorded::say;
 
 // The call's inputs, without its bytes and buffers.
 struct Call {

@@ -2,12 +2,12 @@
 ghost use mathlib.Core.Path.{_≡_};
 ghost use Prim.Native.Nat.{_%_, _^_};
 ghost use Rattle.geometry.specs.Refusals.{numbered, standsAfter};
-ghost use Rattle.replay.specs.Says.{Says};
-use crate::answers;
-use crate::answers::Answer;
+ghost use Rattle.recorded.specs.Says.{Says};
 use geometry::Refusal;
 use geometry::Vector;
 use geometry::VectorRead;
+use recorded::answers;
+use recorded::answers::Answer;
 
 // A NaN, which no answer holds, has the pattern of the quiet one.
 pub fn double_bits(x: f64) -> u64 {

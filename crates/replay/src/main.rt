@@ -41,26 +41,25 @@
 //
 // A further kind is a row above, a file with `replay(s, at)` for its fields at byte `at` of the case s, and a line in
 // `replay_case`.
-mod answers;
-mod copied;
 mod fast;
-mod fields;
-mod fixed;
 mod geometric;
 mod movement;
 mod normal;
-mod packed;
 mod rotation;
-mod say;
-mod serialized;
 mod tables;
 mod vector;
 
 ghost use Prim.Native.Nat.{_≤_};
 ghost use mathlib.Core.Path.{_≡_};
 ghost use lib.ListN.{length};
-use answers::Fault;
-use answers::Outcome;
+use recorded::answers::Fault;
+use recorded::answers::Outcome;
+use recorded::copied;
+use recorded::fields;
+use recorded::fixed;
+use recorded::packed;
+use recorded::say;
+use recorded::serialized;
 
 // How far the replay has come.
 struct Progress {

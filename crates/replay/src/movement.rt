@@ -1,12 +1,5 @@
 // Kind M: a movement record. Its answer is followed by 19 numbers, all 0 behind a refusal.
-use crate::answers;
-use crate::answers::Answer;
-use crate::answers::Expected;
-use crate::answers::Fault;
-use crate::answers::Outcome;
-use crate::fields;
 use crate::geometric;
-use crate::say;
 use geometry::Movement;
 use geometry::MovementRead;
 use geometry::Number;
@@ -14,6 +7,13 @@ use geometry::RotatorQuantization;
 use geometry::Spin;
 use geometry::Vector;
 use geometry::VectorQuantization;
+use recorded::answers;
+use recorded::answers::Answer;
+use recorded::answers::Expected;
+use recorded::answers::Fault;
+use recorded::answers::Outcome;
+use recorded::fields;
+use recorded::say;
 
 // An answer with its record: sleep, physics, the patterns of the location, the rotation and the linear velocity, then
 // whether there is an angular velocity and its patterns, a frame and its number, a handle and its number.

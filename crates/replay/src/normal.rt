@@ -1,10 +1,10 @@
 // Kind N: a fixed normal.
-use crate::answers;
-use crate::answers::Answer;
-use crate::answers::Outcome;
-use crate::answers::Placed;
-use crate::fields;
 use crate::geometric;
+use recorded::answers;
+use recorded::answers::Answer;
+use recorded::answers::Outcome;
+use recorded::answers::Placed;
+use recorded::fields;
 
 fn answer(bytes: &[u8], bits: u64, skip: u64) -> Answer {
     let placed = answers::place(bytes, bits, skip);

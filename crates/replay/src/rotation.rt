@@ -1,13 +1,13 @@
 // Kind R: a rotation.
-use crate::answers;
-use crate::answers::Answer;
-use crate::answers::Fault;
-use crate::answers::Outcome;
-use crate::answers::Placed;
-use crate::fields;
 use crate::geometric;
 use geometry::Rotation;
 use geometry::RotationRead;
+use recorded::answers;
+use recorded::answers::Answer;
+use recorded::answers::Fault;
+use recorded::answers::Outcome;
+use recorded::answers::Placed;
+use recorded::fields;
 
 fn accepted(v: Rotation, next: u64) -> Answer {
     let pitch = geometric::single_bits(v.pitch);

@@ -2,10 +2,10 @@
 ghost use mathlib.Core.Path.{_≡_};
 ghost use Prim.Native.Nat.{_/_, _≤_};
 ghost use lib.ListN.{length};
-use crate::answers::Fault;
-use crate::answers::Outcome;
-use crate::fields;
-use crate::say;
+use recorded::answers::Fault;
+use recorded::answers::Outcome;
+use recorded::fields;
+use recorded::say;
 
 // Rooms for the numbers of the two lists: more than document 01 accepts (512 rows of 5, 1,024 handles of 2), so that lists
 // over size are replayed too. `say` names both for a longer one.

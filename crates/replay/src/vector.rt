@@ -1,11 +1,11 @@
 // Kind V: a quantized vector.
-use crate::answers;
-use crate::answers::Answer;
-use crate::answers::Fault;
-use crate::answers::Outcome;
-use crate::answers::Placed;
-use crate::fields;
 use crate::geometric;
+use recorded::answers;
+use recorded::answers::Answer;
+use recorded::answers::Fault;
+use recorded::answers::Outcome;
+use recorded::answers::Placed;
+use recorded::fields;
 
 fn answer(bytes: &[u8], bits: u64, skip: u64, scale: u32) -> Answer {
     let placed = answers::place(bytes, bits, skip);

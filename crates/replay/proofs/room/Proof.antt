@@ -1,4 +1,4 @@
-use Rattle.replay.proofs.FillLaws.{filled}
+use Rattle.recorded.proofs.FillLaws.{filled}
 use Rattle.replay.proofs.room.Statement.{statement}
 use Rattle.replay.proofs.room.Tie as tie
 

@@ -1,6 +1,6 @@
 -- `replay::large_ids` meets its contract: the array is one value repeated, so its length is known without counting.
 use lib.IntN.{pos}
-use Rattle.replay.proofs.FillLaws.{filled-signed}
+use Rattle.recorded.proofs.FillLaws.{filled-signed}
 use Rattle.replay.proofs.fast.large_ids.Statement.{statement}
 use Rattle.replay.proofs.fast.large_ids.Tie as tie
 

@@ -1,5 +1,5 @@
 -- `replay::large_words` meets its contract: the array is one value repeated, so its length is known without counting.
-use Rattle.replay.proofs.FillLaws.{filled}
+use Rattle.recorded.proofs.FillLaws.{filled}
 use Rattle.replay.proofs.fast.large_words.Statement.{statement}
 use Rattle.replay.proofs.fast.large_words.Tie as tie
 

@@ -1,9 +1,9 @@
--- `replay::answers::refused` meets its contract: each arm has the numbers of its form, and a cursor that stays fits in 64 bits as it is.
+-- `recorded::answers::refused` meets its contract: each arm has the numbers of its form, and a cursor that stays fits in 64 bits as it is.
 use borrow.Author.Needs.{needs}
 use native.Mathlib.Omega.{arith}
-use Rattle.replay.proofs.RefusalLaws.{for-form}
-use Rattle.replay.proofs.answers.refused.Statement.{statement}
-use Rattle.replay.proofs.answers.refused.Tie as tie
+use Rattle.recorded.proofs.RefusalLaws.{for-form}
+use Rattle.recorded.proofs.answers.refused.Statement.{statement}
+use Rattle.recorded.proofs.answers.refused.Tie as tie
 
 enum-told : tie.Need-enum-told
 enum-told c = search needs

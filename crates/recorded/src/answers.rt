@@ -2,7 +2,7 @@
 ghost use mathlib.Core.Path.{_≡_};
 ghost use Prim.Native.Nat.{_%_, _^_};
 ghost use Rattle.bitio.specs.Refusals.{numbered, refusal, standsAfter};
-ghost use Rattle.replay.specs.Says.{Says};
+ghost use Rattle.recorded.specs.Says.{Says};
 use crate::fields;
 use crate::say;
 use bitio::Cursor;

@@ -2,8 +2,8 @@ use mathlib.Core.Path.{_≡_}
 use Prim.Native.Nat.{_≤_, _-_}
 use lib.ListN.{length}
 use borrow.Author.Needs.{needs}
-use Rattle.replay.proofs.fields.equal.Statement.{statement}
-use Rattle.replay.proofs.fields.equal.Tie as tie
+use Rattle.recorded.proofs.fields.equal.Statement.{statement}
+use Rattle.recorded.proofs.fields.equal.Tie as tie
 
 abbrev Inv-loop : tie.InvT-loop
 Inv-loop a b i₀ i = (i ≤ length a) × (length a ≡ length b)

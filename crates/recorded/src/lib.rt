@@ -1,0 +1,10 @@
+// Recorded cases: what stands in one, our answer beside the recorded one, what is printed of a difference, and the kinds that
+// call the bit reader. The program `replay` has the file's format, the other kinds and the loop over the cases.
+
+pub mod answers;
+pub mod copied;
+pub mod fields;
+pub mod fixed;
+pub mod packed;
+pub mod say;
+pub mod serialized;

@@ -1,9 +1,0 @@
-use Rattle.replay.proofs.FillLaws.{filled}
-use Rattle.replay.proofs.copied.large.Statement.{statement}
-use Rattle.replay.proofs.copied.large.Tie as tie
-
-returns : tie.Need-returns
-returns c = filled 131072 0xee
-
-pub large-spec : {M : Type 1} → statement M
-large-spec = tie.close (tie.spec returns)
