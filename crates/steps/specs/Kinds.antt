@@ -1,0 +1,32 @@
+-- What a field is (01, Walking an array, rules 6 and 8).
+use Prim.Native.Nat.{ℕ}
+use lib.Dec.{eqb}
+use Rattle.bits.specs.Choice.{if_then_else_}
+use Rattle.schema.specs.Tables.{Tables, child}
+use Rattle.schema.specs.Labels.{containerLabel, leafLabel}
+use Rattle.schema.specs.declared.Child.{Child}
+use Rattle.schema.specs.declared.Child.the-variants as child
+use Rattle.steps.specs.Paths.{Lies}
+use Rattle.steps.specs.declared.Sink.{Sink}
+use Rattle.steps.specs.declared.Sink.the-variants as sink
+use Rattle.steps.specs.declared.Kind.{Kind}
+use Rattle.steps.specs.declared.Kind.the-variants as kind
+
+abbrev pub kindBy : Tables → (below level handle width : ℕ) → Child → Kind
+kindBy t below level handle width child.Leaf = kind.Leaf (leafLabel t level handle)
+kindBy t below level handle width (child.Array lower) =
+    if eqb width 0 then kind.Nothing else
+    (if eqb below 0 then kind.Deep (containerLabel t level handle) else kind.Array lower (containerLabel t level handle))
+
+-- a field of `width` bits, in a level with `below` levels allowed under it
+unfoldable pub kindOf : Sink → Tables → (below level handle width : ℕ) → Kind
+kindOf (sink.Record trailer) t below level handle width = kindBy t below level handle width (child (t .rows) level handle)
+kindOf sink.Object t below level handle width = kind.Object
+
+-- its label lies in its pool
+abbrev pub KindLies : Tables → Kind → Type 0
+KindLies t kind.Object = Unit
+KindLies t kind.Nothing = Unit
+KindLies t (kind.Leaf x) = Lies t x
+KindLies t (kind.Deep x) = Lies t x
+KindLies t (kind.Array lower x) = Lies t x

@@ -1,0 +1,6 @@
+pub mod Held
+pub mod Views
+pub mod Heads
+pub mod Paths
+pub mod Kinds
+pub mod Gives

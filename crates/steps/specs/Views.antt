@@ -1,0 +1,55 @@
+-- Where the code stands in a walk: positions are bits of the bytes, and a window is the bits from `from` to before `end`.
+use Prim.Native.Nat.{ℕ, _-_, _≤_}
+use mathlib.Core.Bool.{Bool, true, false}
+use mathlib.Core.List.{List, []}
+use Rattle.bits.specs.Choice.{if_then_else_}
+use Rattle.bits.specs.Bits.{num, field}
+use Rattle.schema.specs.Tables.{Tables}
+use Rattle.framing.specs.Windows.{Window}
+use Rattle.framing.specs.Events.{Event, nested, root}
+use Rattle.framing.specs.Walk as W
+use Rattle.framing.specs.Sinks.{structSink, objectSink}
+use Rattle.steps.specs.declared.Sink.{Sink}
+use Rattle.steps.specs.declared.Sink.the-variants as sink
+use Rattle.steps.specs.declared.Head.{Head}
+use Rattle.steps.specs.declared.Head.the-variants as head
+
+-- the bits from `from` to before `end`, the first of them at `origin` of the root window
+unfoldable pub inner : (bytes : List ℕ) (from end origin : ℕ) → Window
+inner bytes «from» end origin = record { bits = field (num bytes) «from» (end - «from»); size = end - «from»; origin = origin }
+
+-- all bits before `end`: its positions are the code's
+unfoldable pub upTo : (bytes : List ℕ) (end : ℕ) → Window
+upTo bytes end = record { bits = num bytes; size = end; origin = 0 }
+
+-- ---- what the code's sink stands for
+
+abbrev pub trailerOf : Sink → Bool
+trailerOf (sink.Record trailer) = trailer
+trailerOf sink.Object = true
+
+abbrev pub flattensOf : Sink → Bool
+flattensOf (sink.Record trailer) = true
+flattensOf sink.Object = false
+
+-- what is left behind a terminator: inside another array nested bits, else root bits
+abbrev pub leftoverOf : (inside : Bool) → ℕ → Event
+leftoverOf inside = if inside then nested else root
+
+-- the object walk has one level, at the root
+unfoldable pub sinkFor : Sink → Tables → (below : ℕ) (inside : Bool) (level : ℕ) → W.Sink
+sinkFor (sink.Record trailer) t below inside level = structSink below t trailer (leftoverOf inside) level
+sinkFor sink.Object t below inside level = objectSink
+
+-- the ways out of a level don't depend on its fields
+abbrev pub exitSink : Sink → (inside : Bool) → W.Sink
+exitSink s inside =
+    record { trailer = trailerOf s; flattens = flattensOf s; leftover = leftoverOf inside; field = λ i path first handle w. [] }
+
+-- the position of a head that ends a walk is no later than the end
+abbrev pub HeadIn : (end : ℕ) → Head → Type 0
+HeadIn end head.Ended = Unit
+HeadIn end head.Failed = Unit
+HeadIn end (head.Closed n) = n ≤ end
+HeadIn end (head.Limit n) = n ≤ end
+HeadIn end (head.Go v a b) = Unit

@@ -1,0 +1,113 @@
+// What stands at a position: the heads of a level, of an element and of a field.
+ghost use mathlib.Core.Path.{_≡_};
+ghost use Prim.Native.Nat.{_+_, _*_, _≤_, _<_};
+ghost use lib.ListN.{length};
+ghost use Rattle.framing.specs.Windows.{reading};
+ghost use Rattle.steps.specs.Views.{upTo};
+ghost use Rattle.steps.specs.Heads.{numberOf, levelHead, elementHead, fieldHead, widthHead};
+use crate::Head;
+use crate::Number;
+use bits::Packed;
+
+const MAX_ELEMENTS: u32 = 4096;
+
+// The packed number at bit at.
+pub fn number_at(bytes: &[u8], at: u64, end: u64) -> Number
+    requires { ⌜ (at ≤ end) × (end ≤ 8 * length (now bytes)) × (end ≤ 524288) ⌝ }
+    ensures { λ r. ⌜ r ≡ numberOf at (reading (upTo (now (bytes .entry)) end) at) ⌝ }
+{
+    let number = bits::number::packed_at(bytes, at, end);
+    match number {
+        Packed::Whole(value, n) => {
+            let next = at + 8 * n;
+            Number::Value(value, next)
+        }
+        Packed::Cut(_) => Number::Failed,
+        Packed::GoesOn => Number::Failed,
+        Packed::Overflows => Number::Failed,
+    }
+}
+
+// A level: its count.
+pub fn level_head(bytes: &[u8], at: u64, end: u64) -> Head
+    requires { ⌜ (at ≤ end) × (end ≤ 8 * length (now bytes)) × (end ≤ 524288) ⌝ }
+    ensures { λ r. ⌜ r ≡ levelHead (upTo (now (bytes .entry)) end) at ⌝ }
+{
+    let number = number_at(bytes, at, end);
+    match number {
+        Number::Value(count, next) => {
+            if MAX_ELEMENTS < count {
+                return Head::Limit(next);
+            }
+            Head::Go(count, next, next)
+        }
+        Number::Failed => Head::Failed,
+    }
+}
+
+// An element of an array of `count`, of which `left` more are allowed: its index.
+pub fn element_head(bytes: &[u8], end: u64, count: u32, left: u32, at: u64) -> Head
+    requires { ⌜ (end ≤ 8 * length (now bytes)) × (end ≤ 524288) ⌝ }
+    ensures { λ r. ⌜ r ≡ elementHead (upTo (now (bytes .entry)) end) count left at ⌝ }
+{
+    if end <= at {
+        return Head::Ended;
+    }
+    let number = number_at(bytes, at, end);
+    match number {
+        Number::Value(v, next) => {
+            if v == 0 {
+                return Head::Closed(next);
+            }
+            if left == 0 {
+                return Head::Limit(at);
+            }
+            if count < v {
+                return Head::Failed;
+            }
+            Head::Go(v - 1, next, next)
+        }
+        Number::Failed => Head::Failed,
+    }
+}
+
+// The width of a field and its payload, the width's number due at bit at.
+fn width_head(bytes: &[u8], end: u64, handle: u32, at: u64) -> Head
+    requires { ⌜ (at ≤ end) × (end ≤ 8 * length (now bytes)) × (end ≤ 524288) ⌝ }
+    ensures { λ r. ⌜ r ≡ widthHead (upTo (now (bytes .entry)) end) handle at ⌝ }
+{
+    let number = number_at(bytes, at, end);
+    match number {
+        Number::Value(width, body) => {
+            let wide = width as u64;
+            if end - body < wide {
+                return Head::Failed;
+            }
+            Head::Go(handle, body, body + wide)
+        }
+        Number::Failed => Head::Failed,
+    }
+}
+
+// A field, of which `left` more are allowed: its handle and payload.
+pub fn field_head(bytes: &[u8], end: u64, left: u32, at: u64) -> Head
+    requires { ⌜ (end ≤ 8 * length (now bytes)) × (end ≤ 524288) ⌝ }
+    ensures { λ r. ⌜ r ≡ fieldHead (upTo (now (bytes .entry)) end) left at ⌝ }
+{
+    if end <= at {
+        return Head::Ended;
+    }
+    let number = number_at(bytes, at, end);
+    match number {
+        Number::Value(v, next) => {
+            if v == 0 {
+                return Head::Closed(next);
+            }
+            if left == 0 {
+                return Head::Limit(at);
+            }
+            width_head(bytes, end, v - 1, next)
+        }
+        Number::Failed => Head::Failed,
+    }
+}

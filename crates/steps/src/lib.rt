@@ -1,0 +1,60 @@
+// One step of a walk (array.rs): what stands at a position, what a field is, and what a step counts and writes. The walkers'
+// cycle only matches, lends and calls; every test on bits and every write stands here.
+//
+// A position is a bit of `bytes`. The counters and the places of the next writes are lent as one array; a run that does not
+// fit its output is not written, and its place is counted all the same, so that a walk lent empty outputs measures.
+pub mod exits;
+pub mod heads;
+pub mod kinds;
+pub mod leaves;
+pub mod objects;
+pub mod paths;
+pub mod runs;
+pub mod tally;
+
+use schema::Label;
+
+// What the walks differ in: a struct or exact walk, and whether it takes a trailer; or the object walk.
+pub enum Sink {
+    Record { trailer: bool },
+    Object,
+}
+
+// A packed number and the bit behind it.
+pub enum Number {
+    Value(u32, u64),
+    Failed,
+}
+
+// What stands where a level, an element or a field is due.
+pub enum Head {
+    // The window's end.
+    Ended,
+    // A number that can't be read, an index past the count, or a payload past the window.
+    Failed,
+    // Zero, and the bit behind it.
+    Closed(u64),
+    // More than is allowed, and where the tail starts that is kept.
+    Limit(u64),
+    // A level's count, an element's index or a field's handle; where its body starts, and where a field's body ends.
+    Go(u32, u64, u64),
+}
+
+// What stands behind the dot of a leaf's path.
+pub enum Tag {
+    Label(Label),
+    Raw,
+}
+
+// What a field is.
+pub enum Kind {
+    // A field of the object walk.
+    Object,
+    // An array with no payload.
+    Nothing,
+    Leaf(Label),
+    // An array below the last level.
+    Deep(Label),
+    // An array, and the level of its elements.
+    Array(u32, Label),
+}

@@ -1,0 +1,128 @@
+// The working path: its first plen bytes are the path of where the walk stands.
+ghost use mathlib.Core.Path.{_≡_};
+ghost use mathlib.Core.List.{[], _∷_, _++_};
+ghost use Prim.Native.Nat.{_+_, _≤_};
+ghost use lib.ListN.{length, take};
+ghost use Rattle.bits.specs.Runs.{put, store};
+ghost use Rattle.schema.specs.Decimals.{decimal};
+ghost use Rattle.schema.specs.Labels.{dot, labelBytes, labelLength};
+ghost use Rattle.steps.specs.Paths.{pools, Lies, tagBytes, tagLength, TagLies, Entered, Grew};
+use crate::Sink;
+use crate::Tag;
+use crate::runs::copy_run;
+use crate::tally::ELEMENTS;
+use crate::tally::OVERS;
+use crate::tally::count;
+use schema::Label;
+use schema::decimal::decimal_length;
+use schema::decimal::write_decimal;
+use schema::labels::label_length;
+use schema::labels::label_part;
+
+pub const LONGEST_PATH: usize = 1024;
+
+// How many bytes a tag has.
+pub fn tag_length(tag: Tag, handle: u32) -> usize
+    ensures { λ r. ⌜ r ≡ tagLength handle tag ⌝ }
+{
+    match tag {
+        Tag::Label(label) => label_length(label, handle),
+        Tag::Raw => 4,
+    }
+}
+
+// `_raw` from byte at of the working path.
+fn write_raw(path: &mut [u8; 1024], at: usize)
+    requires { ⌜ at + 4 ≤ 1024 ⌝ }
+    ensures { λ _. ⌜ now (path .exit) ≡ put (now (path .entry)) at (95 ∷ 114 ∷ 97 ∷ 119 ∷ []) ⌝ }
+{
+    path[at] = 95;
+    path[at + 1] = 114;
+    path[at + 2] = 97;
+    path[at + 3] = 119;
+}
+
+// The label from byte at of the working path, which has room for it.
+fn write_label<'a>(path: &mut [u8; 1024], at: usize, label: Label, handle: u32, names: &'a [u8], pool: &'a [u8])
+    requires { ⌜ (Lies (pools (now names) (now pool)) label) × (at + labelLength handle label ≤ 1024) ⌝ }
+    ensures { λ _. ⌜ now (path .exit) ≡ put (now (path .entry)) at (labelBytes (pools (now (names .entry)) (now (pool .entry))) handle label) ⌝ }
+{
+    match label {
+        Label::Plain => {
+            path[at] = 95;
+            path[at + 1] = 104;
+            write_decimal(path, at + 2, handle);
+        }
+        Label::Declared(_, _) => {
+            let name = label_part(pool, names, label);
+            copy_run(path, at, name);
+        }
+        Label::Named(_, _) => {
+            let name = label_part(pool, names, label);
+            copy_run(path, at, name);
+        }
+    }
+}
+
+// A dot and the tag behind the working path, which has room for them.
+pub fn write_tag<'a>(path: &mut [u8; 1024], plen: usize, tag: Tag, handle: u32, names: &'a [u8], pool: &'a [u8])
+    requires { ⌜ (TagLies (pools (now names) (now pool)) tag) × (plen + 1 + tagLength handle tag ≤ 1024) ⌝ }
+    ensures { λ _. ⌜ now (path .exit) ≡ put (now (path .entry)) plen (46 ∷ tagBytes (pools (now (names .entry)) (now (pool .entry))) handle tag) ⌝ }
+{
+    path[plen] = 46;
+    match tag {
+        Tag::Label(label) => write_label(path, plen + 1, label, handle, names, pool),
+        Tag::Raw => write_raw(path, plen + 1),
+    }
+}
+
+// The working path with `.label` behind it: its length. One that would be too long stays as it is.
+pub fn grow_label<'a>(
+    c: &mut [u32; 11],
+    path: &mut [u8; 1024],
+    plen: usize,
+    label: Label,
+    handle: u32,
+    names: &'a [u8],
+    pool: &'a [u8],
+) -> usize
+    requires { ⌜ (plen ≤ 1024) × Lies (pools (now names) (now pool)) label ⌝ }
+    ensures { λ r. ⌜ Grew (dot (take plen (now (path .entry))) (labelBytes (pools (now (names .entry)) (now (pool .entry))) handle label)) (now (c .entry)) (now (c .exit)) plen r (now (path .entry)) (now (path .exit)) ⌝ }
+{
+    let n = plen + 1 + label_length(label, handle);
+    if LONGEST_PATH < n {
+        count(c, OVERS, 1);
+        return plen;
+    }
+    write_tag(path, plen, Tag::Label(label), handle, names, pool);
+    n
+}
+
+// `[index]` behind the working path, which has room for it; k is how many digits the index has.
+fn write_index(path: &mut [u8; 1024], plen: usize, k: usize, index: u32)
+    requires { ⌜ (k ≡ length (decimal index)) × (plen + k + 2 ≤ 1024) ⌝ }
+    ensures { λ _. ⌜ now (path .exit) ≡ put (now (path .entry)) plen (91 ∷ decimal index ++ (93 ∷ [])) ⌝ }
+{
+    path[plen] = 91;
+    write_decimal(path, plen + 1, index);
+    path[plen + 1 + k] = 93;
+}
+
+// Counts an element, and puts `[index]` behind the working path: its length. The object walk has no paths.
+pub fn enter(c: &mut [u32; 11], path: &mut [u8; 1024], sink: Sink, plen: usize, index: u32) -> usize
+    requires { ⌜ plen ≤ 1024 ⌝ }
+    ensures { λ r. ⌜ Entered sink index (now (c .entry)) (now (c .exit)) plen r (now (path .entry)) (now (path .exit)) ⌝ }
+{
+    count(&mut *c, ELEMENTS, 1);
+    let Sink::Record { trailer: _ } = sink else {
+        return plen;
+    };
+    let k = decimal_length(index);
+    let n = plen + k + 2;
+    if LONGEST_PATH < n {
+        count(c, OVERS, 1);
+        return plen;
+    }
+    write_index(path, plen, k, index);
+    n
+}
