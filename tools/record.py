@@ -269,8 +269,117 @@ def fast(words, answer):
     return front + refusal(answer[1:], 0)[0]
 
 
+# ---- walks
+
+# What the replay holds of a walk's outputs; a walk that needs more is compared by its needs alone.
+LEAF_ROOM, PATH_ROOM = 32768, 1048576
+ABSENT = 4294967295
+
+
+def flat(word):
+    """`1,2/3,4` as a list of u32, `n` as the two numbers of no declared name; `-` or nothing as none."""
+    if word in ("-", ""):
+        return []
+    entries = [[ABSENT, 0] if e == "n" else [number(v, 32) for v in e.split(",")] for e in word.split("/")]
+    return [v for e in entries for v in e]
+
+
+def listed(values, room):
+    if len(values) > room:
+        raise Broken("a list of %d numbers; the replay takes %d" % (len(values), room))
+    return run(u32(*values))
+
+
+def schema_of(word):
+    """`-`, `B<root>` or `T<levels>:<root>:<rows>:<pool>`: whether the twelve levels are meant, levels, root, rows and pool."""
+    if word == "-":
+        return u64(0, 0, ABSENT) + listed([], ROW_ROOM) + run(b"")
+    if word[0] == "B":
+        return u64(1, 0, number(word[1:], 32)) + listed([], ROW_ROOM) + run(b"")
+    if word[0] != "T":
+        raise Broken("no schema: %s" % word)
+    levels, root, rows, names = word[1:].split(":")
+    return u64(0, number(levels, 32), number(root, 32)) + listed(flat(rows), ROW_ROOM) + run(hexed(names or "-"))
+
+
+def declared_of(word):
+    """`-` or `D<entries>:<pool>`."""
+    if word == "-":
+        return listed([], DECLARED_ROOM) + run(b"")
+    entries, names = word[1:].split(":")
+    return listed(flat(entries), DECLARED_ROOM) + run(hexed(names or "-"))
+
+
+def counted(words):
+    """Seven counters and the verdict, and the words behind `need`."""
+    if len(words) < 9 or words[7] not in ("clean", "partial") or words[8] != "need":
+        raise Broken("no answer of a walk")
+    return u64(*map(number, words[:7]), words[7] == "partial"), words[9:]
+
+
+def unescaped(text):
+    out, at = bytearray(), 0
+    while at < len(text):
+        if text[at] == "%":
+            out.append(int(text[at + 1 : at + 3], 16))
+            at += 3
+        else:
+            out.append(ord(text[at]))
+            at += 1
+    return bytes(out)
+
+
+def leaves_of(words):
+    """The needs, and the leaves as records, path bytes and payload bytes."""
+    needs = [number(w) for w in words[:3]]
+    records, paths, payloads = [], bytearray(), bytearray()
+    for word in words[3:]:
+        path, handle, width, payload = word.split(":")
+        name, load = unescaped(path), hexed(payload or "-")
+        records += [len(paths), len(name), number(handle, 32), number(width, 32), len(payloads)]
+        if len(load) != (int(width) + 7) // 8:
+            raise Broken("a payload of %s bits has %d bytes" % (width, len(load)))
+        paths += name
+        payloads += load
+    if needs != [len(records) // 5, len(paths), len(payloads)]:
+        raise Broken("the needs are not those of the leaves")
+    whole = needs[0] <= LEAF_ROOM and needs[1] <= PATH_ROOM
+    if not whole:
+        return u64(*needs, 0)
+    return u64(*needs, 1) + run(u32(*records)) + run(bytes(paths)) + run(bytes(payloads))
+
+
+def struct_walk(words, answer):
+    if len(words) != 4:
+        raise Broken("4 fields were expected")
+    bits, data, schema, declared = words
+    counts, rest = counted(answer)
+    return schema_of(schema) + declared_of(declared) + u64(number(bits, 32)) + run(hexed(data)) + counts + leaves_of(rest)
+
+
+def exact_walk(words, answer):
+    if len(words) != 4 or words[2] != "-":
+        raise Broken("4 fields were expected, the third `-`")
+    bits, data, _, declared = words
+    counts, rest = counted(answer)
+    return declared_of(declared) + u64(number(bits, 32)) + run(hexed(data)) + counts + leaves_of(rest)
+
+
+def object_walk(words, answer):
+    if len(words) != 2:
+        raise Broken("2 fields were expected")
+    counts, rest = counted(answer)
+    pairs = [number(v, 32) for w in rest[1:] for v in w.split(":")]
+    if number(rest[0]) != len(pairs) // 2:
+        raise Broken("the need is not that of the pairs")
+    return u64(number(words[0], 32)) + run(hexed(words[1])) + counts + u64(len(pairs) // 2) + run(u32(*pairs))
+
+
 # A kind's fields and answer as bytes.
 KINDS = {
+    "S": struct_walk,
+    "X": exact_walk,
+    "O": object_walk,
     "P": plain(0),
     "I": plain(1),
     "G": plain(1),

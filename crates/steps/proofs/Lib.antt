@@ -1,1 +1,14 @@
-
+pub mod StoreLaws
+pub mod TallyLaws
+pub mod HeadLaws
+pub mod ViewLaws
+pub mod ShiftLaws
+pub mod WithinLaws
+pub mod WalkLaws
+pub mod FieldKindLaws
+pub mod ObjectLaws
+pub mod ExitLaws
+pub mod PathLaws
+pub mod LeafLaws
+pub mod StopLaws
+pub mod KindLaws

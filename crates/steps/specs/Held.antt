@@ -25,6 +25,6 @@ ran t w = apply (wrapping (2 ^ 32)) t w
 unfoldable pub bumped : (c : List ℕ) (place n : ℕ) → List ℕ
 bumped c place n = set c place ((getD c place 0 + n) % 2 ^ 32)
 
--- a leaf or a pair of so many words, path bytes and payload bytes
+-- a leaf of so many words, path bytes and payload bytes
 unfoldable pub reserved : (c : List ℕ) (words text load : ℕ) → List ℕ
 reserved c words text load = bumped (bumped (bumped (bumped c 1 1) 8 words) 9 text) 10 load

@@ -8,7 +8,7 @@ use Rattle.schema.specs.Tables.{Tables}
 use Rattle.framing.specs.Windows.{Window}
 use Rattle.framing.specs.Events.{Event, nested, root}
 use Rattle.framing.specs.Walk as W
-use Rattle.framing.specs.Sinks.{structSink, objectSink}
+use Rattle.framing.specs.Sinks.{structSink, objectField}
 use Rattle.steps.specs.declared.Sink.{Sink}
 use Rattle.steps.specs.declared.Sink.the-variants as sink
 use Rattle.steps.specs.declared.Head.{Head}
@@ -36,10 +36,10 @@ flattensOf sink.Object = false
 abbrev pub leftoverOf : (inside : Bool) → ℕ → Event
 leftoverOf inside = if inside then nested else root
 
--- the object walk has one level, at the root
 unfoldable pub sinkFor : Sink → Tables → (below : ℕ) (inside : Bool) (level : ℕ) → W.Sink
 sinkFor (sink.Record trailer) t below inside level = structSink below t trailer (leftoverOf inside) level
-sinkFor sink.Object t below inside level = objectSink
+sinkFor sink.Object t below inside level =
+    record { trailer = true; flattens = false; leftover = leftoverOf inside; field = λ i path first handle w. objectField i first w }
 
 -- the ways out of a level don't depend on its fields
 abbrev pub exitSink : Sink → (inside : Bool) → W.Sink

@@ -95,7 +95,21 @@ fn keep_tail(
         return;
     }
     let none = [0u8; 0];
-    put_leaf(c, bytes, at, end, RAW_HANDLE, Tag::Raw, plen, &none, &none, path, words, paths, payloads);
+    put_leaf(
+        c,
+        bytes,
+        at,
+        end,
+        RAW_HANDLE,
+        Tag::Raw,
+        plen,
+        &none,
+        &none,
+        path,
+        words,
+        paths,
+        payloads,
+    );
 }
 
 // An element's fields that don't close.

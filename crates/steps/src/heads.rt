@@ -2,6 +2,7 @@
 ghost use mathlib.Core.Path.{_≡_};
 ghost use Prim.Native.Nat.{_+_, _*_, _≤_, _<_};
 ghost use lib.ListN.{length};
+ghost use Rattle.bits.specs.Bits.{num, field};
 ghost use Rattle.framing.specs.Windows.{reading};
 ghost use Rattle.steps.specs.Views.{upTo};
 ghost use Rattle.steps.specs.Heads.{numberOf, levelHead, elementHead, fieldHead, widthHead};
@@ -89,8 +90,22 @@ fn width_head(bytes: &[u8], end: u64, handle: u32, at: u64) -> Head
     }
 }
 
-// A field, of which `left` more are allowed: its handle and payload.
-pub fn field_head(bytes: &[u8], end: u64, left: u32, at: u64) -> Head
+// The two bytes from bit at.
+fn pair_at(s: &[u8], at: u64) -> u64
+    requires { ⌜ (at + 16 ≤ 8 * length (now s)) × (at ≤ 524288) ⌝ }
+    ensures { λ r. ⌜ r ≡ field (num (now (s .entry))) at 16 ⌝ }
+{
+    let i = (at / 8) as usize;
+    let last = ((at + 15) / 8) as usize;
+    let low = bits::load::load16(s, i);
+    let high = bits::load::load8(s, last);
+    let three = low + 0x1_0000 * high;
+    let off = at % 8;
+    (three >> off) % 65536
+}
+
+// A field, its numbers of any length.
+fn long_field_head(bytes: &[u8], end: u64, left: u32, at: u64) -> Head
     requires { ⌜ (end ≤ 8 * length (now bytes)) × (end ≤ 524288) ⌝ }
     ensures { λ r. ⌜ r ≡ fieldHead (upTo (now (bytes .entry)) end) left at ⌝ }
 {
@@ -110,4 +125,41 @@ pub fn field_head(bytes: &[u8], end: u64, left: u32, at: u64) -> Head
         }
         Number::Failed => Head::Failed,
     }
+}
+
+// A field, of which `left` more are allowed: its handle and payload. Numbers of one byte each are read together.
+pub fn field_head(bytes: &[u8], end: u64, left: u32, at: u64) -> Head
+    requires { ⌜ (end ≤ 8 * length (now bytes)) × (end ≤ 524288) ⌝ }
+    ensures { λ r. ⌜ r ≡ fieldHead (upTo (now (bytes .entry)) end) left at ⌝ }
+{
+    if end <= at {
+        return Head::Ended;
+    }
+    if end - at < 16 {
+        return long_field_head(bytes, end, left, at);
+    }
+    let two = pair_at(bytes, at);
+    let first = two % 256;
+    let next = at + 8;
+    if first == 0 {
+        return Head::Closed(next);
+    }
+    if first % 2 == 1 {
+        return long_field_head(bytes, end, left, at);
+    }
+    if left == 0 {
+        return Head::Limit(at);
+    }
+    let handle = (first / 2 - 1) as u32;
+    let second = two / 256;
+    if second % 2 == 1 {
+        return width_head(bytes, end, handle, next);
+    }
+    let wide = second / 2;
+    let body = at + 16;
+    if end - body < wide {
+        return Head::Failed;
+    }
+    let behind = body + wide;
+    Head::Go(handle, body, behind)
 }

@@ -85,11 +85,39 @@ pub fn put_field<'a>(
         Kind::Object => object_field(c, bytes, from, end, index, first, words),
         Kind::Nothing => (),
         Kind::Leaf(label) => {
-            put_leaf(c, bytes, from, end, handle, Tag::Label(label), plen, names, pool, path, words, paths, payloads);
+            put_leaf(
+                c,
+                bytes,
+                from,
+                end,
+                handle,
+                Tag::Label(label),
+                plen,
+                names,
+                pool,
+                path,
+                words,
+                paths,
+                payloads,
+            );
         }
         Kind::Deep(label) => {
             count(&mut *c, TRUNCATIONS, 1);
-            put_leaf(c, bytes, from, end, handle, Tag::Label(label), plen, names, pool, path, words, paths, payloads);
+            put_leaf(
+                c,
+                bytes,
+                from,
+                end,
+                handle,
+                Tag::Label(label),
+                plen,
+                names,
+                pool,
+                path,
+                words,
+                paths,
+                payloads,
+            );
         }
         Kind::Array(_, _) => (),
     }

@@ -9,7 +9,7 @@ ghost use Rattle.steps.specs.Held.{held, ran};
 ghost use Rattle.steps.specs.Views.{inner};
 ghost use Rattle.steps.specs.Gives.{taggedLeaf};
 use crate::Tag;
-use crate::paths::LONGEST_PATH;
+use crate::paths::path_room;
 use crate::paths::tag_length;
 use crate::paths::write_tag;
 use crate::runs::copy_run;
@@ -37,7 +37,7 @@ fn store_path<'a>(
     names: &'a [u8],
     pool: &'a [u8],
 )
-    requires { ⌜ (n ≡ plen + 1 + tagLength handle tag) × (n ≤ 1024) × TagLies (pools (now names) (now pool)) tag ⌝ }
+    requires { ⌜ (length (now path) ≡ 1024) × (n ≡ plen + 1 + tagLength handle tag) × (n ≤ 1024) × TagLies (pools (now names) (now pool)) tag ⌝ }
     ensures out { λ _. ⌜ now (paths .exit) ≡ store (now (paths .entry)) at (dot (take plen (now (path .entry))) (tagBytes (pools (now (names .entry)) (now (pool .entry))) handle tag)) ⌝ }
     ensures kept { λ _. ⌜ take plen (now (path .exit)) ≡ take plen (now (path .entry)) ⌝ }
 {
@@ -69,8 +69,9 @@ pub fn put_leaf<'a>(
     ensures out { λ _. ⌜ ((o : ℕ) → held (now (c .exit)) (now (words .exit)) (now (paths .exit)) (now (payloads .exit)) ≡ ran (taggedLeaf (pools (now (names .entry)) (now (pool .entry))) (take plen (now (path .entry))) handle tag (inner (now (bytes .entry)) «from» end o)) (held (now (c .entry)) (now (words .entry)) (now (paths .entry)) (now (payloads .entry)))) ⌝ }
     ensures kept { λ _. ⌜ take plen (now (path .exit)) ≡ take plen (now (path .entry)) ⌝ }
 {
+    let room = path_room(path);
     let n = plen + 1 + tag_length(tag, handle);
-    if LONGEST_PATH < n {
+    if room < n {
         count(c, OVERS, 1);
         return;
     }

@@ -19,7 +19,13 @@ use schema::decimal::write_decimal;
 use schema::labels::label_length;
 use schema::labels::label_part;
 
-pub const LONGEST_PATH: usize = 1024;
+// How many bytes a working path may have. Lent as a slice, the array tells its length.
+pub fn path_room(path: &[u8; 1024]) -> usize
+    ensures { λ r. ⌜ (r ≡ 1024) × (length (now (path .entry)) ≡ 1024) ⌝ }
+{
+    let whole: &[u8] = path;
+    whole.len()
+}
 
 // How many bytes a tag has.
 pub fn tag_length(tag: Tag, handle: u32) -> usize
@@ -34,18 +40,28 @@ pub fn tag_length(tag: Tag, handle: u32) -> usize
 // `_raw` from byte at of the working path.
 fn write_raw(path: &mut [u8; 1024], at: usize)
     requires { ⌜ at + 4 ≤ 1024 ⌝ }
-    ensures { λ _. ⌜ now (path .exit) ≡ put (now (path .entry)) at (95 ∷ 114 ∷ 97 ∷ 119 ∷ []) ⌝ }
+    ensures out { λ _. ⌜ now (path .exit) ≡ put (now (path .entry)) at (95 ∷ 114 ∷ 97 ∷ 119 ∷ []) ⌝ }
+    ensures sized { λ _. ⌜ length (now (path .entry)) ≡ 1024 ⌝ }
 {
-    path[at] = 95;
-    path[at + 1] = 114;
-    path[at + 2] = 97;
-    path[at + 3] = 119;
+    let whole: &mut [u8] = path;
+    whole[at] = 95;
+    whole[at + 1] = 114;
+    whole[at + 2] = 97;
+    whole[at + 3] = 119;
 }
 
 // The label from byte at of the working path, which has room for it.
-fn write_label<'a>(path: &mut [u8; 1024], at: usize, label: Label, handle: u32, names: &'a [u8], pool: &'a [u8])
+fn write_label<'a>(
+    path: &mut [u8; 1024],
+    at: usize,
+    label: Label,
+    handle: u32,
+    names: &'a [u8],
+    pool: &'a [u8],
+)
     requires { ⌜ (Lies (pools (now names) (now pool)) label) × (at + labelLength handle label ≤ 1024) ⌝ }
-    ensures { λ _. ⌜ now (path .exit) ≡ put (now (path .entry)) at (labelBytes (pools (now (names .entry)) (now (pool .entry))) handle label) ⌝ }
+    ensures out { λ _. ⌜ now (path .exit) ≡ put (now (path .entry)) at (labelBytes (pools (now (names .entry)) (now (pool .entry))) handle label) ⌝ }
+    ensures sized { λ _. ⌜ length (now (path .entry)) ≡ 1024 ⌝ }
 {
     match label {
         Label::Plain => {
@@ -65,7 +81,14 @@ fn write_label<'a>(path: &mut [u8; 1024], at: usize, label: Label, handle: u32, 
 }
 
 // A dot and the tag behind the working path, which has room for them.
-pub fn write_tag<'a>(path: &mut [u8; 1024], plen: usize, tag: Tag, handle: u32, names: &'a [u8], pool: &'a [u8])
+pub fn write_tag<'a>(
+    path: &mut [u8; 1024],
+    plen: usize,
+    tag: Tag,
+    handle: u32,
+    names: &'a [u8],
+    pool: &'a [u8],
+)
     requires { ⌜ (TagLies (pools (now names) (now pool)) tag) × (plen + 1 + tagLength handle tag ≤ 1024) ⌝ }
     ensures { λ _. ⌜ now (path .exit) ≡ put (now (path .entry)) plen (46 ∷ tagBytes (pools (now (names .entry)) (now (pool .entry))) handle tag) ⌝ }
 {
@@ -89,8 +112,9 @@ pub fn grow_label<'a>(
     requires { ⌜ (plen ≤ 1024) × Lies (pools (now names) (now pool)) label ⌝ }
     ensures { λ r. ⌜ Grew (dot (take plen (now (path .entry))) (labelBytes (pools (now (names .entry)) (now (pool .entry))) handle label)) (now (c .entry)) (now (c .exit)) plen r (now (path .entry)) (now (path .exit)) ⌝ }
 {
+    let room = path_room(path);
     let n = plen + 1 + label_length(label, handle);
-    if LONGEST_PATH < n {
+    if room < n {
         count(c, OVERS, 1);
         return plen;
     }
@@ -117,9 +141,10 @@ pub fn enter(c: &mut [u32; 11], path: &mut [u8; 1024], sink: Sink, plen: usize, 
     let Sink::Record { trailer: _ } = sink else {
         return plen;
     };
+    let room = path_room(path);
     let k = decimal_length(index);
     let n = plen + k + 2;
-    if LONGEST_PATH < n {
+    if room < n {
         count(c, OVERS, 1);
         return plen;
     }

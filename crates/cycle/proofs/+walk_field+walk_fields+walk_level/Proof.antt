@@ -1,0 +1,545 @@
+-- The cycle walk_level, walk_fields, walk_field meets its contracts: each turn of a loop keeps that the rest of the walk from here, on the world as it
+-- is, comes to what the whole walk comes to from the world at entry (CycleLaws). Levels left and window bits fall at every call.
+use Prim.Native.Nat.{ℕ, _<_}
+use borrow.Fn.Kinds.{In}
+use borrow.Fn.PlainCycle.{Measures, is, falls, and}
+use Rattle.cycle.proofs.walk_field.Reads as walk-field
+use Rattle.cycle.proofs.walk_field.Kinds as walk-field-kinds
+use Rattle.cycle.proofs.+walk_field+walk_fields+walk_level.Lts-walk_field as walk-field-lts
+use Rattle.cycle.proofs.walk_fields.Reads as walk-fields
+use Rattle.cycle.proofs.walk_fields.Kinds as walk-fields-kinds
+use Rattle.cycle.proofs.+walk_field+walk_fields+walk_level.Lts-walk_fields as walk-fields-lts
+use Rattle.cycle.proofs.walk_level.Reads as walk-level
+use Rattle.cycle.proofs.walk_level.Kinds as walk-level-kinds
+use Rattle.cycle.proofs.+walk_field+walk_fields+walk_level.Lts-walk_level as walk-level-lts
+use Rattle.cycle.proofs.still_first.Reads as still-first-reads
+use Rattle.steps.proofs.exits.stop_fields.Reads as stop-fields-reads
+use Rattle.steps.proofs.exits.stop_level.Reads as stop-level-reads
+use Rattle.steps.proofs.heads.element_head.Reads as element-head-reads
+use Rattle.steps.proofs.heads.field_head.Reads as field-head-reads
+use Rattle.steps.proofs.heads.level_head.Reads as level-head-reads
+use Rattle.steps.proofs.kinds.kind_of.Reads as kind-of-reads
+use Rattle.steps.proofs.kinds.put_field.Reads as put-field-reads
+use Rattle.steps.proofs.paths.enter.Reads as enter-reads
+use Rattle.steps.proofs.paths.grow_label.Reads as grow-label-reads
+use Rattle.cycle.proofs.+walk_field+walk_fields+walk_level.{statement}
+use Rattle.cycle.proofs.+walk_field+walk_fields+walk_level.Tie.{close}
+use borrow.Author.Needs.{needs}
+use Prim.Native.Nat.{_+_, _*_, _-_, _/_, _%_}
+use native.Mathlib.Omega.{arith}
+use mathlib.Core.Path.{_≡_, refl, sym, ap, subst, _∙_}
+use mathlib.Core.List.{List}
+use lib.ListN.{length, take, drop}
+use Rattle.schema.specs.Tables.{tables}
+use Rattle.schema.specs.Labels.{dot, labelBytes}
+use Rattle.framing.specs.Events.{Trace}
+use Rattle.framing.specs.Paths.{grown, noted}
+use Rattle.outputs.specs.World.{World}
+use Rattle.steps.specs.Held.{held, ran}
+use Rattle.steps.specs.Paths.{pools}
+use Rattle.steps.specs.Views.{inner}
+use Rattle.steps.specs.Kinds.{kindOf, KindLies}
+use Rattle.cycle.specs.Cycle.{place}
+use Rattle.steps.proofs.ShiftLaws.{part-bytes}
+use Rattle.steps.proofs.WalkLaws.{level-head-in, element-head-in, field-head-in, element-next, field-next}
+use Rattle.steps.proofs.FieldKindLaws.{pool-bytes, pool-lies, kind-tables, kind-lies, kind-pools, flat-pools, array-below}
+use Rattle.cycle.proofs.CycleLaws.{Fielding, fields-begin, fields-turn, fields-shut, fields-end, Leveling, prefix, level-end, level-begin, elements-end, elements-turn, elements-open, field-put, field-walked, not-go, not-closed, not-array, child-inside, ready-child, ready-part}
+
+abbrev μ-walk-field : Measures 10 walk-field-kinds.ps ℕ
+μ-walk-field κs a =
+    3 * (a .1 .1 .1 .1 .1 .0) + (a .1 .1 .1 .0 - a .1 .1 .0)
+
+abbrev μ-walk-fields : Measures 10 walk-fields-kinds.ps ℕ
+μ-walk-fields κs a =
+    3 * (a .1 .1 .1 .1 .1 .0) + 1 + (a .1 .1 .1 .0 - a .1 .1 .0)
+
+abbrev μ-walk-level : Measures 10 walk-level-kinds.ps ℕ
+μ-walk-level κs a =
+    3 * (a .1 .1 .1 .1 .1 .1 .0) + 2 + (a .1 .1 .1 .0 - a .1 .1 .0)
+
+abbrev walk-field-at : ℕ → In 10 walk-field-kinds.ps
+walk-field-at t =
+    and 10 walk-field-kinds.ps (is 10 walk-field-kinds.ps μ-walk-field t) walk-field.Pre
+
+abbrev walk-field-below : ℕ → In 10 walk-field-kinds.ps
+walk-field-below t =
+    and 10 walk-field-kinds.ps (falls 10 walk-field-kinds.ps _<_ μ-walk-field t) walk-field.Pre
+
+abbrev walk-fields-at : ℕ → In 10 walk-fields-kinds.ps
+walk-fields-at t =
+    and 10 walk-fields-kinds.ps (is 10 walk-fields-kinds.ps μ-walk-fields t) walk-fields.Pre
+
+abbrev walk-fields-below : ℕ → In 10 walk-fields-kinds.ps
+walk-fields-below t =
+    and 10 walk-fields-kinds.ps (falls 10 walk-fields-kinds.ps _<_ μ-walk-fields t) walk-fields.Pre
+
+abbrev walk-level-at : ℕ → In 10 walk-level-kinds.ps
+walk-level-at t =
+    and 10 walk-level-kinds.ps (is 10 walk-level-kinds.ps μ-walk-level t) walk-level.Pre
+
+abbrev walk-level-below : ℕ → In 10 walk-level-kinds.ps
+walk-level-below t =
+    and 10 walk-level-kinds.ps (falls 10 walk-level-kinds.ps _<_ μ-walk-level t) walk-level.Pre
+
+abbrev walk-field-claims : ℕ → walk-field-lts.Claims
+walk-field-claims t = (kind-of-reads.Asked, kind-of-reads.Learnt, put-field-reads.Asked, put-field-reads.Learnt, grow-label-reads.Asked, grow-label-reads.Learnt, walk-level-below t, walk-level.Post)
+
+abbrev walk-fields-claims : ℕ → walk-fields-lts.Claims
+walk-fields-claims t = (field-head-reads.Asked, field-head-reads.Learnt, stop-fields-reads.Asked, stop-fields-reads.Learnt, walk-field-below t, walk-field.Post, still-first-reads.Asked, still-first-reads.Learnt)
+
+abbrev walk-level-claims : ℕ → walk-level-lts.Claims
+walk-level-claims t = (level-head-reads.Asked, level-head-reads.Learnt, stop-level-reads.Asked, stop-level-reads.Learnt, element-head-reads.Asked, element-head-reads.Learnt, enter-reads.Asked, enter-reads.Learnt, walk-fields-below t, walk-fields.Post)
+
+walk-field-sub-width : (t : ℕ) → walk-field-lts.Need-sub-width (walk-field-claims t) (walk-field-at t) walk-field.Post
+walk-field-sub-width t c =
+    let at-start = c .before .before .before .before .before .before .before .before in
+    omega (arith, at-start .pre .1 .ordered, at-start .pre .1 .inside, at-start .pre .1 .short)
+
+walk-field-kind-of-requires : (t : ℕ) → walk-field-lts.Need-kind-of-requires (walk-field-claims t) (walk-field-at t) walk-field.Post
+walk-field-kind-of-requires t c κs =
+    let at-start = c .before .before .before .before .before .before .before .before in
+    at-start .pre .1 .spans-are
+
+walk-field-enum-known-kind : (t : ℕ) → walk-field-lts.Need-enum-known-kind (walk-field-claims t) (walk-field-at t) walk-field.Post
+walk-field-enum-known-kind t c = search needs
+
+walk-field-put-field-requires : (t : ℕ) → walk-field-lts.Need-put-field-requires (walk-field-claims t) (walk-field-at t) walk-field.Post
+walk-field-put-field-requires t c κs =
+    let at-after-kind-of = c .before .before .before .before .before .before in
+    let at-start = at-after-kind-of .before .before .before .before .before .before .before .before .before in
+    (at-start .pre .1 .ordered, at-start .pre .1 .inside, at-start .pre .1 .short, at-start .pre .1 .path, kind-pools (at-start .args .rows .now) (at-start .args .names .now) (at-start .args .declared .now) (at-start .args .pool .now) (at-after-kind-of .kind-of .result) (subst (KindLies (tables (at-start .args .rows .now) (at-start .args .names .now) (at-start .args .declared .now) (at-start .args .pool .now))) (sym (at-after-kind-of .kind-of .ensures ∙ (kind-tables (at-start .args .sink) (at-start .args .rows .now) (at-start .args .names .now) (at-start .args .declared .now) (at-start .args .pool .now) (at-start .args .below) (at-start .args .level) (at-start .args .handle) (at-start .args .end - at-start .args .from)))) (kind-lies (at-start .args .sink) (tables (at-start .args .rows .now) (at-start .args .names .now) (at-start .args .declared .now) (at-start .args .pool .now)) (at-start .args .below) (at-start .args .level) (at-start .args .handle) (at-start .args .end - at-start .args .from) (at-start .pre .1 .leaf-lies) (at-start .pre .1 .container-lies))))
+
+walk-field-same-length : (t : ℕ) → walk-field-lts.Need-same-length (walk-field-claims t) (walk-field-at t) walk-field.Post
+walk-field-same-length t c = search needs
+
+walk-field-same-length-2 : (t : ℕ) → walk-field-lts.Need-same-length-2 (walk-field-claims t) (walk-field-at t) walk-field.Post
+walk-field-same-length-2 t c = search needs
+
+walk-field-same-length-3 : (t : ℕ) → walk-field-lts.Need-same-length-3 (walk-field-claims t) (walk-field-at t) walk-field.Post
+walk-field-same-length-3 t c = search needs
+
+walk-field-returns : (t : ℕ) → walk-field-lts.Need-returns (walk-field-claims t) (walk-field-at t) walk-field.Post
+walk-field-returns t c =
+    let at-after-put-field = c .before .before .before .before .before .before in
+    let at-at-match-keys2 = at-after-put-field .before .before .before .before .before .before in
+    let at-after-kind-of = at-at-match-keys2 .before in
+    let at-start = at-after-kind-of .before .before .before .before .before .before .before .before .before in
+    field-put (place (at-start .args .sink) (tables (at-start .args .rows .now) (at-start .args .names .now) (at-start .args .declared .now) (at-start .args .pool .now)) (at-start .args .below) (at-start .args .level) (at-start .args .bytes .now) (at-start .args .end) (take (at-start .args .plen) (at-start .args .path .now))) (at-start .args .index) (at-start .args .first) (at-start .args .handle) (at-start .args .from) (held (at-start .args .c .now) (at-start .args .words .now) (at-start .args .paths .now) (at-start .args .payloads .now)) (at-start .pre .1 .ordered) (at-after-kind-of .kind-of .result) (at-after-kind-of .kind-of .ensures ∙ (kind-tables (at-start .args .sink) (at-start .args .rows .now) (at-start .args .names .now) (at-start .args .declared .now) (at-start .args .pool .now) (at-start .args .below) (at-start .args .level) (at-start .args .handle) (at-start .args .end - at-start .args .from))) (not-array (at-after-kind-of .kind-of .result) (at-at-match-keys2 .match .keys2)) (held (at-after-put-field .put-field .last .0) (at-after-put-field .put-field .last .1 .1 .1 .1 .1 .1 .1 .1 .1 .1 .1 .1 .0) (at-after-put-field .put-field .last .1 .1 .1 .1 .1 .1 .1 .1 .1 .1 .1 .1 .1 .0) (at-after-put-field .put-field .last .1 .1 .1 .1 .1 .1 .1 .1 .1 .1 .1 .1 .1 .1 .0)) (take (at-start .args .plen) (at-after-put-field .put-field .last .1 .1 .1 .1 .1 .1 .1 .1 .1 .1 .1 .0)) (λ o. at-after-put-field .put-field .ensures .0 o ∙ ap (λ (u : Trace). ran u (held (at-start .args .c .now) (at-start .args .words .now) (at-start .args .paths .now) (at-start .args .payloads .now))) (flat-pools (at-start .args .rows .now) (at-start .args .names .now) (at-start .args .declared .now) (at-start .args .pool .now) (at-start .args .index) (take (at-start .args .plen) (at-start .args .path .now)) (at-start .args .first) (at-start .args .handle) (inner (at-start .args .bytes .now) (at-start .args .from) (at-start .args .end) o) (at-after-kind-of .kind-of .result))) (at-after-put-field .put-field .ensures .1)
+
+walk-field-grow-label-requires : (t : ℕ) → walk-field-lts.Need-grow-label-requires (walk-field-claims t) (walk-field-at t) walk-field.Post
+walk-field-grow-label-requires t c κs =
+    let at-after-kind = c .before .before .before in
+    let at-after-kind-of = at-after-kind .before .before in
+    let at-start = at-after-kind-of .before .before .before .before .before .before .before .before .before in
+    (at-start .pre .1 .path, pool-lies (at-start .args .rows .now) (at-start .args .names .now) (at-start .args .declared .now) (at-start .args .pool .now) (at-after-kind .kind .given .0 .1 .0) (subst (KindLies (tables (at-start .args .rows .now) (at-start .args .names .now) (at-start .args .declared .now) (at-start .args .pool .now))) (sym (sym (at-after-kind .kind .given .1) ∙ (at-after-kind-of .kind-of .ensures ∙ (kind-tables (at-start .args .sink) (at-start .args .rows .now) (at-start .args .names .now) (at-start .args .declared .now) (at-start .args .pool .now) (at-start .args .below) (at-start .args .level) (at-start .args .handle) (at-start .args .end - at-start .args .from))))) (kind-lies (at-start .args .sink) (tables (at-start .args .rows .now) (at-start .args .names .now) (at-start .args .declared .now) (at-start .args .pool .now)) (at-start .args .below) (at-start .args .level) (at-start .args .handle) (at-start .args .end - at-start .args .from) (at-start .pre .1 .leaf-lies) (at-start .pre .1 .container-lies))))
+
+walk-field-add-z : (t : ℕ) → walk-field-lts.Need-add-z (walk-field-claims t) (walk-field-at t) walk-field.Post
+walk-field-add-z t c =
+    let at-start = c .before .before .before .before .before .before .before .before .before .before .before .before .before .before .before in
+    omega (arith, at-start .pre .1 .ordered, at-start .pre .1 .inside, at-start .pre .1 .short)
+
+walk-field-sub-walk-level : (t : ℕ) → walk-field-lts.Need-sub-walk-level (walk-field-claims t) (walk-field-at t) walk-field.Post
+walk-field-sub-walk-level t c =
+    let at-start = c .before .before .before .before .before .before .before .before .before .before .before .before .before .before .before .before in
+    omega (arith, at-start .pre .1 .ordered, at-start .pre .1 .inside, at-start .pre .1 .short)
+
+walk-field-part-walk-level-start : (t : ℕ) → walk-field-lts.Need-part-walk-level-start (walk-field-claims t) (walk-field-at t) walk-field.Post
+walk-field-part-walk-level-start t c =
+    let at-start = c .before .before .before .before .before .before .before .before .before .before .before .before .before .before .before .before in
+    omega (arith, at-start .pre .1 .ordered, at-start .pre .1 .inside, at-start .pre .1 .short)
+
+walk-field-part-walk-level-end : (t : ℕ) → walk-field-lts.Need-part-walk-level-end (walk-field-claims t) (walk-field-at t) walk-field.Post
+walk-field-part-walk-level-end t c =
+    let at-start = c .before .before .before .before .before .before .before .before .before .before .before .before .before .before .before .before in
+    omega (arith, at-start .pre .1 .ordered, at-start .pre .1 .inside, at-start .pre .1 .short)
+
+walk-field-add-walk-level : (t : ℕ) → walk-field-lts.Need-add-walk-level (walk-field-claims t) (walk-field-at t) walk-field.Post
+walk-field-add-walk-level t c =
+    let at-start = c .before .before .before .before .before .before .before .before .before .before .before .before .before .before .before .before .before in
+    omega (arith, at-start .pre .1 .ordered, at-start .pre .1 .inside, at-start .pre .1 .short)
+
+walk-field-sub-walk-level-2 : (t : ℕ) → walk-field-lts.Need-sub-walk-level-2 (walk-field-claims t) (walk-field-at t) walk-field.Post
+walk-field-sub-walk-level-2 t c =
+    let at-after-kind = c .before .before .before .before .before .before in
+    let at-after-kind-of = at-after-kind .before .before in
+    let at-start = at-after-kind-of .before .before .before .before .before .before .before .before .before in
+    omega (arith, array-below (at-start .args .sink) (tables (at-start .args .rows .now) (at-start .args .names .now) (at-start .args .declared .now) (at-start .args .pool .now)) (at-start .args .below) (at-start .args .level) (at-start .args .handle) (at-start .args .end - at-start .args .from) (at-after-kind .kind .given .0 .0) (at-after-kind .kind .given .0 .1 .0) (sym (at-after-kind .kind .given .1) ∙ (at-after-kind-of .kind-of .ensures ∙ (kind-tables (at-start .args .sink) (at-start .args .rows .now) (at-start .args .names .now) (at-start .args .declared .now) (at-start .args .pool .now) (at-start .args .below) (at-start .args .level) (at-start .args .handle) (at-start .args .end - at-start .args .from)))))
+
+walk-field-walk-level-requires : (t : ℕ) → walk-field-lts.Need-walk-level-requires (walk-field-claims t) (walk-field-at t) walk-field.Post
+walk-field-walk-level-requires t c κs =
+    let at-after-grow-label = c .before .before .before .before .before .before in
+    let at-after-kind = at-after-grow-label .before .before .before .before in
+    let at-after-kind-of = at-after-kind .before .before in
+    let at-start = at-after-kind-of .before .before .before .before .before .before .before .before .before in
+    let n = array-below (at-start .args .sink) (tables (at-start .args .rows .now) (at-start .args .names .now) (at-start .args .declared .now) (at-start .args .pool .now)) (at-start .args .below) (at-start .args .level) (at-start .args .handle) (at-start .args .end - at-start .args .from) (at-after-kind .kind .given .0 .0) (at-after-kind .kind .given .0 .1 .0) (sym (at-after-kind .kind .given .1) ∙ (at-after-kind-of .kind-of .ensures ∙ (kind-tables (at-start .args .sink) (at-start .args .rows .now) (at-start .args .names .now) (at-start .args .declared .now) (at-start .args .pool .now) (at-start .args .below) (at-start .args .level) (at-start .args .handle) (at-start .args .end - at-start .args .from)))) in (omega (arith, at-start .pre .0), ready-child (at-start .args .bytes .now) (at-start .args .from) (at-start .args .end) (at-start .args .plen) (at-after-grow-label .grow-label .result) (tables (at-start .args .rows .now) (at-start .args .names .now) (at-start .args .declared .now) (at-start .args .pool .now)) (at-start .args .spans .now) (at-start .pre .1) (at-after-grow-label .grow-label .ensures .within))
+
+walk-field-same-length-4 : (t : ℕ) → walk-field-lts.Need-same-length-4 (walk-field-claims t) (walk-field-at t) walk-field.Post
+walk-field-same-length-4 t c = search needs
+
+walk-field-same-length-5 : (t : ℕ) → walk-field-lts.Need-same-length-5 (walk-field-claims t) (walk-field-at t) walk-field.Post
+walk-field-same-length-5 t c = search needs
+
+walk-field-same-length-6 : (t : ℕ) → walk-field-lts.Need-same-length-6 (walk-field-claims t) (walk-field-at t) walk-field.Post
+walk-field-same-length-6 t c = search needs
+
+walk-field-returns-2 : (t : ℕ) → walk-field-lts.Need-returns-2 (walk-field-claims t) (walk-field-at t) walk-field.Post
+walk-field-returns-2 t c =
+    let at-after-walk-level = c .before .before .before .before .before .before in
+    let at-after-grow-label = at-after-walk-level .before .before .before .before .before .before .before in
+    let at-after-kind = at-after-grow-label .before .before .before .before in
+    let at-after-kind-of = at-after-kind .before .before in
+    let at-after-shared-slice-known = at-after-kind-of .before .before .before .before .before .before .before .before in
+    let at-start = at-after-shared-slice-known .before in
+    field-walked (place (at-start .args .sink) (tables (at-start .args .rows .now) (at-start .args .names .now) (at-start .args .declared .now) (at-start .args .pool .now)) (at-start .args .below) (at-start .args .level) (at-start .args .bytes .now) (at-start .args .end) (take (at-start .args .plen) (at-start .args .path .now))) (at-start .args .index) (at-start .args .first) (at-start .args .handle) (at-start .args .from) (held (at-start .args .c .now) (at-start .args .words .now) (at-start .args .paths .now) (at-start .args .payloads .now)) (at-start .pre .1 .ordered) (at-after-kind .kind .given .0 .0) (at-after-kind .kind .given .0 .1 .0) (sym (at-after-kind .kind .given .1) ∙ (at-after-kind-of .kind-of .ensures ∙ (kind-tables (at-start .args .sink) (at-start .args .rows .now) (at-start .args .names .now) (at-start .args .declared .now) (at-start .args .pool .now) (at-start .args .below) (at-start .args .level) (at-start .args .handle) (at-start .args .end - at-start .args .from)))) (held (at-after-grow-label .grow-label .last .0) (at-start .args .words .now) (at-start .args .paths .now) (at-start .args .payloads .now)) (held (at-after-walk-level .walk-level .last .0) (at-after-walk-level .walk-level .last .1 .1 .1 .1 .1 .1 .1 .1 .1 .1 .1 .1 .1 .1 .1 .0) (at-after-walk-level .walk-level .last .1 .1 .1 .1 .1 .1 .1 .1 .1 .1 .1 .1 .1 .1 .1 .1 .0) (at-after-walk-level .walk-level .last .1 .1 .1 .1 .1 .1 .1 .1 .1 .1 .1 .1 .1 .1 .1 .1 .1 .0)) (take (at-after-grow-label .grow-label .result) (at-after-grow-label .grow-label .last .1 .0)) (take (at-start .args .plen) (at-after-walk-level .walk-level .last .1 .1 .1 .1 .1 .1 .1 .1 .1 .1 .1 .1 .1 .1 .0)) (place (at-start .args .sink) (tables (at-start .args .rows .now) (at-start .args .names .now) (at-start .args .declared .now) (at-start .args .pool .now)) (at-start .args .below - 1) (at-after-kind .kind .given .0 .0) (take ((at-start .args .end + 7) / 8 - at-start .args .from / 8) (drop (at-start .args .from / 8) (at-start .args .bytes .now))) (at-start .args .from % 8 + (at-start .args .end - at-start .args .from)) (take (at-after-grow-label .grow-label .result) (at-after-grow-label .grow-label .last .1 .0))) (at-start .args .from % 8) (take (at-after-grow-label .grow-label .result) (at-after-walk-level .walk-level .last .1 .1 .1 .1 .1 .1 .1 .1 .1 .1 .1 .1 .1 .1 .0)) (at-after-grow-label .grow-label .ensures .counts (at-start .args .words .now) (at-start .args .paths .now) (at-start .args .payloads .now) ∙ ap (λ (l : List ℕ). ran (noted (dot (take (at-start .args .plen) (at-start .args .path .now)) l)) (held (at-start .args .c .now) (at-start .args .words .now) (at-start .args .paths .now) (at-start .args .payloads .now))) (pool-bytes (at-start .args .rows .now) (at-start .args .names .now) (at-start .args .declared .now) (at-start .args .pool .now) (at-start .args .handle) (at-after-kind .kind .given .0 .1 .0))) (at-after-grow-label .grow-label .ensures .is ∙ ap (λ (l : List ℕ). grown (take (at-start .args .plen) (at-start .args .path .now)) (dot (take (at-start .args .plen) (at-start .args .path .now)) l)) (pool-bytes (at-start .args .rows .now) (at-start .args .names .now) (at-start .args .declared .now) (at-start .args .pool .now) (at-start .args .handle) (at-after-kind .kind .given .0 .1 .0))) (at-after-walk-level .walk-level .ensures) refl (λ o. part-bytes (at-start .args .bytes .now) (at-start .args .from) (at-start .args .end) o ((at-start .args .end + 7) / 8 - at-start .args .from / 8) (λ i. at-after-shared-slice-known .shared-slice-known .given i .fits) (at-start .pre .1 .ordered) (omega (arith, at-start .pre .1 .ordered, at-start .pre .1 .inside, at-start .pre .1 .short))) (prefix (at-start .args .plen) (at-after-grow-label .grow-label .result) (at-after-walk-level .walk-level .last .1 .1 .1 .1 .1 .1 .1 .1 .1 .1 .1 .1 .1 .1 .0) (at-after-grow-label .grow-label .last .1 .0) (at-after-grow-label .grow-label .ensures .more) (at-after-walk-level .walk-level .ensures .kept) ∙ at-after-grow-label .grow-label .ensures .kept)
+
+abbrev walk-fields-Inv-loop : walk-fields-lts.InvT-loop
+walk-fields-Inv-loop c₀ bytes from end sink below level plen index rows spans names declared pool path₀ words₀ paths₀ payloads₀ first₀ at₀ left₀ c path words paths payloads first at left =
+    Fielding (place sink (tables rows names declared pool) below level bytes end (take plen path₀)) index «from» (held c₀ words₀ paths₀ payloads₀) (held c words paths payloads) (take plen path) at left first × (length words ≡ length words₀) × (length paths ≡ length paths₀) × (length payloads ≡ length payloads₀)
+
+abbrev walk-fields-μ-loop : walk-fields-lts.MeasureT-loop
+walk-fields-μ-loop c₀ bytes from end sink below level plen index rows spans names declared pool path₀ words₀ paths₀ payloads₀ first₀ at₀ left₀ c path words paths payloads first at left =
+    left
+
+walk-fields-loop-holds : (t : ℕ) → walk-fields-lts.Need-loop-holds (walk-fields-claims t) (walk-fields-at t) walk-fields.Post walk-fields-Inv-loop walk-fields-μ-loop
+walk-fields-loop-holds t c =
+    let at-start = c .before .before .before .before .before .before .before .before in
+    (fields-begin (place (at-start .args .sink) (tables (at-start .args .rows .now) (at-start .args .names .now) (at-start .args .declared .now) (at-start .args .pool .now)) (at-start .args .below) (at-start .args .level) (at-start .args .bytes .now) (at-start .args .end) (take (at-start .args .plen) (at-start .args .path .now))) (at-start .args .index) (at-start .args .from) (held (at-start .args .c .now) (at-start .args .words .now) (at-start .args .paths .now) (at-start .args .payloads .now)), refl, refl, refl)
+
+walk-fields-field-head-requires : (t : ℕ) → walk-fields-lts.Need-field-head-requires (walk-fields-claims t) (walk-fields-at t) walk-fields.Post walk-fields-Inv-loop walk-fields-μ-loop
+walk-fields-field-head-requires t c κs =
+    let at-start = c .before .before .before .before .before .before .before .before .before in
+    (at-start .pre .1 .inside, at-start .pre .1 .short)
+
+walk-fields-enum-known-h : (t : ℕ) → walk-fields-lts.Need-enum-known-h (walk-fields-claims t) (walk-fields-at t) walk-fields.Post walk-fields-Inv-loop walk-fields-μ-loop
+walk-fields-enum-known-h t c = search needs
+
+walk-fields-same-length : (t : ℕ) → walk-fields-lts.Need-same-length (walk-fields-claims t) (walk-fields-at t) walk-fields.Post walk-fields-Inv-loop walk-fields-μ-loop
+walk-fields-same-length t c =
+    let at-at-loop = c .before .before .before .before in
+    at-at-loop .loop .inv .1
+
+walk-fields-same-length-2 : (t : ℕ) → walk-fields-lts.Need-same-length-2 (walk-fields-claims t) (walk-fields-at t) walk-fields.Post walk-fields-Inv-loop walk-fields-μ-loop
+walk-fields-same-length-2 t c =
+    let at-at-loop = c .before .before .before .before in
+    at-at-loop .loop .inv .2
+
+walk-fields-same-length-3 : (t : ℕ) → walk-fields-lts.Need-same-length-3 (walk-fields-claims t) (walk-fields-at t) walk-fields.Post walk-fields-Inv-loop walk-fields-μ-loop
+walk-fields-same-length-3 t c =
+    let at-at-loop = c .before .before .before .before in
+    at-at-loop .loop .inv .3
+
+walk-fields-returns : (t : ℕ) → walk-fields-lts.Need-returns (walk-fields-claims t) (walk-fields-at t) walk-fields.Post walk-fields-Inv-loop walk-fields-μ-loop
+walk-fields-returns t c =
+    let at-after-h = c .before in
+    let at-after-field-head = at-after-h .before .before in
+    let at-at-loop = at-after-field-head .before in
+    let at-start = at-at-loop .before .before .before .before .before .before .before .before .before in
+    fields-shut (place (at-start .args .sink) (tables (at-start .args .rows .now) (at-start .args .names .now) (at-start .args .declared .now) (at-start .args .pool .now)) (at-start .args .below) (at-start .args .level) (at-start .args .bytes .now) (at-start .args .end) (take (at-start .args .plen) (at-start .args .path .now))) (at-start .args .index) (at-start .args .from) (held (at-start .args .c .now) (at-start .args .words .now) (at-start .args .paths .now) (at-start .args .payloads .now)) (held (at-at-loop .loop .c) (at-at-loop .loop .words) (at-at-loop .loop .paths) (at-at-loop .loop .payloads)) (take (at-start .args .plen) (at-at-loop .loop .path)) (at-at-loop .loop .at) (at-at-loop .loop .left) (at-at-loop .loop .first) (at-start .pre .1 .ordered) (at-at-loop .loop .inv .0) (sym (at-after-field-head .field-head .ensures) ∙ at-after-h .h .given .1)
+
+walk-fields-enum-known-h-2 : (t : ℕ) → walk-fields-lts.Need-enum-known-h-2 (walk-fields-claims t) (walk-fields-at t) walk-fields.Post walk-fields-Inv-loop walk-fields-μ-loop
+walk-fields-enum-known-h-2 t c = search needs
+
+walk-fields-stop-fields-requires : (t : ℕ) → walk-fields-lts.Need-stop-fields-requires (walk-fields-claims t) (walk-fields-at t) walk-fields.Post walk-fields-Inv-loop walk-fields-μ-loop
+walk-fields-stop-fields-requires t c κs =
+    let at-after-field-head = c .before .before .before .before .before .before .before in
+    let at-at-loop = at-after-field-head .before in
+    let at-start = at-at-loop .before .before .before .before .before .before .before .before .before in
+    (field-head-in (at-start .args .bytes .now) (at-start .args .end) (at-at-loop .loop .left) (at-at-loop .loop .at) (at-after-field-head .field-head .result) (sym (at-after-field-head .field-head .ensures)), at-start .pre .1 .inside, at-start .pre .1 .short, at-start .pre .1 .path)
+
+walk-fields-same-length-4 : (t : ℕ) → walk-fields-lts.Need-same-length-4 (walk-fields-claims t) (walk-fields-at t) walk-fields.Post walk-fields-Inv-loop walk-fields-μ-loop
+walk-fields-same-length-4 t c = search needs
+
+walk-fields-same-length-5 : (t : ℕ) → walk-fields-lts.Need-same-length-5 (walk-fields-claims t) (walk-fields-at t) walk-fields.Post walk-fields-Inv-loop walk-fields-μ-loop
+walk-fields-same-length-5 t c = search needs
+
+walk-fields-same-length-6 : (t : ℕ) → walk-fields-lts.Need-same-length-6 (walk-fields-claims t) (walk-fields-at t) walk-fields.Post walk-fields-Inv-loop walk-fields-μ-loop
+walk-fields-same-length-6 t c = search needs
+
+walk-fields-returns-2 : (t : ℕ) → walk-fields-lts.Need-returns-2 (walk-fields-claims t) (walk-fields-at t) walk-fields.Post walk-fields-Inv-loop walk-fields-μ-loop
+walk-fields-returns-2 t c =
+    let at-after-stop-fields = c .before .before .before .before .before .before in
+    let at-at-match2-keys2 = at-after-stop-fields .before .before .before .before .before .before in
+    let at-at-match-keys2 = at-at-match2-keys2 .before in
+    let at-after-field-head = at-at-match-keys2 .before in
+    let at-at-loop = at-after-field-head .before in
+    let at-start = at-at-loop .before .before .before .before .before .before .before .before .before in
+    fields-end (place (at-start .args .sink) (tables (at-start .args .rows .now) (at-start .args .names .now) (at-start .args .declared .now) (at-start .args .pool .now)) (at-start .args .below) (at-start .args .level) (at-start .args .bytes .now) (at-start .args .end) (take (at-start .args .plen) (at-start .args .path .now))) (at-start .args .index) (at-start .args .from) (held (at-start .args .c .now) (at-start .args .words .now) (at-start .args .paths .now) (at-start .args .payloads .now)) (held (at-at-loop .loop .c) (at-at-loop .loop .words) (at-at-loop .loop .paths) (at-at-loop .loop .payloads)) (take (at-start .args .plen) (at-at-loop .loop .path)) (at-at-loop .loop .at) (at-at-loop .loop .left) (at-at-loop .loop .first) (at-start .pre .1 .ordered) (at-at-loop .loop .inv .0) (at-after-field-head .field-head .result) (sym (at-after-field-head .field-head .ensures)) (not-go (at-after-field-head .field-head .result) (at-at-match2-keys2 .match2 .keys2)) (not-closed (at-after-field-head .field-head .result) (at-at-match-keys2 .match .keys2)) (held (at-after-stop-fields .stop-fields .last .0) (at-after-stop-fields .stop-fields .last .1 .1 .1 .1 .1 .1 .1 .0) (at-after-stop-fields .stop-fields .last .1 .1 .1 .1 .1 .1 .1 .1 .0) (at-after-stop-fields .stop-fields .last .1 .1 .1 .1 .1 .1 .1 .1 .1 .0)) (take (at-start .args .plen) (at-after-stop-fields .stop-fields .last .1 .1 .1 .1 .1 .1 .0)) (at-after-stop-fields .stop-fields .ensures .0) (at-after-stop-fields .stop-fields .ensures .1)
+
+walk-fields-walk-field-requires : (t : ℕ) → walk-fields-lts.Need-walk-field-requires (walk-fields-claims t) (walk-fields-at t) walk-fields.Post walk-fields-Inv-loop walk-fields-μ-loop
+walk-fields-walk-field-requires t c κs =
+    let at-after-h2 = c .before .before .before .before .before .before in
+    let at-after-field-head = at-after-h2 .before .before .before in
+    let at-at-loop = at-after-field-head .before in
+    let at-start = at-at-loop .before .before .before .before .before .before .before .before .before in
+    let n = (field-next (at-start .args .bytes .now) (at-start .args .end) (at-at-loop .loop .left) (at-at-loop .loop .at) (sym (at-after-field-head .field-head .ensures) ∙ at-after-h2 .h2 .given .1)) in let z = (at-at-loop .loop .inv .0) .later in (omega (arith, at-start .pre .0), ready-part (at-start .args .bytes .now) (at-start .args .from) (at-start .args .end) _ _ (at-start .args .plen) (at-start .args .plen) (tables (at-start .args .rows .now) (at-start .args .names .now) (at-start .args .declared .now) (at-start .args .pool .now)) (at-start .args .spans .now) (at-start .pre .1) (n .2) (n .3) (at-start .pre .1 .path))
+
+walk-fields-still-first-requires : (t : ℕ) → walk-fields-lts.Need-still-first-requires (walk-fields-claims t) (walk-fields-at t) walk-fields.Post walk-fields-Inv-loop walk-fields-μ-loop
+walk-fields-still-first-requires t c κs =
+    let at-after-h2 = c .before .before .before .before .before .before .before .before .before .before .before .before .before in
+    let at-after-field-head = at-after-h2 .before .before .before in
+    let at-at-loop = at-after-field-head .before in
+    let at-start = at-at-loop .before .before .before .before .before .before .before .before .before in
+    (field-next (at-start .args .bytes .now) (at-start .args .end) (at-at-loop .loop .left) (at-at-loop .loop .at) (sym (at-after-field-head .field-head .ensures) ∙ at-after-h2 .h2 .given .1)) .2
+
+walk-fields-sub-left : (t : ℕ) → walk-fields-lts.Need-sub-left (walk-fields-claims t) (walk-fields-at t) walk-fields.Post walk-fields-Inv-loop walk-fields-μ-loop
+walk-fields-sub-left t c =
+    let at-after-h2 = c .before .before .before .before .before .before .before .before .before .before .before .before .before .before in
+    let at-after-field-head = at-after-h2 .before .before .before in
+    let at-at-loop = at-after-field-head .before in
+    let at-start = at-at-loop .before .before .before .before .before .before .before .before .before in
+    let n = (field-next (at-start .args .bytes .now) (at-start .args .end) (at-at-loop .loop .left) (at-at-loop .loop .at) (sym (at-after-field-head .field-head .ensures) ∙ at-after-h2 .h2 .given .1)) in omega arith
+
+walk-fields-loop-less : (t : ℕ) → walk-fields-lts.Need-loop-less (walk-fields-claims t) (walk-fields-at t) walk-fields.Post walk-fields-Inv-loop walk-fields-μ-loop
+walk-fields-loop-less t c =
+    let at-after-h2 = c .before .before .before .before .before .before .before .before .before .before .before .before .before .before in
+    let at-after-field-head = at-after-h2 .before .before .before in
+    let at-at-loop = at-after-field-head .before in
+    let at-start = at-at-loop .before .before .before .before .before .before .before .before .before in
+    let n = (field-next (at-start .args .bytes .now) (at-start .args .end) (at-at-loop .loop .left) (at-at-loop .loop .at) (sym (at-after-field-head .field-head .ensures) ∙ at-after-h2 .h2 .given .1)) in omega arith
+
+walk-fields-loop-again : (t : ℕ) → walk-fields-lts.Need-loop-again (walk-fields-claims t) (walk-fields-at t) walk-fields.Post walk-fields-Inv-loop walk-fields-μ-loop
+walk-fields-loop-again t c =
+    let at-after-walk-field = c .before .before .before .before .before .before .before in
+    let at-after-h2 = at-after-walk-field .before .before .before .before .before .before .before in
+    let at-after-field-head = at-after-h2 .before .before .before in
+    let at-at-loop = at-after-field-head .before in
+    let at-start = at-at-loop .before .before .before .before .before .before .before .before .before in
+    (fields-turn (place (at-start .args .sink) (tables (at-start .args .rows .now) (at-start .args .names .now) (at-start .args .declared .now) (at-start .args .pool .now)) (at-start .args .below) (at-start .args .level) (at-start .args .bytes .now) (at-start .args .end) (take (at-start .args .plen) (at-start .args .path .now))) (at-start .args .index) (at-start .args .from) (held (at-start .args .c .now) (at-start .args .words .now) (at-start .args .paths .now) (at-start .args .payloads .now)) (held (at-at-loop .loop .c) (at-at-loop .loop .words) (at-at-loop .loop .paths) (at-at-loop .loop .payloads)) (take (at-start .args .plen) (at-at-loop .loop .path)) (at-at-loop .loop .at) (at-at-loop .loop .left) (at-at-loop .loop .first) (at-start .pre .1 .ordered) (at-at-loop .loop .inv .0) (sym (at-after-field-head .field-head .ensures) ∙ at-after-h2 .h2 .given .1) (held (at-after-walk-field .walk-field .last .0) (at-after-walk-field .walk-field .last .1 .1 .1 .1 .1 .1 .1 .1 .1 .1 .1 .1 .1 .1 .1 .1 .1 .0) (at-after-walk-field .walk-field .last .1 .1 .1 .1 .1 .1 .1 .1 .1 .1 .1 .1 .1 .1 .1 .1 .1 .1 .0) (at-after-walk-field .walk-field .last .1 .1 .1 .1 .1 .1 .1 .1 .1 .1 .1 .1 .1 .1 .1 .1 .1 .1 .1 .0)) (take (at-start .args .plen) (at-after-walk-field .walk-field .last .1 .1 .1 .1 .1 .1 .1 .1 .1 .1 .1 .1 .1 .1 .1 .1 .0)) (c .still-first .result) (at-after-walk-field .walk-field .ensures) (c .still-first .ensures), at-after-walk-field .walk-field .kept .1 .1 .1 .1 .1 .1 .1 .1 .1 .1 .1 .1 .1 .1 .1 .1 .1 .0 ∙ at-at-loop .loop .inv .1, at-after-walk-field .walk-field .kept .1 .1 .1 .1 .1 .1 .1 .1 .1 .1 .1 .1 .1 .1 .1 .1 .1 .1 .0 ∙ at-at-loop .loop .inv .2, at-after-walk-field .walk-field .kept .1 .1 .1 .1 .1 .1 .1 .1 .1 .1 .1 .1 .1 .1 .1 .1 .1 .1 .1 .0 ∙ at-at-loop .loop .inv .3)
+
+abbrev walk-level-Inv-loop : walk-level-lts.InvT-loop
+walk-level-Inv-loop c₀ bytes from end sink inside below level plen rows spans names declared pool path₀ words₀ paths₀ payloads₀ total first at₀ left₀ c path words paths payloads at left =
+    Leveling (place sink (tables rows names declared pool) below level bytes end (take plen path₀)) inside «from» total (held c₀ words₀ paths₀ payloads₀) (held c words paths payloads) (take plen path) at left × (length words ≡ length words₀) × (length paths ≡ length paths₀) × (length payloads ≡ length payloads₀)
+
+abbrev walk-level-μ-loop : walk-level-lts.MeasureT-loop
+walk-level-μ-loop c₀ bytes from end sink inside below level plen rows spans names declared pool path₀ words₀ paths₀ payloads₀ total first at₀ left₀ c path words paths payloads at left =
+    left
+
+walk-level-level-head-requires : (t : ℕ) → walk-level-lts.Need-level-head-requires (walk-level-claims t) (walk-level-at t) walk-level.Post walk-level-Inv-loop walk-level-μ-loop
+walk-level-level-head-requires t c κs =
+    let at-start = c .before .before .before .before .before .before .before .before in
+    (at-start .pre .1 .ordered, at-start .pre .1 .inside, at-start .pre .1 .short)
+
+walk-level-enum-known-o : (t : ℕ) → walk-level-lts.Need-enum-known-o (walk-level-claims t) (walk-level-at t) walk-level.Post walk-level-Inv-loop walk-level-μ-loop
+walk-level-enum-known-o t c = search needs
+
+walk-level-stop-level-requires : (t : ℕ) → walk-level-lts.Need-stop-level-requires (walk-level-claims t) (walk-level-at t) walk-level.Post walk-level-Inv-loop walk-level-μ-loop
+walk-level-stop-level-requires t c κs =
+    let at-after-level-head = c .before .before .before .before .before .before in
+    let at-start = at-after-level-head .before .before .before .before .before .before .before .before .before in
+    (level-head-in (at-start .args .bytes .now) (at-start .args .from) (at-start .args .end) (at-after-level-head .level-head .result) (sym (at-after-level-head .level-head .ensures)), at-start .pre .1 .inside, at-start .pre .1 .short, at-start .pre .1 .path)
+
+walk-level-same-length : (t : ℕ) → walk-level-lts.Need-same-length (walk-level-claims t) (walk-level-at t) walk-level.Post walk-level-Inv-loop walk-level-μ-loop
+walk-level-same-length t c = search needs
+
+walk-level-same-length-2 : (t : ℕ) → walk-level-lts.Need-same-length-2 (walk-level-claims t) (walk-level-at t) walk-level.Post walk-level-Inv-loop walk-level-μ-loop
+walk-level-same-length-2 t c = search needs
+
+walk-level-same-length-3 : (t : ℕ) → walk-level-lts.Need-same-length-3 (walk-level-claims t) (walk-level-at t) walk-level.Post walk-level-Inv-loop walk-level-μ-loop
+walk-level-same-length-3 t c = search needs
+
+walk-level-returns : (t : ℕ) → walk-level-lts.Need-returns (walk-level-claims t) (walk-level-at t) walk-level.Post walk-level-Inv-loop walk-level-μ-loop
+walk-level-returns t c =
+    let at-after-stop-level = c .before .before .before .before .before .before in
+    let at-at-match-keys2 = at-after-stop-level .before .before .before .before .before .before in
+    let at-after-level-head = at-at-match-keys2 .before in
+    let at-start = at-after-level-head .before .before .before .before .before .before .before .before .before in
+    level-end (place (at-start .args .sink) (tables (at-start .args .rows .now) (at-start .args .names .now) (at-start .args .declared .now) (at-start .args .pool .now)) (at-start .args .below) (at-start .args .level) (at-start .args .bytes .now) (at-start .args .end) (take (at-start .args .plen) (at-start .args .path .now))) (at-start .args .inside) (at-start .args .from) (at-start .pre .1 .ordered) (at-after-level-head .level-head .result) (sym (at-after-level-head .level-head .ensures)) (not-go (at-after-level-head .level-head .result) (at-at-match-keys2 .match .keys2)) (held (at-start .args .c .now) (at-start .args .words .now) (at-start .args .paths .now) (at-start .args .payloads .now)) (held (at-after-stop-level .stop-level .last .0) (at-after-stop-level .stop-level .last .1 .1 .1 .1 .1 .1 .1 .1 .0) (at-after-stop-level .stop-level .last .1 .1 .1 .1 .1 .1 .1 .1 .1 .0) (at-after-stop-level .stop-level .last .1 .1 .1 .1 .1 .1 .1 .1 .1 .1 .0)) (take (at-start .args .plen) (at-after-stop-level .stop-level .last .1 .1 .1 .1 .1 .1 .1 .0)) (at-after-stop-level .stop-level .ensures .0) (at-after-stop-level .stop-level .ensures .1)
+
+walk-level-loop-holds : (t : ℕ) → walk-level-lts.Need-loop-holds (walk-level-claims t) (walk-level-at t) walk-level.Post walk-level-Inv-loop walk-level-μ-loop
+walk-level-loop-holds t c =
+    let at-after-o = c .before in
+    let at-after-level-head = at-after-o .before .before in
+    let at-start = at-after-level-head .before .before .before .before .before .before .before .before .before in
+    (level-begin (place (at-start .args .sink) (tables (at-start .args .rows .now) (at-start .args .names .now) (at-start .args .declared .now) (at-start .args .pool .now)) (at-start .args .below) (at-start .args .level) (at-start .args .bytes .now) (at-start .args .end) (take (at-start .args .plen) (at-start .args .path .now))) (at-start .args .inside) (at-start .args .from) (at-start .pre .1 .ordered) (sym (at-after-level-head .level-head .ensures) ∙ at-after-o .o .given .1) (held (at-start .args .c .now) (at-start .args .words .now) (at-start .args .paths .now) (at-start .args .payloads .now)), refl, refl, refl)
+
+walk-level-element-head-requires : (t : ℕ) → walk-level-lts.Need-element-head-requires (walk-level-claims t) (walk-level-at t) walk-level.Post walk-level-Inv-loop walk-level-μ-loop
+walk-level-element-head-requires t c κs =
+    let at-start = c .before .before .before .before .before .before .before .before .before .before .before .before .before in
+    (at-start .pre .1 .inside, at-start .pre .1 .short)
+
+walk-level-enum-known-h : (t : ℕ) → walk-level-lts.Need-enum-known-h (walk-level-claims t) (walk-level-at t) walk-level.Post walk-level-Inv-loop walk-level-μ-loop
+walk-level-enum-known-h t c = search needs
+
+walk-level-stop-level-requires-2 : (t : ℕ) → walk-level-lts.Need-stop-level-requires-2 (walk-level-claims t) (walk-level-at t) walk-level.Post walk-level-Inv-loop walk-level-μ-loop
+walk-level-stop-level-requires-2 t c κs =
+    let at-after-element-head = c .before .before .before .before .before .before in
+    let at-at-loop = at-after-element-head .before in
+    let at-after-o = at-at-loop .before .before in
+    let at-start = at-after-o .before .before .before .before .before .before .before .before .before .before .before in
+    (element-head-in (at-start .args .bytes .now) (at-start .args .end) (at-after-o .o .given .0 .0) (at-at-loop .loop .left) (at-at-loop .loop .at) (at-after-element-head .element-head .result) (sym (at-after-element-head .element-head .ensures)), at-start .pre .1 .inside, at-start .pre .1 .short, at-start .pre .1 .path)
+
+walk-level-same-length-4 : (t : ℕ) → walk-level-lts.Need-same-length-4 (walk-level-claims t) (walk-level-at t) walk-level.Post walk-level-Inv-loop walk-level-μ-loop
+walk-level-same-length-4 t c = search needs
+
+walk-level-same-length-5 : (t : ℕ) → walk-level-lts.Need-same-length-5 (walk-level-claims t) (walk-level-at t) walk-level.Post walk-level-Inv-loop walk-level-μ-loop
+walk-level-same-length-5 t c = search needs
+
+walk-level-same-length-6 : (t : ℕ) → walk-level-lts.Need-same-length-6 (walk-level-claims t) (walk-level-at t) walk-level.Post walk-level-Inv-loop walk-level-μ-loop
+walk-level-same-length-6 t c = search needs
+
+walk-level-returns-2 : (t : ℕ) → walk-level-lts.Need-returns-2 (walk-level-claims t) (walk-level-at t) walk-level.Post walk-level-Inv-loop walk-level-μ-loop
+walk-level-returns-2 t c =
+    let at-after-stop-level2 = c .before .before .before .before .before .before in
+    let at-at-match2-keys2 = at-after-stop-level2 .before .before .before .before .before .before in
+    let at-after-element-head = at-at-match2-keys2 .before in
+    let at-at-loop = at-after-element-head .before in
+    let at-after-o = at-at-loop .before .before in
+    let at-start = at-after-o .before .before .before .before .before .before .before .before .before .before .before in
+    elements-end (place (at-start .args .sink) (tables (at-start .args .rows .now) (at-start .args .names .now) (at-start .args .declared .now) (at-start .args .pool .now)) (at-start .args .below) (at-start .args .level) (at-start .args .bytes .now) (at-start .args .end) (take (at-start .args .plen) (at-start .args .path .now))) (at-start .args .inside) (at-start .args .from) (at-start .pre .1 .ordered) (at-after-o .o .given .0 .0) (held (at-start .args .c .now) (at-start .args .words .now) (at-start .args .paths .now) (at-start .args .payloads .now)) (held (at-at-loop .loop .c) (at-at-loop .loop .words) (at-at-loop .loop .paths) (at-at-loop .loop .payloads)) (take (at-start .args .plen) (at-at-loop .loop .path)) (at-at-loop .loop .at) (at-at-loop .loop .left) (at-at-loop .loop .inv .0) (at-after-element-head .element-head .result) (sym (at-after-element-head .element-head .ensures)) (not-go (at-after-element-head .element-head .result) (at-at-match2-keys2 .match2 .keys2)) (held (at-after-stop-level2 .stop-level2 .last .0) (at-after-stop-level2 .stop-level2 .last .1 .1 .1 .1 .1 .1 .1 .1 .0) (at-after-stop-level2 .stop-level2 .last .1 .1 .1 .1 .1 .1 .1 .1 .1 .0) (at-after-stop-level2 .stop-level2 .last .1 .1 .1 .1 .1 .1 .1 .1 .1 .1 .0)) (take (at-start .args .plen) (at-after-stop-level2 .stop-level2 .last .1 .1 .1 .1 .1 .1 .1 .0)) (at-after-stop-level2 .stop-level2 .ensures .0) (at-after-stop-level2 .stop-level2 .ensures .1)
+
+walk-level-enter-requires : (t : ℕ) → walk-level-lts.Need-enter-requires (walk-level-claims t) (walk-level-at t) walk-level.Post walk-level-Inv-loop walk-level-μ-loop
+walk-level-enter-requires t c κs =
+    let at-start = c .before .before .before .before .before .before .before .before .before .before .before .before .before .before .before .before .before .before .before in
+    at-start .pre .1 .path
+
+walk-level-walk-fields-requires : (t : ℕ) → walk-level-lts.Need-walk-fields-requires (walk-level-claims t) (walk-level-at t) walk-level.Post walk-level-Inv-loop walk-level-μ-loop
+walk-level-walk-fields-requires t c κs =
+    let at-after-enter = c .before .before .before .before .before in
+    let at-after-h = at-after-enter .before .before .before .before in
+    let at-after-element-head = at-after-h .before .before in
+    let at-at-loop = at-after-element-head .before in
+    let at-after-o = at-at-loop .before .before in
+    let at-start = at-after-o .before .before .before .before .before .before .before .before .before .before .before in
+    let n = (element-next (at-start .args .bytes .now) (at-start .args .end) (at-after-o .o .given .0 .0) (at-at-loop .loop .left) (at-at-loop .loop .at) (sym (at-after-element-head .element-head .ensures) ∙ at-after-h .h .given .1)) in let z = (at-at-loop .loop .inv .0) .later in (omega (arith, at-start .pre .0), ready-part (at-start .args .bytes .now) (at-start .args .from) (at-start .args .end) _ _ (at-start .args .plen) (at-after-enter .enter .result) (tables (at-start .args .rows .now) (at-start .args .names .now) (at-start .args .declared .now) (at-start .args .pool .now)) (at-start .args .spans .now) (at-start .pre .1) (n .2) (omega arith) (at-after-enter .enter .ensures .within))
+
+walk-level-enum-known-w : (t : ℕ) → walk-level-lts.Need-enum-known-w (walk-level-claims t) (walk-level-at t) walk-level.Post walk-level-Inv-loop walk-level-μ-loop
+walk-level-enum-known-w t c = search needs
+
+walk-level-enum-told : (t : ℕ) → walk-level-lts.Need-enum-told (walk-level-claims t) (walk-level-at t) walk-level.Post walk-level-Inv-loop walk-level-μ-loop
+walk-level-enum-told t c = search needs
+
+walk-level-same-length-7 : (t : ℕ) → walk-level-lts.Need-same-length-7 (walk-level-claims t) (walk-level-at t) walk-level.Post walk-level-Inv-loop walk-level-μ-loop
+walk-level-same-length-7 t c =
+    let at-after-walk-fields = c .before .before .before .before .before .before .before .before in
+    let at-at-loop = at-after-walk-fields .before .before .before .before .before .before .before .before .before .before .before .before .before in
+    at-after-walk-fields .walk-fields .kept .1 .1 .1 .1 .1 .1 .1 .1 .1 .1 .1 .1 .1 .1 .1 .0 ∙ at-at-loop .loop .inv .1
+
+walk-level-same-length-8 : (t : ℕ) → walk-level-lts.Need-same-length-8 (walk-level-claims t) (walk-level-at t) walk-level.Post walk-level-Inv-loop walk-level-μ-loop
+walk-level-same-length-8 t c =
+    let at-after-walk-fields = c .before .before .before .before .before .before .before .before in
+    let at-at-loop = at-after-walk-fields .before .before .before .before .before .before .before .before .before .before .before .before .before in
+    at-after-walk-fields .walk-fields .kept .1 .1 .1 .1 .1 .1 .1 .1 .1 .1 .1 .1 .1 .1 .1 .1 .0 ∙ at-at-loop .loop .inv .2
+
+walk-level-same-length-9 : (t : ℕ) → walk-level-lts.Need-same-length-9 (walk-level-claims t) (walk-level-at t) walk-level.Post walk-level-Inv-loop walk-level-μ-loop
+walk-level-same-length-9 t c =
+    let at-after-walk-fields = c .before .before .before .before .before .before .before .before in
+    let at-at-loop = at-after-walk-fields .before .before .before .before .before .before .before .before .before .before .before .before .before in
+    at-after-walk-fields .walk-fields .kept .1 .1 .1 .1 .1 .1 .1 .1 .1 .1 .1 .1 .1 .1 .1 .1 .1 .0 ∙ at-at-loop .loop .inv .3
+
+walk-level-returns-3 : (t : ℕ) → walk-level-lts.Need-returns-3 (walk-level-claims t) (walk-level-at t) walk-level.Post walk-level-Inv-loop walk-level-μ-loop
+walk-level-returns-3 t c =
+    let at-after-walk-fields = c .before .before .before .before .before .before .before .before in
+    let at-after-enter = at-after-walk-fields .before .before .before .before .before .before in
+    let at-after-h = at-after-enter .before .before .before .before in
+    let at-after-element-head = at-after-h .before .before in
+    let at-at-loop = at-after-element-head .before in
+    let at-after-o = at-at-loop .before .before in
+    let at-start = at-after-o .before .before .before .before .before .before .before .before .before .before .before in
+    elements-open (place (at-start .args .sink) (tables (at-start .args .rows .now) (at-start .args .names .now) (at-start .args .declared .now) (at-start .args .pool .now)) (at-start .args .below) (at-start .args .level) (at-start .args .bytes .now) (at-start .args .end) (take (at-start .args .plen) (at-start .args .path .now))) (at-start .args .inside) (at-start .args .from) (at-start .pre .1 .ordered) (at-after-o .o .given .0 .0) (held (at-start .args .c .now) (at-start .args .words .now) (at-start .args .paths .now) (at-start .args .payloads .now)) (held (at-at-loop .loop .c) (at-at-loop .loop .words) (at-at-loop .loop .paths) (at-at-loop .loop .payloads)) (take (at-start .args .plen) (at-at-loop .loop .path)) (at-at-loop .loop .at) (at-at-loop .loop .left) (at-at-loop .loop .inv .0) (at-after-h .h .given .0 .0) (at-after-h .h .given .0 .1 .0) (at-after-h .h .given .0 .1 .1 .0) (sym (at-after-element-head .element-head .ensures) ∙ at-after-h .h .given .1) (held (at-after-enter .enter .last .0) (at-at-loop .loop .words) (at-at-loop .loop .paths) (at-at-loop .loop .payloads)) (held (at-after-walk-fields .walk-fields .last .0) (at-after-walk-fields .walk-fields .last .1 .1 .1 .1 .1 .1 .1 .1 .1 .1 .1 .1 .1 .1 .1 .0) (at-after-walk-fields .walk-fields .last .1 .1 .1 .1 .1 .1 .1 .1 .1 .1 .1 .1 .1 .1 .1 .1 .0) (at-after-walk-fields .walk-fields .last .1 .1 .1 .1 .1 .1 .1 .1 .1 .1 .1 .1 .1 .1 .1 .1 .1 .0)) (take (at-after-enter .enter .result) (at-after-enter .enter .last .1 .0)) (take (at-start .args .plen) (at-after-walk-fields .walk-fields .last .1 .1 .1 .1 .1 .1 .1 .1 .1 .1 .1 .1 .1 .1 .0)) (at-after-enter .enter .ensures .counts (at-at-loop .loop .words) (at-at-loop .loop .paths) (at-at-loop .loop .payloads)) (at-after-enter .enter .ensures .is) (at-after-walk-fields .walk-fields .result) (take (at-after-enter .enter .result) (at-after-walk-fields .walk-fields .last .1 .1 .1 .1 .1 .1 .1 .1 .1 .1 .1 .1 .1 .1 .0)) (at-after-walk-fields .walk-fields .ensures) (prefix (at-start .args .plen) (at-after-enter .enter .result) (at-after-walk-fields .walk-fields .last .1 .1 .1 .1 .1 .1 .1 .1 .1 .1 .1 .1 .1 .1 .0) (at-after-enter .enter .last .1 .0) (at-after-enter .enter .ensures .more) (at-after-walk-fields .walk-fields .ensures .kept) ∙ at-after-enter .enter .ensures .kept) (c .enum-told .given .1)
+
+walk-level-sub-left : (t : ℕ) → walk-level-lts.Need-sub-left (walk-level-claims t) (walk-level-at t) walk-level.Post walk-level-Inv-loop walk-level-μ-loop
+walk-level-sub-left t c =
+    let at-after-h = c .before .before .before .before .before .before .before .before .before .before .before .before .before .before .before .before .before .before .before in
+    let at-after-element-head = at-after-h .before .before in
+    let at-at-loop = at-after-element-head .before in
+    let at-after-o = at-at-loop .before .before in
+    let at-start = at-after-o .before .before .before .before .before .before .before .before .before .before .before in
+    let n = (element-next (at-start .args .bytes .now) (at-start .args .end) (at-after-o .o .given .0 .0) (at-at-loop .loop .left) (at-at-loop .loop .at) (sym (at-after-element-head .element-head .ensures) ∙ at-after-h .h .given .1)) in omega arith
+
+walk-level-loop-less : (t : ℕ) → walk-level-lts.Need-loop-less (walk-level-claims t) (walk-level-at t) walk-level.Post walk-level-Inv-loop walk-level-μ-loop
+walk-level-loop-less t c =
+    let at-after-h = c .before .before .before .before .before .before .before .before .before .before .before .before .before .before .before .before .before .before .before in
+    let at-after-element-head = at-after-h .before .before in
+    let at-at-loop = at-after-element-head .before in
+    let at-after-o = at-at-loop .before .before in
+    let at-start = at-after-o .before .before .before .before .before .before .before .before .before .before .before in
+    let n = (element-next (at-start .args .bytes .now) (at-start .args .end) (at-after-o .o .given .0 .0) (at-at-loop .loop .left) (at-at-loop .loop .at) (sym (at-after-element-head .element-head .ensures) ∙ at-after-h .h .given .1)) in omega arith
+
+walk-level-loop-again : (t : ℕ) → walk-level-lts.Need-loop-again (walk-level-claims t) (walk-level-at t) walk-level.Post walk-level-Inv-loop walk-level-μ-loop
+walk-level-loop-again t c =
+    let at-after-w = c .before in
+    let at-after-walk-fields = at-after-w .before .before .before .before .before .before .before .before in
+    let at-after-enter = at-after-walk-fields .before .before .before .before .before .before in
+    let at-after-h = at-after-enter .before .before .before .before in
+    let at-after-element-head = at-after-h .before .before in
+    let at-at-loop = at-after-element-head .before in
+    let at-after-o = at-at-loop .before .before in
+    let at-start = at-after-o .before .before .before .before .before .before .before .before .before .before .before in
+    (elements-turn (place (at-start .args .sink) (tables (at-start .args .rows .now) (at-start .args .names .now) (at-start .args .declared .now) (at-start .args .pool .now)) (at-start .args .below) (at-start .args .level) (at-start .args .bytes .now) (at-start .args .end) (take (at-start .args .plen) (at-start .args .path .now))) (at-start .args .inside) (at-start .args .from) (at-start .pre .1 .ordered) (at-after-o .o .given .0 .0) (held (at-start .args .c .now) (at-start .args .words .now) (at-start .args .paths .now) (at-start .args .payloads .now)) (held (at-at-loop .loop .c) (at-at-loop .loop .words) (at-at-loop .loop .paths) (at-at-loop .loop .payloads)) (take (at-start .args .plen) (at-at-loop .loop .path)) (at-at-loop .loop .at) (at-at-loop .loop .left) (at-at-loop .loop .inv .0) (at-after-h .h .given .0 .0) (at-after-h .h .given .0 .1 .0) (at-after-h .h .given .0 .1 .1 .0) (sym (at-after-element-head .element-head .ensures) ∙ at-after-h .h .given .1) (held (at-after-enter .enter .last .0) (at-at-loop .loop .words) (at-at-loop .loop .paths) (at-at-loop .loop .payloads)) (held (at-after-walk-fields .walk-fields .last .0) (at-after-walk-fields .walk-fields .last .1 .1 .1 .1 .1 .1 .1 .1 .1 .1 .1 .1 .1 .1 .1 .0) (at-after-walk-fields .walk-fields .last .1 .1 .1 .1 .1 .1 .1 .1 .1 .1 .1 .1 .1 .1 .1 .1 .0) (at-after-walk-fields .walk-fields .last .1 .1 .1 .1 .1 .1 .1 .1 .1 .1 .1 .1 .1 .1 .1 .1 .1 .0)) (take (at-after-enter .enter .result) (at-after-enter .enter .last .1 .0)) (take (at-start .args .plen) (at-after-walk-fields .walk-fields .last .1 .1 .1 .1 .1 .1 .1 .1 .1 .1 .1 .1 .1 .1 .0)) (at-after-enter .enter .ensures .counts (at-at-loop .loop .words) (at-at-loop .loop .paths) (at-at-loop .loop .payloads)) (at-after-enter .enter .ensures .is) (at-after-walk-fields .walk-fields .result) (take (at-after-enter .enter .result) (at-after-walk-fields .walk-fields .last .1 .1 .1 .1 .1 .1 .1 .1 .1 .1 .1 .1 .1 .1 .0)) (at-after-walk-fields .walk-fields .ensures) (prefix (at-start .args .plen) (at-after-enter .enter .result) (at-after-walk-fields .walk-fields .last .1 .1 .1 .1 .1 .1 .1 .1 .1 .1 .1 .1 .1 .1 .0) (at-after-enter .enter .last .1 .0) (at-after-enter .enter .ensures .more) (at-after-walk-fields .walk-fields .ensures .kept) ∙ at-after-enter .enter .ensures .kept) _ (at-after-w .w .given .1), at-after-walk-fields .walk-fields .kept .1 .1 .1 .1 .1 .1 .1 .1 .1 .1 .1 .1 .1 .1 .1 .0 ∙ at-at-loop .loop .inv .1, at-after-walk-fields .walk-fields .kept .1 .1 .1 .1 .1 .1 .1 .1 .1 .1 .1 .1 .1 .1 .1 .1 .0 ∙ at-at-loop .loop .inv .2, at-after-walk-fields .walk-fields .kept .1 .1 .1 .1 .1 .1 .1 .1 .1 .1 .1 .1 .1 .1 .1 .1 .1 .0 ∙ at-at-loop .loop .inv .3)
+
+pub +walk-field+walk-fields+walk-level-spec : {M : Type 1} → statement M
++walk-field+walk-fields+walk-level-spec =
+    close μ-walk-field μ-walk-fields μ-walk-level (λ t. walk-field-lts.spec (walk-field-claims t) (walk-field-at t)
+    walk-field.Post
+    (walk-field-sub-width t)
+    (walk-field-kind-of-requires t)
+    (walk-field-enum-known-kind t)
+    (walk-field-put-field-requires t)
+    (walk-field-same-length t)
+    (walk-field-same-length-2 t)
+    (walk-field-same-length-3 t)
+    (walk-field-returns t)
+    (walk-field-grow-label-requires t)
+    (walk-field-add-z t)
+    (walk-field-sub-walk-level t)
+    (walk-field-part-walk-level-start t)
+    (walk-field-part-walk-level-end t)
+    (walk-field-add-walk-level t)
+    (walk-field-sub-walk-level-2 t)
+    (walk-field-walk-level-requires t)
+    (walk-field-same-length-4 t)
+    (walk-field-same-length-5 t)
+    (walk-field-same-length-6 t)
+    (walk-field-returns-2 t))
+    (λ t. walk-fields-lts.spec (walk-fields-claims t) (walk-fields-at t)
+    walk-fields.Post
+    walk-fields-Inv-loop
+    walk-fields-μ-loop
+    (walk-fields-loop-holds t)
+    (walk-fields-field-head-requires t)
+    (walk-fields-enum-known-h t)
+    (walk-fields-same-length t)
+    (walk-fields-same-length-2 t)
+    (walk-fields-same-length-3 t)
+    (walk-fields-returns t)
+    (walk-fields-enum-known-h-2 t)
+    (walk-fields-stop-fields-requires t)
+    (walk-fields-same-length-4 t)
+    (walk-fields-same-length-5 t)
+    (walk-fields-same-length-6 t)
+    (walk-fields-returns-2 t)
+    (walk-fields-walk-field-requires t)
+    (walk-fields-still-first-requires t)
+    (walk-fields-sub-left t)
+    (walk-fields-loop-less t)
+    (walk-fields-loop-again t))
+    λ t. walk-level-lts.spec (walk-level-claims t) (walk-level-at t)
+    walk-level.Post
+    walk-level-Inv-loop
+    walk-level-μ-loop
+    (walk-level-level-head-requires t)
+    (walk-level-enum-known-o t)
+    (walk-level-stop-level-requires t)
+    (walk-level-same-length t)
+    (walk-level-same-length-2 t)
+    (walk-level-same-length-3 t)
+    (walk-level-returns t)
+    (walk-level-loop-holds t)
+    (walk-level-element-head-requires t)
+    (walk-level-enum-known-h t)
+    (walk-level-stop-level-requires-2 t)
+    (walk-level-same-length-4 t)
+    (walk-level-same-length-5 t)
+    (walk-level-same-length-6 t)
+    (walk-level-returns-2 t)
+    (walk-level-enter-requires t)
+    (walk-level-walk-fields-requires t)
+    (walk-level-enum-known-w t)
+    (walk-level-enum-told t)
+    (walk-level-same-length-7 t)
+    (walk-level-same-length-8 t)
+    (walk-level-same-length-9 t)
+    (walk-level-returns-3 t)
+    (walk-level-sub-left t)
+    (walk-level-loop-less t)
+    (walk-level-loop-again t)

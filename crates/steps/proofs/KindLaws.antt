@@ -1,0 +1,96 @@
+-- What a field is, from the entry that was found, and what one gives that is no array to walk.
+use Prim.Native.Nat.{ℕ}
+use mathlib.Core.Path.{_≡_, refl, sym, ap, _∙_}
+use mathlib.Core.Bool.{Bool}
+use mathlib.Core.List.{List}
+use lib.ListN.{length}
+use borrow.Author.Tests.{eq-eqb, ne-eqb}
+use Rattle.schema.specs.Tables.{Tables, child, declaredName}
+use Rattle.schema.specs.Labels.{bySchema, byDeclaration}
+use Rattle.schema.specs.Spans.{entry}
+use Rattle.schema.specs.declared.Entry.{Entry}
+use Rattle.schema.specs.declared.Child.{Child}
+use Rattle.schema.specs.declared.Child.the-variants as child
+use Rattle.schema.specs.declared.Label.{Label}
+use Rattle.schema.proofs.LabelLaws.{container-from, leaf-from}
+use Rattle.framing.specs.Windows.{Window}
+use Rattle.framing.specs.Events.{truncation}
+use Rattle.framing.specs.Sinks.{objectField}
+use Rattle.outputs.specs.World.{World}
+use Rattle.steps.specs.Held.{held, ran, bumped}
+use Rattle.steps.specs.Kinds.{kindBy, kindOf}
+use Rattle.steps.specs.Gives.{taggedLeaf, flatField}
+use Rattle.steps.specs.declared.Tag.the-variants as tag
+use Rattle.steps.specs.declared.Sink.{Sink}
+use Rattle.steps.specs.declared.Sink.the-variants as sink
+use Rattle.steps.specs.declared.Kind.{Kind}
+use Rattle.steps.specs.declared.Kind.the-variants as kind
+use Rattle.steps.proofs.TallyLaws.{count-truncation, ran-none, ran-then}
+
+-- ---- what a field is
+
+module _ (s : Sink) (t : Tables) (below level handle width : ℕ) where
+  pub kind-object : s ≡ sink.Object → kind.Object ≡ kindOf s t below level handle width
+  unfolding kindOf
+  kind-object e = rw e refl
+
+  module _ (trailer : Bool) (e : s ≡ sink.Record trailer) (x : Entry) (found : x ≡ entry (t .rows) level handle) where
+    by-child : (y : Child) → x .child ≡ y → kindBy t below level handle width y ≡ kindOf s t below level handle width
+    unfolding kindOf
+    by-child y q =
+        let z : child (t .rows) level handle ≡ y = sym (ap (λ (n : Entry). n .child) found) ∙ q in
+        rw e (ap (kindBy t below level handle width) (sym z))
+
+    pub kind-leaf : (l : Label) → x .child ≡ child.Leaf → l ≡ byDeclaration (declaredName (t .declared) handle) (bySchema (x .name))
+        → kind.Leaf l ≡ kindOf s t below level handle width
+    kind-leaf l q el = ap (λ (n : Label). kind.Leaf n) (el ∙ leaf-from t level handle x found) ∙ by-child child.Leaf q
+
+    module _ (lower : ℕ) (q : x .child ≡ child.Array lower) where
+      pub kind-nothing : width ≡ 0 → kind.Nothing ≡ kindOf s t below level handle width
+      kind-nothing z = sym (rw (eq-eqb width 0 z) refl) ∙ by-child (child.Array lower) q
+
+      module _ (l : Label) (el : l ≡ bySchema (x .name)) (some : width ≡ 0 → ⊥) where
+        pub kind-deep : below ≡ 0 → kind.Deep l ≡ kindOf s t below level handle width
+        kind-deep z =
+            ap (λ (n : Label). kind.Deep n) (el ∙ container-from t level handle x found)
+            ∙ sym (rw (ne-eqb width 0 some, eq-eqb below 0 z) refl)
+            ∙ by-child (child.Array lower) q
+
+        pub kind-array : (below ≡ 0 → ⊥) → kind.Array lower l ≡ kindOf s t below level handle width
+        kind-array n =
+            ap (λ (m : Label). kind.Array lower m) (el ∙ container-from t level handle x found)
+            ∙ sym (rw (ne-eqb width 0 some, ne-eqb below 0 n) refl)
+            ∙ by-child (child.Array lower) q
+
+-- ---- what a field gives
+
+module _ (t : Tables) (index : ℕ) (path : List ℕ) (first : Bool) (handle : ℕ) (w : Window) (k : Kind) where
+  flat-by : (k′ : Kind) (v v′ : World) → k ≡ k′ → v′ ≡ ran (flatField t index path first handle w k′) v → v′ ≡ ran (flatField t index path first handle w k) v
+  flat-by k′ v v′ e q = q ∙ ap (λ (x : Kind). ran (flatField t index path first handle w x) v) (sym e)
+
+  pub flat-object : (v v′ : World) → k ≡ kind.Object → v′ ≡ ran (objectField index first w) v → v′ ≡ ran (flatField t index path first handle w k) v
+  unfolding flatField
+  flat-object v v′ e q = flat-by kind.Object v v′ e q
+
+  pub flat-nothing : (v : World) → k ≡ kind.Nothing → v ≡ ran (flatField t index path first handle w k) v
+  unfolding flatField
+  flat-nothing v e = flat-by kind.Nothing v v e (ran-none v)
+
+  pub flat-array : (v : World) (lower : ℕ) (x : Label) → k ≡ kind.Array lower x → v ≡ ran (flatField t index path first handle w k) v
+  unfolding flatField
+  flat-array v lower x e = flat-by (kind.Array lower x) v v e (ran-none v)
+
+  pub flat-leaf : (v v′ : World) (x : Label) → k ≡ kind.Leaf x → v′ ≡ ran (taggedLeaf t path handle (tag.Label x) w) v
+      → v′ ≡ ran (flatField t index path first handle w k) v
+  unfolding flatField
+  flat-leaf v v′ x e q = flat-by (kind.Leaf x) v v′ e q
+
+  -- an array below the last level: a truncation, and the array as a leaf
+  pub flat-deep : (c c₁ words text load : List ℕ) (v′ : World) (x : Label) → k ≡ kind.Deep x → length c ≡ 11 → c₁ ≡ bumped c 2 1
+      → v′ ≡ ran (taggedLeaf t path handle (tag.Label x) w) (held c₁ words text load) → v′ ≡ ran (flatField t index path first handle w k) (held c words text load)
+  unfolding flatField
+  flat-deep c c₁ words text load v′ x e eleven q r =
+      flat-by (kind.Deep x) (held c words text load) v′ e
+      (r
+      ∙ ap (ran (taggedLeaf t path handle (tag.Label x) w)) (ap (λ (l : List ℕ). held l words text load) q ∙ count-truncation words text load c eleven)
+      ∙ ran-then truncation (taggedLeaf t path handle (tag.Label x) w) (held c words text load))

@@ -1,0 +1,92 @@
+-- One leaf: how long its path is, and its three runs, written and counted.
+use Prim.Native.Nat.{ℕ, _+_, _-_, _≤_, _<_}
+use mathlib.Core.Path.{_≡_, refl, sym, ap, _∙_}
+use mathlib.Core.List.{List, [], _∷_, _++_}
+use native.Mathlib.Omega.{arith}
+use lib.ListN.{length, take, getD}
+use borrow.Author.Tests.{le-leb, lt-leb}
+use Rattle.bits.specs.Bits.{num, field}
+use Rattle.bits.specs.Runs.{bytesOf, bytesFor, put, store}
+use Rattle.bits.proofs.RunLaws.{store-fits, length-bytesOf}
+use Rattle.schema.specs.Tables.{Tables}
+use Rattle.schema.specs.Labels.{dot}
+use Rattle.schema.specs.Layout.{maxName}
+use Rattle.schema.proofs.LaidLaws.{label-length, label-short}
+use Rattle.framing.specs.Windows.{Window}
+use Rattle.framing.specs.Events.{Leaf, leaf, over, Trace}
+use Rattle.framing.specs.Paths.{given, longestPath}
+use Rattle.framing.specs.Sinks.{leafOf}
+use Rattle.steps.specs.Held.{held, ran, bumped, reserved}
+use Rattle.steps.specs.Views.{inner}
+use Rattle.steps.specs.Paths.{tagBytes, tagLength, TagLies}
+use Rattle.steps.specs.Gives.{taggedLeaf}
+use Rattle.steps.specs.declared.Tag.{Tag}
+use Rattle.steps.specs.declared.Tag.the-variants as tag
+use Rattle.steps.proofs.TallyLaws.{count-over, leaf-counted}
+use Rattle.steps.proofs.PathLaws.{length-longer, take-put}
+
+-- a tag has as many bytes as it says, and no more than a name may have
+pub tag-length : (t : Tables) (handle : ℕ) (x : Tag) → TagLies t x → length (tagBytes t handle x) ≡ tagLength handle x
+tag-length t handle (tag.Label l) h = label-length t handle l h
+tag-length t handle tag.Raw h = refl
+
+pub tag-short : (t : Tables) (handle : ℕ) (x : Tag) → TagLies t x → tagLength handle x ≤ maxName
+tag-short t handle (tag.Label l) h = label-short t handle l h
+tag-short t handle tag.Raw h = omega arith
+
+-- a leaf's path that fits is given, and one that does not is counted
+pub given-short : (x : Leaf) → length (x .path) ≤ longestPath → given x ≡ leaf x ∷ []
+unfolding given
+given-short x h = rw (le-leb (length (x .path)) longestPath h)
+
+pub given-long : (x : Leaf) → longestPath < length (x .path) → given x ≡ over ∷ []
+unfolding given
+given-long x h = rw (lt-leb (length (x .path)) longestPath h)
+
+-- the leaf with this tag behind the first `plen` bytes of the working path
+module _ (t : Tables) (handle : ℕ) (x : Tag) (path : List ℕ) (plen n : ℕ)
+    (lies : TagLies t x) (sized : length path ≡ 1024) (front : plen ≤ 1024) (n-is : n ≡ plen + 1 + tagLength handle x) where
+  pub path-length : length (dot (take plen path) (tagBytes t handle x)) ≡ n
+  unfolding dot
+  path-length =
+      let a = length-longer path (46 ∷ tagBytes t handle x) plen (omega arith) in
+      let b = tag-length t handle x lies in
+      omega arith
+
+  -- its path, written to the working path and copied from there
+  pub path-copied : (d d′ path′ : List ℕ) (at k : ℕ) → k ≡ n → at + n ≤ length d → path′ ≡ put path plen (46 ∷ tagBytes t handle x)
+      → d′ ≡ put d at (take k path′) → d′ ≡ store d at (dot (take plen path) (tagBytes t handle x))
+  unfolding dot
+  path-copied d d′ path′ at k ek fits ep ed =
+      let b = tag-length t handle x lies in
+      let m : take k path′ ≡ take plen path ++ (46 ∷ tagBytes t handle x) =
+      ap (take k) ep ∙ take-put path (46 ∷ tagBytes t handle x) plen k (omega arith) (omega arith) in
+      let l = path-length in
+      ed ∙ ap (put d at) m ∙ sym (store-fits d at (take plen path ++ (46 ∷ tagBytes t handle x)) (omega arith))
+
+  module _ (bytes : List ℕ) («from» end origin : ℕ) (c c′ words text load : List ℕ) (eleven : length c ≡ 11) where
+    pub leaf-over : longestPath < n → c′ ≡ bumped c 7 1
+        → held c′ words text load ≡ ran (taggedLeaf t (take plen path) handle x (inner bytes «from» end origin)) (held c words text load)
+    unfolding taggedLeaf
+    leaf-over h e =
+        let l = path-length in
+        let w : Window = inner bytes «from» end origin in
+        ap (λ (k : List ℕ). held k words text load) e
+        ∙ count-over words text load c eleven
+        ∙ ap (λ (u : Trace). ran u (held c words text load)) (sym (given-long (leafOf (dot (take plen path) (tagBytes t handle x)) handle w) (omega arith)))
+
+    pub leaf-put : (size : ℕ) (words′ text′ load′ : List ℕ) → n ≤ longestPath → size ≡ bytesFor (end - «from») → c′ ≡ reserved c 5 n size
+        → words′ ≡ store words (getD c 8 0) (getD c 9 0 ∷ n ∷ handle ∷ (end - «from») ∷ getD c 10 0 ∷ [])
+        → text′ ≡ store text (getD c 9 0) (dot (take plen path) (tagBytes t handle x))
+        → load′ ≡ store load (getD c 10 0) (bytesOf (bytesFor (end - «from»)) (field (num bytes) «from» (end - «from»)))
+        → held c′ words′ text′ load′ ≡ ran (taggedLeaf t (take plen path) handle x (inner bytes «from» end origin)) (held c words text load)
+    unfolding taggedLeaf inner
+    leaf-put size words′ text′ load′ h es ec ew et el =
+        let l = path-length in
+        let y = leafOf (dot (take plen path) (tagBytes t handle x)) handle (inner bytes «from» end origin) in
+        let s : size ≡ length (bytesOf (bytesFor (end - «from»)) (field (num bytes) «from» (end - «from»))) =
+        es ∙ sym (length-bytesOf (bytesFor (end - «from»)) (field (num bytes) «from» (end - «from»))) in
+        ap (λ (k : List ℕ). held k words′ text′ load′) ec
+        ∙ leaf-counted c words text load eleven y n size words′ text′ load′ (sym l) s
+        (ew ∙ ap (λ (k : ℕ). store words (getD c 8 0) (getD c 9 0 ∷ k ∷ handle ∷ (end - «from») ∷ getD c 10 0 ∷ [])) (sym l)) et el
+        ∙ ap (λ (u : Trace). ran u (held c words text load)) (sym (given-short y (omega arith)))

@@ -1,0 +1,120 @@
+-- What the ways out of an element's fields and of a level give.
+use Prim.Native.Nat.{ℕ, _+_, _-_, _≤_}
+use mathlib.Core.Path.{_≡_, refl, sym, ap, _∙_}
+use mathlib.Core.Bool.{Bool, true, false}
+use mathlib.Core.List.{List, [], _∷_}
+use native.Mathlib.Nat.{add-zero}
+use native.Mathlib.Omega.{arith}
+use lib.Dec.{ltb}
+use lib.ListN.{length}
+use borrow.Author.Tests.{lt-ltb, le-ltb}
+use types.Run.{OneOf, miss}
+use denote.Enum.Declared.{tagOf}
+use Rattle.bits.specs.Bits.{num, field}
+use Rattle.bits.proofs.FieldLaws.{field-field}
+use Rattle.schema.specs.Tables.{Tables}
+use Rattle.schema.specs.Labels.{dot, rawLabel}
+use Rattle.framing.specs.Events.{rawHandle, truncation, Trace}
+use Rattle.framing.specs.Paths.{given}
+use Rattle.framing.specs.Walk as W
+use Rattle.framing.specs.Walk.{tail, closing, rawLeaf}
+use Rattle.framing.specs.Sinks.{leafOf}
+use Rattle.outputs.specs.World.{World}
+use Rattle.steps.specs.Held.{held, ran, bumped}
+use Rattle.steps.specs.Views.{inner, exitSink}
+use Rattle.steps.specs.Gives.{taggedLeaf, fieldsStop, levelStop}
+use Rattle.steps.specs.declared.Tag.the-variants as tag
+use Rattle.steps.specs.declared.Sink.{Sink}
+use Rattle.steps.specs.declared.Sink.the-variants as sink
+use Rattle.steps.specs.declared.Head.{Head}
+use Rattle.steps.specs.declared.Head.the-variants as head
+use Rattle.steps.proofs.Head.{the-type}
+use Rattle.steps.proofs.TallyLaws.{count-truncation, count-error, count-implicit, ran-none, ran-then}
+
+-- ---- a tail
+
+module _ (s : Sink) (inside : Bool) (bytes : List ℕ) (at end origin : ℕ) (path : List ℕ) (w : World) where
+  -- the object walk keeps none
+  pub tail-object : s ≡ sink.Object → w ≡ ran (tail (exitSink s inside) (inner bytes at end origin) path 0) w
+  unfolding tail
+  tail-object e = rw e (ran-none w)
+
+  module _ (trailer : Bool) (e : s ≡ sink.Record trailer) where
+    -- nor does a walk at the window's end
+    pub tail-end : at ≡ end → w ≡ ran (tail (exitSink s inside) (inner bytes at end origin) path 0) w
+    unfolding tail inner
+    tail-end h = let none : ltb 0 (end - at) ≡ false = le-ltb 0 (end - at) (omega arith) in rw (e, none) (ran-none w)
+
+    -- else it is a leaf `_raw` of all bits that are left
+    raw-leaf : rawLeaf (inner bytes at end origin) path 0 ≡ leafOf (dot path rawLabel) rawHandle (inner bytes at end origin)
+    unfolding inner
+    raw-leaf =
+        let o : origin + 0 ≡ origin = omega arith in
+        let n : end - at - 0 ≡ end - at = omega arith in
+        let p : field (field (num bytes) at (end - at)) 0 (end - at - 0) ≡ field (num bytes) at (end - at) =
+        ap (field (field (num bytes) at (end - at)) 0) n
+        ∙ field-field (num bytes) at (end - at) 0 (end - at) (omega arith)
+        ∙ ap (λ (k : ℕ). field (num bytes) k (end - at)) (add-zero at) in
+        λ i. record { path = dot path rawLabel; handle = rawHandle; start = o i; width = n i; payload = p i }
+
+    pub tail-kept : (w′ : World) (t : Tables) → at ≤ end → (at ≡ end → ⊥) → w′ ≡ ran (taggedLeaf t path rawHandle tag.Raw (inner bytes at end origin)) w
+        → w′ ≡ ran (tail (exitSink s inside) (inner bytes at end origin) path 0) w
+    unfolding tail taggedLeaf inner
+    tail-kept w′ t l h q =
+        let more : ltb 0 (end - at) ≡ true = lt-ltb 0 (end - at) (omega arith) in
+        q ∙ ap (λ (u : Trace). ran u w) (sym (rw (e, more) (ap given raw-leaf)))
+
+-- ---- an element's fields that don't close
+
+module _ (s : W.Sink) (bytes : List ℕ) (end origin : ℕ) (path : List ℕ) (h : Head) (c c₁ words text load : List ℕ) where
+  fields-by : (h′ : Head) (w w′ : World) → h ≡ h′ → w′ ≡ ran (fieldsStop s bytes end origin path h′) w → w′ ≡ ran (fieldsStop s bytes end origin path h) w
+  fields-by h′ w w′ e q = q ∙ ap (λ (x : Head). ran (fieldsStop s bytes end origin path x) w) (sym e)
+
+  pub fields-ended : h ≡ head.Ended → length c ≡ 11 → c₁ ≡ bumped c 6 1 → held c₁ words text load ≡ ran (fieldsStop s bytes end origin path h) (held c words text load)
+  unfolding fieldsStop
+  fields-ended e eleven q =
+      fields-by head.Ended (held c words text load) (held c₁ words text load) e (ap (λ (x : List ℕ). held x words text load) q ∙ count-implicit words text load c eleven)
+
+  pub fields-failed : h ≡ head.Failed → length c ≡ 11 → c₁ ≡ bumped c 3 1 → held c₁ words text load ≡ ran (fieldsStop s bytes end origin path h) (held c words text load)
+  unfolding fieldsStop
+  fields-failed e eleven q =
+      fields-by head.Failed (held c words text load) (held c₁ words text load) e (ap (λ (x : List ℕ). held x words text load) q ∙ count-error words text load c eleven)
+
+  pub fields-limit : (n : ℕ) (w′ : World) → h ≡ head.Limit n → length c ≡ 11 → c₁ ≡ bumped c 2 1
+      → w′ ≡ ran (tail s (inner bytes n end origin) path 0) (held c₁ words text load) → w′ ≡ ran (fieldsStop s bytes end origin path h) (held c words text load)
+  unfolding fieldsStop
+  fields-limit n w′ e eleven q r =
+      fields-by (head.Limit n) (held c words text load) w′ e
+      (r
+      ∙ ap (ran (tail s (inner bytes n end origin) path 0)) (ap (λ (x : List ℕ). held x words text load) q ∙ count-truncation words text load c eleven)
+      ∙ ran-then truncation (tail s (inner bytes n end origin) path 0) (held c words text load))
+
+module _ (s : W.Sink) (bytes : List ℕ) (end origin : ℕ) (path : List ℕ) (h : Head) (w : World) where
+  -- the heads that give nothing here
+  pub fields-closed : (n : ℕ) → h ≡ head.Closed n → w ≡ ran (fieldsStop s bytes end origin path h) w
+  unfolding fieldsStop
+  fields-closed n e = ran-none w ∙ ap (λ (x : Head). ran (fieldsStop s bytes end origin path x) w) (sym e)
+
+  pub fields-go : (v a b : ℕ) → h ≡ head.Go v a b → w ≡ ran (fieldsStop s bytes end origin path h) w
+  unfolding fieldsStop
+  fields-go v a b e = ran-none w ∙ ap (λ (x : Head). ran (fieldsStop s bytes end origin path x) w) (sym e)
+
+  -- ---- a level that ends
+
+  pub level-closed : (n : ℕ) (w′ : World) → h ≡ head.Closed n → w′ ≡ ran (closing s (inner bytes n end origin) 0) w → w′ ≡ ran (levelStop s bytes end origin path h) w
+  unfolding levelStop
+  level-closed n w′ e q = q ∙ ap (λ (x : Head). ran (levelStop s bytes end origin path x) w) (sym e)
+
+-- every other head ends a level as it ends an element's fields
+same-stop : (s : W.Sink) (bytes : List ℕ) (end origin : ℕ) (path : List ℕ) (h : Head)
+    → OneOf (0 ∷ 1 ∷ 3 ∷ 4 ∷ []) (tagOf the-type h) → fieldsStop s bytes end origin path h ≡ levelStop s bytes end origin path h
+unfolding fieldsStop levelStop
+same-stop s bytes end origin path head.Ended k = refl
+same-stop s bytes end origin path head.Failed k = refl
+same-stop s bytes end origin path (head.Closed n) k = absurd (miss (0 ∷ 1 ∷ 3 ∷ 4 ∷ []) 2 tt k)
+same-stop s bytes end origin path (head.Limit n) k = refl
+same-stop s bytes end origin path (head.Go v a b) k = refl
+
+pub level-other : (s : W.Sink) (bytes : List ℕ) (end origin : ℕ) (path : List ℕ) (h : Head) (w w′ : World)
+    → OneOf (0 ∷ 1 ∷ 3 ∷ 4 ∷ []) (tagOf the-type h) → w′ ≡ ran (fieldsStop s bytes end origin path h) w → w′ ≡ ran (levelStop s bytes end origin path h) w
+level-other s bytes end origin path h w w′ k q = q ∙ ap (λ (t : Trace). ran t w) (same-stop s bytes end origin path h k)

@@ -1,0 +1,78 @@
+-- Runs written to an output: record by record, and through a part of it.
+use Prim.Native.Nat.{ℕ, _+_, _-_, _*_, _/_, _%_, _^_, _≤_, _<_}
+use mathlib.Core.Path.{_≡_, refl, sym, ap, ap₂, _∙_}
+use mathlib.Core.Bool.{Bool, true, false, not}
+use mathlib.Core.List.{List, [], _∷_, _++_, append-assoc}
+use native.Mathlib.Nat.{div-one}
+use native.Mathlib.Numerals.{add-one, add-two, add-three, add-four}
+use native.Mathlib.Omega.{arith}
+use lib.Dec.{leb}
+use lib.ListN.{length, take, drop, set, length-drop, take-append-drop}
+use lib.Seq.{sets-eq, length-take-le, drop-append-le}
+use borrow.Author.Tests.{leb-true, leb-false, not-true, not-false}
+use borrow.Rule.Slice.PartMut.{midOf, putMid}
+use Rattle.bits.specs.Bits.{num, field, Bytes}
+use Rattle.bits.specs.Runs.{bytesOf, bytesFor, put, store}
+use Rattle.bits.proofs.FieldLaws.{field-rest, num-lt, bytes-tail}
+use Rattle.bits.proofs.RunLaws.{store-fits}
+use Rattle.outputs.proofs.Paste.{part-put}
+
+-- what the answer of `fits` says
+pub fitting : (a b : ℕ) (r : Bool) → r ≡ leb a b → not r ≡ false → a ≤ b
+fitting a b r e h = leb-true a b (sym e ∙ not-false r h)
+
+pub past : (a b : ℕ) (r : Bool) → r ≡ leb a b → not r ≡ true → b < a
+past a b r e h = leb-false a b (sym e ∙ not-true r h)
+
+-- single stores, one after the other, of a run that fits
+pub store-two : (d : List ℕ) (i a b : ℕ) → i + 2 ≤ length d → set (set d i a) (i + 1) b ≡ store d i (a ∷ b ∷ [])
+unfolding put
+store-two d i a b h = simp add-one (sets-eq (a ∷ b ∷ []) d i h) ∙ sym (store-fits d i (a ∷ b ∷ []) h)
+
+pub put-four : (d : List ℕ) (i a b c e : ℕ) → i + 4 ≤ length d
+    → set (set (set (set d i a) (i + 1) b) (i + 2) c) (i + 3) e ≡ put d i (a ∷ b ∷ c ∷ e ∷ [])
+unfolding put
+put-four d i a b c e h = simp (add-one, add-two, add-three) (sets-eq (a ∷ b ∷ c ∷ e ∷ []) d i h)
+
+pub store-five : (d : List ℕ) (i a b c e f : ℕ) → i + 5 ≤ length d
+    → set (set (set (set (set d i a) (i + 1) b) (i + 2) c) (i + 3) e) (i + 4) f ≡ store d i (a ∷ b ∷ c ∷ e ∷ f ∷ [])
+unfolding put
+store-five d i a b c e f h =
+    simp (add-one, add-two, add-three, add-four) (sets-eq (a ∷ b ∷ c ∷ e ∷ f ∷ []) d i h) ∙ sym (store-fits d i (a ∷ b ∷ c ∷ e ∷ f ∷ []) h)
+
+-- `f(&mut d[i..], ..)` wrote a run to the front of the part
+pub part-run : (d x run : List ℕ) (i k : ℕ) → k ≡ length d - i → i + length run ≤ length d → x ≡ put (midOf i k d) 0 run → putMid i k d x ≡ put d i run
+unfolding put
+part-run d x run i k e fits ex =
+    let h = length-drop i d in
+    let n : length (take k (drop i d)) ≡ k = length-take-le k (drop i d) (omega arith) in
+    let rest : drop (0 + length run) (take k (drop i d)) ++ drop k (drop i d) ≡ drop (0 + length run) (drop i d) =
+    sym (drop-append-le (0 + length run) (take k (drop i d)) (drop k (drop i d)) (omega arith)) ∙ ap (drop (0 + length run)) (take-append-drop k (drop i d)) in
+    ap (λ (r : List ℕ). take i d ++ (r ++ drop k (drop i d))) ex
+    ∙ ap (λ (r : List ℕ). take i d ++ r) (append-assoc run (drop (0 + length run) (take k (drop i d))) (drop k (drop i d)) ∙ ap (λ (r : List ℕ). run ++ r) rest)
+    ∙ part-put d i run
+
+pub part-store : (d x run : List ℕ) (i k : ℕ) → k ≡ length d - i → i + length run ≤ length d → x ≡ put (midOf i k d) 0 run → putMid i k d x ≡ store d i run
+part-store d x run i k e fits ex = part-run d x run i k e fits ex ∙ sym (store-fits d i run fits)
+
+-- bytes are the bytes of their number
+pub bytes-num : (s : List ℕ) → Bytes s → bytesOf (length s) (num s) ≡ s
+unfolding bytesOf num
+bytes-num [] h = refl
+bytes-num (b ∷ s) h =
+    let b-lt : b < 2 ^ 8 = h 0 in
+    let low : (b + 2 ^ 8 * num s) % 2 ^ 8 ≡ b = omega arith in
+    let high : (b + 2 ^ 8 * num s) / 2 ^ 8 ≡ num s = omega arith in
+    ap₂ (λ (x : ℕ) (l : List ℕ). x ∷ l) low (ap (bytesOf (length s)) high ∙ bytes-num s (bytes-tail b s h))
+
+-- all bits of some bytes, as bytes
+pub all-bytes : (s : List ℕ) (n : ℕ) → Bytes s → n ≡ 8 * length s → bytesOf (bytesFor n) (field (num s) 0 n) ≡ s
+all-bytes s n h e =
+    let k : bytesFor n ≡ length s = omega arith in
+    let m : 8 * length s ≤ 0 + n = omega arith in
+    ap₂ bytesOf k (field-rest (num s) 0 n (8 * length s) (num-lt s h) m ∙ div-one (num s)) ∙ bytes-num s h
+
+-- a copy of all bits to a part
+pub part-copy : (d x s : List ℕ) (i k n : ℕ) → Bytes s → n ≡ 8 * length s → k ≡ length d - i → i + length s ≤ length d
+    → x ≡ put (midOf i k d) 0 (bytesOf (bytesFor n) (field (num s) 0 n)) → putMid i k d x ≡ put d i s
+part-copy d x s i k n h en ek fits ex = part-run d x s i k ek fits (ex ∙ ap (put (midOf i k d) 0) (all-bytes s n h en))

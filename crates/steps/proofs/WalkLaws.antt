@@ -1,0 +1,408 @@
+-- What a head makes of a walk: the laws that the cycle's loops cite. A position `at` is a bit of the bytes; the window starts at bit b of them.
+use Prim.Native.Nat.{ℕ, zero, suc, _+_, _-_, _*_, _≤_, _<_}
+use native.Mathlib.Nat.{zero-add, add-zero}
+use native.Mathlib.Numerals.{add-one}
+use native.Mathlib.Omega.{arith}
+use mathlib.Core.Path.{_≡_, refl, sym, ap, ap₂, subst, _∙_}
+use mathlib.Core.Bool.{Bool, true, false, _&&_}
+use mathlib.Core.List.{List, [], _∷_, _++_}
+use lib.Dec.{leb, ltb, eqb}
+use borrow.Author.Tests.{lt-leb, le-ltb, ne-eqb}
+use Rattle.bits.specs.Choice.{if_then_else_}
+use Rattle.framing.specs.Windows.{Window, part, Reading, got, failed, reading}
+use Rattle.framing.specs.Events.{Number, numbers, Event, number, element, truncation, error, implicit, Trace}
+use Rattle.framing.specs.Walk.{Sink, maxElements, maxFields, numberAt, Lead, ends, fails, closes, opens, lead, Due, cut, broken, closed, present, fieldAt, tail, Run, done, stopped, prepend, fields, closing, inItem, entering, behind, elements, level}
+use Rattle.framing.proofs.StepLaws.{fields-last, fields-step, fields-present, elements-last, elements-step, level-count}
+use Rattle.outputs.specs.World.{World, wrapping}
+use Rattle.outputs.proofs.Paste.{apply-append, apply-numbers}
+use Rattle.steps.specs.Held.{ran}
+use Rattle.steps.specs.Views.{inner, upTo, HeadIn}
+use Rattle.steps.specs.Heads.{numberOf, countHead, levelHead, indexHead, elementHead, lastHead, dueHead, fieldHead, shifted}
+use Rattle.steps.specs.Gives.{fieldsStop, levelStop}
+use Rattle.steps.specs.declared.Head.{Head}
+use Rattle.steps.specs.declared.Head.the-variants as head
+use Rattle.steps.proofs.TallyLaws.{ran-none, ran-number}
+use Rattle.steps.proofs.ShiftLaws.{level-shift, element-shift, field-shift, tail-shift, closing-shift, part-inner, size-inner}
+use Rattle.steps.proofs.WithinLaws.{level-in, element-in, field-in, Counted, level-goes, Opened, element-goes, Presented, field-goes}
+
+-- ---- traces that run
+
+pub ran-append : (t u : Trace) (x : World) → ran (t ++ u) x ≡ ran u (ran t x)
+unfolding ran
+ran-append t u x = apply-append (wrapping 4294967296) t u x
+
+pub ran-numbers : (ns : List Number) (t : Trace) (x : World) → ran (numbers ns ++ t) x ≡ ran t x
+unfolding ran
+ran-numbers ns t x = apply-numbers (wrapping 4294967296) ns t x
+
+-- ---- heads that end a walk
+
+abbrev pub NotGo : Head → Type 0
+NotGo head.Ended = Unit
+NotGo head.Failed = Unit
+NotGo (head.Closed n) = Unit
+NotGo (head.Limit n) = Unit
+NotGo (head.Go v a b) = ⊥
+
+abbrev pub NotClosed : Head → Type 0
+NotClosed head.Ended = Unit
+NotClosed head.Failed = Unit
+NotClosed (head.Closed n) = ⊥
+NotClosed (head.Limit n) = Unit
+NotClosed (head.Go v a b) = Unit
+
+not-go-back : (b : ℕ) (h : Head) → NotGo (shifted b h) → NotGo h
+not-go-back b head.Ended g = tt
+not-go-back b head.Failed g = tt
+not-go-back b (head.Closed n) g = tt
+not-go-back b (head.Limit n) g = tt
+not-go-back b (head.Go v p q) g = g
+
+not-closed-back : (b : ℕ) (h : Head) → NotClosed (shifted b h) → NotClosed h
+not-closed-back b head.Ended g = tt
+not-closed-back b head.Failed g = tt
+not-closed-back b (head.Closed n) g = g
+not-closed-back b (head.Limit n) g = tt
+not-closed-back b (head.Go v p q) g = tt
+
+-- what such a head gives, its position a bit of the window
+abbrev stopAt : Sink → Window → (path : List ℕ) → Head → Trace
+stopAt s w path head.Ended = implicit ∷ []
+stopAt s w path head.Failed = error ∷ []
+stopAt s w path (head.Closed q) = closing s w q
+stopAt s w path (head.Limit q) = truncation ∷ tail s w path q
+stopAt s w path (head.Go v q r) = []
+
+-- sinks whose ways out are the same
+pub record Alike (s e : Sink) : Type 0 where
+  pub trailer : s .trailer ≡ e .trailer
+  pub flattens : s .flattens ≡ e .flattens
+  pub leftover : s .leftover ≡ e .leftover
+
+abbrev posOf : Head → ℕ
+posOf head.Ended = 0
+posOf head.Failed = 0
+posOf (head.Closed q) = q
+posOf (head.Limit q) = q
+posOf (head.Go v q r) = 0
+
+stop-shift : (s e : Sink) → Alike s e → (bytes : List ℕ) (b end o : ℕ) (path : List ℕ) → b ≤ end → (h : Head) → HeadIn (end - b) h → NotGo h
+    → stopAt s (inner bytes b end o) path h ≡ levelStop e bytes end (o + posOf h) path (shifted b h)
+unfolding levelStop
+stop-shift s e a bytes b end o path le head.Ended i g = refl
+stop-shift s e a bytes b end o path le head.Failed i g = refl
+stop-shift s e a bytes b end o path le (head.Closed q) i g = closing-shift bytes b end o q (omega arith) s e (a .trailer) (a .leftover)
+stop-shift s e a bytes b end o path le (head.Limit q) i g = ap (λ (t : Trace). truncation ∷ t) (tail-shift bytes b end o q (omega arith) s e path (a .flattens))
+stop-shift s e a bytes b end o path le (head.Go v q r) i g = absurd g
+
+pub fields-stop : (e : Sink) (bytes : List ℕ) (end o : ℕ) (path : List ℕ) (h : Head) → NotClosed h → levelStop e bytes end o path h ≡ fieldsStop e bytes end o path h
+unfolding levelStop fieldsStop
+fields-stop e bytes end o path head.Ended n = refl
+fields-stop e bytes end o path head.Failed n = refl
+fields-stop e bytes end o path (head.Closed q) n = absurd n
+fields-stop e bytes end o path (head.Limit q) n = refl
+fields-stop e bytes end o path (head.Go v q r) n = refl
+
+module _ (s : Sink) (w : Window) (path : List ℕ) where
+  level-stops : (x : World) → NotGo (levelHead w 0) → ran (level s w path) x ≡ ran (stopAt s w path (levelHead w 0)) x
+  unfolding levelHead
+  level-stops x n = ap (λ (t : Trace). ran t x) (level-count s w path) ∙ go (reading w 0) n
+    where
+      go : (r : Reading) → NotGo (countHead (numberOf 0 r)) → ran (Rattle.framing.specs.Walk.onCount s w path r) x ≡ ran (stopAt s w path (countHead (numberOf 0 r))) x
+      go failed g = refl
+      go (got v k) g = go2 (ltb maxElements v) refl g
+        where
+          go2 : (y : Bool) → ltb maxElements v ≡ y → NotGo (if y then head.Limit (0 + 8 * k) else head.Go v (0 + 8 * k) (0 + 8 * k))
+              → ran (if y then number (numberAt w 0 k v) ∷ truncation ∷ tail s w path (8 * k) else number (numberAt w 0 k v) ∷ elements s w path v maxElements (8 * k)) x
+              ≡ ran (stopAt s w path (if y then head.Limit (0 + 8 * k) else head.Go v (0 + 8 * k) (0 + 8 * k))) x
+          go2 true ey g = sym (ran-number (numberAt w 0 k v) (truncation ∷ tail s w path (8 * k)) x) ∙ ap (λ (m : ℕ). ran (truncation ∷ tail s w path m) x) (sym (zero-add (8 * k)))
+          go2 false ey g = absurd g
+
+  elements-stops : (count left p : ℕ) (x : World) → NotGo (elementHead w count left p) → ran (elements s w path count left p) x ≡ ran (stopAt s w path (elementHead w count left p)) x
+  unfolding elementHead
+  elements-stops count zero p x n = ap (λ (t : Trace). ran t x) (elements-last s w path count p) ∙ go (lead w p) n
+    where
+      go : (l : Lead) → NotGo (indexHead count 0 p l) → ran (Rattle.framing.specs.Walk.onLastIndex s w path p l) x ≡ ran (stopAt s w path (indexHead count 0 p l)) x
+      go ends g = refl
+      go fails g = refl
+      go (closes e q) g = sym (ran-number e (closing s w q) x)
+      go (opens e i q) g = refl
+  elements-stops count (suc left) p x n = ap (λ (t : Trace). ran t x) (elements-step s w path count left p) ∙ go (lead w p) n
+    where
+      some : eqb (suc left) 0 ≡ false
+      some = ne-eqb (suc left) 0 (λ z. omega arith)
+
+      go : (l : Lead) → NotGo (indexHead count (suc left) p l)
+          → ran (Rattle.framing.specs.Walk.onIndex s w path count (λ q. elements s w path count left q) l) x ≡ ran (stopAt s w path (indexHead count (suc left) p l)) x
+      go ends g = refl
+      go fails g = refl
+      go (closes e q) g = sym (ran-number e (closing s w q) x)
+      go (opens e i q) g = rw some (go2 (leb count i) refl (rw some at g))
+        where
+          go2 : (y : Bool) → leb count i ≡ y → NotGo (if y then head.Failed else head.Go i q q)
+              → ran (if y then number e ∷ error ∷ [] else number e ∷ element i ∷ (entering s path i ++ behind (λ r. elements s w path count left r) (fields s w i (inItem s path i) maxFields q true))) x
+              ≡ ran (stopAt s w path (if y then head.Failed else head.Go i q q)) x
+          go2 true ey g = sym (ran-number e (error ∷ []) x)
+          go2 false ey g = absurd g
+
+  -- an element's fields that end without closing give what the head gives
+  pub record Halted (r : Run) (u : Trace) : Type 0 where
+    pub trace : Trace
+    pub is : r ≡ stopped trace
+    pub same : (x : World) → ran trace x ≡ ran u x
+
+  fields-halt : (i : ℕ) (left p : ℕ) (first : Bool) → NotGo (fieldHead w left p) → NotClosed (fieldHead w left p)
+      → Halted (fields s w i path left p first) (stopAt s w path (fieldHead w left p))
+  unfolding fieldHead
+  fields-halt i zero p first n c = go (lead w p) refl n c
+    where
+      go : (l : Lead) → lead w p ≡ l → NotGo (lastHead p l) → NotClosed (lastHead p l) → Halted (fields s w i path 0 p first) (stopAt s w path (lastHead p l))
+      go ends e g d = record { trace = implicit ∷ []; is = rw (fields-last, e); same = λ x. refl }
+      go fails e g d = record { trace = error ∷ []; is = rw (fields-last, e); same = λ x. refl }
+      go (closes y q) e g d = absurd d
+      go (opens y h q) e g d = record { trace = truncation ∷ tail s w path p; is = rw (fields-last, e); same = λ x. refl }
+  fields-halt i (suc left) p first n c = go (fieldAt w p) refl n c
+    where
+      go : (d : Due) → fieldAt w p ≡ d → NotGo (dueHead d) → NotClosed (dueHead d) → Halted (fields s w i path (suc left) p first) (stopAt s w path (dueHead d))
+      go cut e g d = record { trace = implicit ∷ []; is = rw (fields-step, e); same = λ x. refl }
+      go (broken ns) e g d = record { trace = numbers ns ++ (error ∷ []); is = rw (fields-step, e); same = λ x. ran-numbers ns (error ∷ []) x }
+      go (closed y q) e g d = absurd d
+      go (present ns h q k) e g d = absurd g
+
+  -- and those that close give nothing more
+  pub record Closes (r : Run) (q : ℕ) : Type 0 where
+    pub read : Number
+    pub is : r ≡ done (number read ∷ []) q
+
+  fields-close : (i : ℕ) (left p : ℕ) (first : Bool) (q : ℕ) → fieldHead w left p ≡ head.Closed q → Closes (fields s w i path left p first) q
+  unfolding fieldHead
+  fields-close i zero p first q e = go (lead w p) refl e
+    where
+      go : (l : Lead) → lead w p ≡ l → lastHead p l ≡ head.Closed q → Closes (fields s w i path 0 p first) q
+      go ends el f = absurd (let z : _≡_ {A = ℕ} 0 1 = cc in omega arith)
+      go fails el f = absurd (let z : _≡_ {A = ℕ} 0 1 = cc in omega arith)
+      go (closes y r) el f = let z : r ≡ q = cc in record { read = y; is = rw (fields-last, el) (ap (done (number y ∷ [])) z) }
+      go (opens y h r) el f = absurd (let z : _≡_ {A = ℕ} 0 1 = cc in omega arith)
+  fields-close i (suc left) p first q e = go (fieldAt w p) refl e
+    where
+      go : (d : Due) → fieldAt w p ≡ d → dueHead d ≡ head.Closed q → Closes (fields s w i path (suc left) p first) q
+      go cut ed f = absurd (let z : _≡_ {A = ℕ} 0 1 = cc in omega arith)
+      go (broken ns) ed f = absurd (let z : _≡_ {A = ℕ} 0 1 = cc in omega arith)
+      go (closed y r) ed f = let z : r ≡ q = cc in record { read = y; is = rw (fields-step, ed) (ap (done (number y ∷ [])) z) }
+      go (present ns h r k) ed f = absurd (let z : _≡_ {A = ℕ} 0 1 = cc in omega arith)
+
+-- ---- the same at positions of the bytes
+
+-- a head of the bytes that goes on is one of the window that goes on
+record Back (b : ℕ) (g : Head) (v f m : ℕ) : Type 0 where
+  next : ℕ
+  last : ℕ
+  is : g ≡ head.Go v next last
+  from-next : f ≡ b + next
+  from-last : m ≡ b + last
+
+go-back : (b : ℕ) (g : Head) {v f m : ℕ} → shifted b g ≡ head.Go v f m → Back b g v f m
+go-back b head.Ended e = absurd (let z : _≡_ {A = ℕ} 0 1 = cc in omega arith)
+go-back b head.Failed e = absurd (let z : _≡_ {A = ℕ} 0 1 = cc in omega arith)
+go-back b (head.Closed q) e = absurd (let z : _≡_ {A = ℕ} 0 1 = cc in omega arith)
+go-back b (head.Limit q) e = absurd (let z : _≡_ {A = ℕ} 0 1 = cc in omega arith)
+go-back b (head.Go u q r) {v} {f} {m} e =
+    let a : u ≡ v = cc in
+    let c : b + q ≡ f = cc in
+    let d : b + r ≡ m = cc in
+    record { next = q; last = r; is = ap (λ (k : ℕ). head.Go k q r) a; from-next = sym c; from-last = sym d }
+
+closed-back : (b : ℕ) (g : Head) {n : ℕ} → shifted b g ≡ head.Closed n → (g ≡ head.Closed (n - b)) × (n ≡ b + (n - b))
+closed-back b head.Ended e = absurd (let z : _≡_ {A = ℕ} 0 1 = cc in omega arith)
+closed-back b head.Failed e = absurd (let z : _≡_ {A = ℕ} 0 1 = cc in omega arith)
+closed-back b (head.Closed q) {n} e = let c : b + q ≡ n = cc in let d : q ≡ n - b = omega arith in (ap head.Closed d, omega arith)
+closed-back b (head.Limit q) e = absurd (let z : _≡_ {A = ℕ} 0 1 = cc in omega arith)
+closed-back b (head.Go u q r) e = absurd (let z : _≡_ {A = ℕ} 0 1 = cc in omega arith)
+
+-- where what goes on lies, in the bytes
+pub level-next : (bytes : List ℕ) (b end : ℕ) {v f m : ℕ} → levelHead (upTo bytes end) b ≡ head.Go v f m → (b ≤ f) × (f ≤ end)
+unfolding upTo
+level-next bytes b end e = let c = level-goes (upTo bytes end) b e in let n = c .next in let f = c .fits in (omega arith, omega arith)
+
+pub element-next : (bytes : List ℕ) (end count left at : ℕ) {i n m : ℕ} → elementHead (upTo bytes end) count left at ≡ head.Go i n m → (0 < left) × (at ≤ n) × (n ≤ end)
+unfolding upTo
+element-next bytes end count left at e = let c = element-goes (upTo bytes end) count left at e in (c .allowed, c .later, c .fits)
+
+pub field-next : (bytes : List ℕ) (end left at : ℕ) {h n m : ℕ} → fieldHead (upTo bytes end) left at ≡ head.Go h n m → (0 < left) × (at ≤ n) × (n ≤ m) × (m ≤ end)
+unfolding upTo
+field-next bytes end left at e =
+    let c = field-goes (upTo bytes end) left at e in
+    let a = c .allowed in
+    let w = c .wide in
+    (omega arith, c .later, omega arith, c .fits)
+
+pub level-head-in : (bytes : List ℕ) (b end : ℕ) (h : Head) → levelHead (upTo bytes end) b ≡ h → HeadIn end h
+unfolding upTo
+level-head-in bytes b end h e = subst (HeadIn end) e (level-in (upTo bytes end) b)
+
+pub element-head-in : (bytes : List ℕ) (end count left at : ℕ) (h : Head) → elementHead (upTo bytes end) count left at ≡ h → HeadIn end h
+unfolding upTo
+element-head-in bytes end count left at h e = subst (HeadIn end) e (element-in (upTo bytes end) count left at)
+
+pub field-head-in : (bytes : List ℕ) (end left at : ℕ) (h : Head) → fieldHead (upTo bytes end) left at ≡ h → HeadIn end h
+unfolding upTo
+field-head-in bytes end left at h e = subst (HeadIn end) e (field-in (upTo bytes end) left at)
+
+-- how fields end: not closed, with the world y; closed before bit n of the bytes, with the world as it was; or going on as r′, with the world y
+pub record Ends (r : Run) (x y : World) : Type 0 where
+  pub trace : Trace
+  pub is : r ≡ stopped trace
+  pub world : y ≡ ran trace x
+
+pub record Shuts (b : ℕ) (r : Run) (x : World) (n : ℕ) : Type 0 where
+  pub trace : Trace
+  pub next : ℕ
+  pub is : r ≡ done trace next
+  pub at : n ≡ b + next
+  pub world : x ≡ ran trace x
+
+pub record Goes (r r′ : Run) (x y : World) : Type 0 where
+  pub trace : Trace
+  pub is : r ≡ prepend trace r′
+  pub world : y ≡ ran trace x
+
+module _ (s e : Sink) (a : Alike s e) (bytes : List ℕ) (b end : ℕ) (path : List ℕ) (le : b ≤ end) where
+  -- a trace that a head of the window gives is what the code's exit gives
+  exit-by : (o : ℕ) (h g : Head) → h ≡ shifted b g → HeadIn (end - b) g → NotGo h → (x y : World) → ((k : ℕ) → y ≡ ran (levelStop e bytes end k path h) x)
+      → y ≡ ran (stopAt s (inner bytes b end o) path g) x
+  exit-by o h g q i n x y out =
+      out (o + posOf g)
+      ∙ ap (λ (k : Head). ran (levelStop e bytes end (o + posOf g) path k) x) q
+      ∙ ap (λ (t : Trace). ran t x) (sym (stop-shift s e a bytes b end o path le g i (not-go-back b g (subst NotGo q n))))
+
+  -- a level that ends at its count
+  pub level-exit : (h : Head) → levelHead (upTo bytes end) b ≡ h → NotGo h → (x y : World) → ((k : ℕ) → y ≡ ran (levelStop e bytes end k path h) x)
+      → (o : ℕ) → y ≡ ran (level s (inner bytes b end o) path) x
+  level-exit h eh n x y out o =
+      let w = inner bytes b end o in
+      let g = levelHead w 0 in
+      let q : h ≡ shifted b g = sym eh ∙ ap (levelHead (upTo bytes end)) (sym (add-zero b)) ∙ level-shift bytes b end o le 0 in
+      let i : HeadIn (end - b) g = subst (λ (k : ℕ). HeadIn k g) (size-inner bytes b end o le) (level-in w 0) in
+      exit-by o h g q i n x y out ∙ sym (level-stops s w path x (not-go-back b g (subst NotGo q n)))
+
+  -- one that goes on to its elements
+  pub level-walks : {v f m : ℕ} → levelHead (upTo bytes end) b ≡ head.Go v f m → (x : World) (o : ℕ)
+      → ran (level s (inner bytes b end o) path) x ≡ ran (elements s (inner bytes b end o) path v maxElements (f - b)) x
+  level-walks {v} {f} {m} eh x o =
+      let w = inner bytes b end o in
+      let k = go-back b (levelHead w 0) (sym (ap (levelHead (upTo bytes end)) (sym (add-zero b)) ∙ level-shift bytes b end o le 0) ∙ eh) in
+      let c = level-goes w 0 (k .is) in
+      let z = k .from-next in
+      let y = c .next in
+      let d : 8 * c .bytes ≡ f - b = omega arith in
+      ap (λ (t : Trace). ran t x) (level-count s w path ∙ counts w c)
+      ∙ sym (ran-number (numberAt w 0 (c .bytes) v) (elements s w path v maxElements (8 * c .bytes)) x)
+      ∙ ap (λ (p : ℕ). ran (elements s w path v maxElements p) x) d
+    where
+      counts : (w : Window) {q : ℕ} → (c : Counted w 0 v q) → Rattle.framing.specs.Walk.onCount s w path (reading w 0) ≡ number (numberAt w 0 (c .bytes) v) ∷ elements s w path v maxElements (8 * c .bytes)
+      counts w c = rw (c .reads, le-ltb maxElements v (c .few))
+
+  module _ (count left at : ℕ) (later : b ≤ at) where
+    element-here : (o : ℕ) → elementHead (upTo bytes end) count left at ≡ shifted b (elementHead (inner bytes b end o) count left (at - b))
+    element-here o = let z : b + (at - b) ≡ at = omega arith in ap (elementHead (upTo bytes end) count left) (sym z) ∙ element-shift bytes b end o le count left (at - b)
+
+    -- elements that end
+    pub elements-exit : (h : Head) → elementHead (upTo bytes end) count left at ≡ h → NotGo h → (x y : World) → ((k : ℕ) → y ≡ ran (levelStop e bytes end k path h) x)
+        → (o : ℕ) → y ≡ ran (elements s (inner bytes b end o) path count left (at - b)) x
+    elements-exit h eh n x y out o =
+        let w = inner bytes b end o in
+        let g = elementHead w count left (at - b) in
+        let q : h ≡ shifted b g = sym eh ∙ element-here o in
+        let i : HeadIn (end - b) g = subst (λ (k : ℕ). HeadIn k g) (size-inner bytes b end o le) (element-in w count left (at - b)) in
+        exit-by o h g q i n x y out ∙ sym (elements-stops s w path count left (at - b) x (not-go-back b g (subst NotGo q n)))
+
+    -- an element, and those behind it
+    pub elements-walk : {i n m : ℕ} → elementHead (upTo bytes end) count left at ≡ head.Go i n m → (x : World) (o : ℕ)
+        → ran (elements s (inner bytes b end o) path count left (at - b)) x
+        ≡ ran (behind (λ r. elements s (inner bytes b end o) path count (left - 1) r) (fields s (inner bytes b end o) i (inItem s path i) maxFields (n - b) true)) (ran (element i ∷ entering s path i) x)
+    elements-walk {i} {n} {m} eh x o =
+        let w = inner bytes b end o in
+        let k = go-back b (elementHead w count left (at - b)) (sym (element-here o) ∙ eh) in
+        let c = element-goes w count left (at - b) (k .is) in
+        let z = k .from-next in
+        let d : k .next ≡ n - b = omega arith in
+        ap (λ (t : Trace). ran t x) (steps w left c)
+        ∙ sym (ran-number (c .number) (element i ∷ (entering s path i ++ rest w (k .next))) x)
+        ∙ ran-append (element i ∷ entering s path i) (rest w (k .next)) x
+        ∙ ap (λ (p : ℕ). ran (rest w p) (ran (element i ∷ entering s path i) x)) d
+      where
+        rest : Window → ℕ → Trace
+        rest w q = behind (λ r. elements s w path count (left - 1) r) (fields s w i (inItem s path i) maxFields q true)
+
+        steps : (w : Window) (l : ℕ) {q : ℕ} → (c : Opened w count l (at - b) i q)
+            → elements s w path count l (at - b) ≡ number (c .number) ∷ element i ∷ (entering s path i ++ behind (λ r. elements s w path count (l - 1) r) (fields s w i (inItem s path i) maxFields q true))
+        steps w zero c = absurd (let z = c .allowed in omega arith)
+        steps w (suc l) c = let p : l ≡ suc l - 1 = omega arith in rw (elements-step, c .leads, lt-leb count i (c .counted), sym p)
+
+  module _ (i left at : ℕ) (first : Bool) (later : b ≤ at) where
+    field-here : (o : ℕ) → fieldHead (upTo bytes end) left at ≡ shifted b (fieldHead (inner bytes b end o) left (at - b))
+    field-here o = let z : b + (at - b) ≡ at = omega arith in ap (fieldHead (upTo bytes end) left) (sym z) ∙ field-shift bytes b end o le left (at - b)
+
+    -- fields that end without closing
+    pub fields-exit : (h : Head) → fieldHead (upTo bytes end) left at ≡ h → NotGo h → NotClosed h → (x y : World) → ((k : ℕ) → y ≡ ran (fieldsStop e bytes end k path h) x)
+        → (o : ℕ) → Ends (fields s (inner bytes b end o) i path left (at - b) first) x y
+    fields-exit h eh n c x y out o =
+        let w = inner bytes b end o in
+        let g = fieldHead w left (at - b) in
+        let q : h ≡ shifted b g = sym eh ∙ field-here o in
+        let i′ : HeadIn (end - b) g = subst (λ (k : ℕ). HeadIn k g) (size-inner bytes b end o le) (field-in w left (at - b)) in
+        let halt = fields-halt s w path i left (at - b) first (not-go-back b g (subst NotGo q n)) (not-closed-back b g (subst NotClosed q c)) in
+        let all : (k : ℕ) → y ≡ ran (levelStop e bytes end k path h) x = λ k. out k ∙ ap (λ (t : Trace). ran t x) (sym (fields-stop e bytes end k path h c)) in
+        record { trace = halt .trace; is = halt .is; world = exit-by o h g q i′ n x y all ∙ sym (halt .same x) }
+
+    -- fields that close before bit n
+    pub fields-closed : {n : ℕ} → fieldHead (upTo bytes end) left at ≡ head.Closed n → (x : World) (o : ℕ) → Shuts b (fields s (inner bytes b end o) i path left (at - b) first) x n
+    fields-closed {n} eh x o =
+        let w = inner bytes b end o in
+        let k = closed-back b (fieldHead w left (at - b)) (sym (field-here o) ∙ eh) in
+        let c = fields-close s w path i left (at - b) first (n - b) (k .0) in
+        record { trace = number (c .read) ∷ []; next = n - b; is = c .is; at = k .1; world = ran-none x ∙ ran-number (c .read) [] x }
+
+    -- a field, and those behind it
+    pub fields-walk : {h body next : ℕ} → fieldHead (upTo bytes end) left at ≡ head.Go h body next → (x : World) (o : ℕ)
+        → Goes (fields s (inner bytes b end o) i path left (at - b) first) (fields s (inner bytes b end o) i path (left - 1) (next - b) (first && eqb (next - body) 0)) x
+        (ran (s .field i path first h (inner bytes body next (o + (body - b)))) x)
+    fields-walk {h} {body} {next} eh x o =
+        let w = inner bytes b end o in
+        let k = go-back b (fieldHead w left (at - b)) (sym (field-here o) ∙ eh) in
+        let c = field-goes w left (at - b) (k .is) in
+        let z = size-inner bytes b end o le in
+        let f = c .fits in
+        let wide = c .wide in
+        let e1 = k .from-next in
+        let e2 = k .from-last in
+        let fit : b + k .next + c .width ≤ end = omega arith in
+        let same : part w (k .next) (c .width) ≡ inner bytes body next (o + (body - b)) = part-inner bytes b end o (k .next) (c .width) fit ∙ (λ j. inner bytes (here1 (k .next) e1 j) (here2 (k .next) (c .width) (k .last) e2 wide j) (o + here3 (k .next) e1 j)) in
+        record {
+          trace = numbers (c .numbers) ++ s .field i path first h (part w (k .next) (c .width));
+          is = walks w left c ∙ (λ j. prepend (numbers (c .numbers) ++ s .field i path first h (part w (k .next) (c .width))) (fields s w i path (left - 1) (here4 (k .next) (c .width) (k .last) e2 wide j) (first && eqb (here5 (k .next) (c .width) (k .last) e1 e2 wide j) 0)));
+          world = sym (ran-numbers (c .numbers) (s .field i path first h (part w (k .next) (c .width))) x ∙ ap (λ (v : Window). ran (s .field i path first h v) x) same);
+        }
+      where
+        here1 : (q : ℕ) → body ≡ b + q → b + q ≡ body
+        here1 q e = sym e
+
+        here2 : (q width last : ℕ) → next ≡ b + last → last ≡ q + width → b + q + width ≡ next
+        here2 q width last e f = omega arith
+
+        here3 : (q : ℕ) → body ≡ b + q → q ≡ body - b
+        here3 q e = omega arith
+
+        here4 : (q width last : ℕ) → next ≡ b + last → last ≡ q + width → q + width ≡ next - b
+        here4 q width last e f = omega arith
+
+        here5 : (q width last : ℕ) → body ≡ b + q → next ≡ b + last → last ≡ q + width → width ≡ next - body
+        here5 q width last e f g = omega arith
+
+        walks : (w : Window) (l : ℕ) {q r : ℕ} → (c : Presented w l (at - b) h q r)
+            → fields s w i path l (at - b) first ≡ prepend (numbers (c .numbers) ++ s .field i path first h (part w q (c .width))) (fields s w i path (l - 1) (q + c .width) (first && eqb (c .width) 0))
+        walks w l {q} c =
+            let p : c .less ≡ l - 1 = let z = c .allowed in omega arith in
+            ap (λ (m : ℕ). fields s w i path m (at - b) first) (c .allowed)
+            ∙ fields-present s w i path (c .less) (at - b) first (c .numbers) h q (c .width) (c .due)
+            ∙ ap (λ (m : ℕ). prepend (numbers (c .numbers) ++ s .field i path first h (part w q (c .width))) (fields s w i path m (q + c .width) (first && eqb (c .width) 0))) p

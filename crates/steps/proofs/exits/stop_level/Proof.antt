@@ -1,0 +1,48 @@
+-- A level whose terminator stands closes, and any other head ends it as it ends the fields.
+use borrow.Author.Needs.{needs}
+use mathlib.Core.Path.{refl, subst}
+use Rattle.steps.specs.Views.{HeadIn}
+use Rattle.steps.proofs.StopLaws.{level-closed, level-other}
+use Rattle.steps.proofs.exits.stop_level.Statement.{statement}
+use Rattle.steps.proofs.exits.stop_level.Tie as tie
+
+enum-known-h : tie.Need-enum-known-h
+enum-known-h c = search needs
+
+close-level-requires : tie.Need-close-level-requires
+close-level-requires c κs =
+    let l = subst (HeadIn (c .before .before .before .before .before .before .before .before .args .end)) (c .before .before .h .given .1) (c .before .before .before .before .before .before .before .before .pre .0) in
+    search (needs, l)
+
+returns : tie.Need-returns
+returns c = (λ o. level-closed _ _ _ o _ _ _ _ _ (c .before .before .before .h .given .1) (c .close-level .ensures o _ _ _), refl)
+
+stop-fields-requires : tie.Need-stop-fields-requires
+stop-fields-requires c κs = search needs
+
+same-length : tie.Need-same-length
+same-length c = search needs
+
+same-length-2 : tie.Need-same-length-2
+same-length-2 c = search needs
+
+same-length-3 : tie.Need-same-length-3
+same-length-3 c = search needs
+
+returns-2 : tie.Need-returns-2
+returns-2 c =
+    let p = c .before .before .before .before .before .before .stop-fields .ensures in
+    (λ o. level-other _ _ _ o _ _ _ _ (c .before .before .before .before .before .before .before .before .before .before .before .before .match .keys2) (p .0 o (c .before .before .before .before .before .before .before .before .before .before .before .before .before .before .before .before .before .args .inside)), p .1)
+
+pub stop-level-spec : {M : Type 1} → statement M
+stop-level-spec =
+    tie.close
+    (tie.spec
+    enum-known-h
+    close-level-requires
+    returns
+    stop-fields-requires
+    same-length
+    same-length-2
+    same-length-3
+    returns-2)

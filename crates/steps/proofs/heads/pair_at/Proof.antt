@@ -1,0 +1,31 @@
+-- `steps::pair_at` meets its contract: the bits lie in the bytes that are loaded.
+use borrow.Author.Needs.{needs}
+use native.Mathlib.Omega.{arith}
+use Rattle.bits.proofs.FieldLaws.{bound}
+use Rattle.steps.proofs.HeadLaws.{pair-bits}
+use Rattle.steps.proofs.heads.pair_at.Statement.{statement}
+use Rattle.steps.proofs.heads.pair_at.Tie as tie
+
+add-last : tie.Need-add-last
+add-last c = search needs
+
+load16-requires : tie.Need-load16-requires
+load16-requires c κs = search needs
+
+load8-requires : tie.Need-load8-requires
+load8-requires c κs = search needs
+
+mul-three : tie.Need-mul-three
+mul-three c = omega (arith, bound _ _ _ _ (c .load8 .ensures))
+
+add-three : tie.Need-add-three
+add-three c = omega (arith, bound _ _ _ _ (c .load8 .ensures), bound _ _ _ _ (c .before .load16 .ensures))
+
+shr-result : tie.Need-shr-result
+shr-result c = search needs
+
+returns : tie.Need-returns
+returns c = pair-bits _ _ _ _ (c .before .load16 .ensures) (c .load8 .ensures)
+
+pub pair-at-spec : {M : Type 1} → statement M
+pair-at-spec = tie.close (tie.spec add-last load16-requires load8-requires mul-three add-three shr-result returns)

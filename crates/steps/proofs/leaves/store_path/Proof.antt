@@ -1,0 +1,69 @@
+-- The tag is written behind the working path, and the whole copied where it fits.
+use borrow.Author.Needs.{needs}
+use native.Mathlib.Omega.{arith}
+use mathlib.Core.Path.{sym, refl}
+use Prim.Native.Nat.{_+_, _≤_, _<_}
+use native.Mathlib.Nat.{sub-zero}
+use lib.ListN.{length}
+use Rattle.bits.proofs.RunLaws.{store-out}
+use Rattle.steps.proofs.StoreLaws.{fitting, past}
+use Rattle.steps.proofs.PathLaws.{take-kept}
+use Rattle.steps.proofs.LeafLaws.{path-length, path-copied}
+use Rattle.steps.specs.Paths.{pools}
+use Rattle.steps.proofs.leaves.store_path.Statement.{statement}
+use Rattle.steps.proofs.leaves.store_path.Tie as tie
+
+room : (c : tie.Else1) → let a = c .before .before .before .before .before .args in a .at + a .n ≤ length (a .paths .now)
+room c = fitting _ _ _ (c .before .fits2 .ensures) (c .if1 .left)
+
+fits-requires : tie.Need-fits-requires
+fits-requires c κs = search needs
+
+returns : tie.Need-returns
+returns c =
+    let a = c .before .before .before .before .before .args in
+    let p = c .before .before .before .before .before .pre in
+    let h : length (a .paths .now) < a .at + a .n = past _ _ _ (c .before .fits2 .ensures) (c .if1 .taken) in
+    let l = path-length (pools (a .names .now) (a .pool .now)) (a .handle) (a .tag) (a .path .now) (a .plen) (a .n) (p .3) (p .0) (omega arith) (p .1) in
+    (sym (store-out _ _ _ (omega (arith, l))), refl)
+
+write-tag-requires : tie.Need-write-tag-requires
+write-tag-requires c κs =
+    let p = c .before .before .before .before .before .before .pre in
+    (p .3, omega (arith, p .1))
+
+sub-copy-run : tie.Need-sub-copy-run
+sub-copy-run c = search needs
+
+part-copy-run-start : tie.Need-part-copy-run-start
+part-copy-run-start c = search needs
+
+part-copy-run-end : tie.Need-part-copy-run-end
+part-copy-run-end c = search needs
+
+copy-run-requires : tie.Need-copy-run-requires
+copy-run-requires c κs = omega (arith, room (c .before .before .before .before .before .before))
+
+same-length : tie.Need-same-length
+same-length c = search needs
+
+returns-2 : tie.Need-returns-2
+returns-2 c =
+    let a = c .before .before .before .before .before .before .before .before .before .before .before .before .before .before .args in
+    let p = c .before .before .before .before .before .before .before .before .before .before .before .before .before .before .pre in
+    let w = c .before .before .before .before .before .before .before .write-tag .ensures in
+    (path-copied (pools (a .names .now) (a .pool .now)) (a .handle) (a .tag) (a .path .now) (a .plen) (a .n) (p .3) (p .0) (omega (arith, p .1)) (p .1) _ _ _ _ _ (sub-zero _) (room (c .before .before .before .before .before .before .before .before .before)) w (c .before .before .copy-run .ensures), take-kept _ _ _ _ w (omega (arith, p .0, p .1)))
+
+pub store-path-spec : {M : Type 1} → statement M
+store-path-spec =
+    tie.close
+    (tie.spec
+    fits-requires
+    returns
+    write-tag-requires
+    sub-copy-run
+    part-copy-run-start
+    part-copy-run-end
+    copy-run-requires
+    same-length
+    returns-2)

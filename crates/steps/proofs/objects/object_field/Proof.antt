@@ -1,0 +1,90 @@
+-- `steps::object_field` meets its contract: each case of the field has its event.
+use borrow.Author.Needs.{needs}
+use borrow.Author.Tests.{not-true, not-false}
+use mathlib.Core.Path.{refl, sym, _∙_}
+use native.Mathlib.Omega.{arith}
+use Rattle.steps.proofs.TallyLaws.{by-count, count-error, count-nested}
+use Rattle.steps.proofs.ObjectLaws.{object-empty, object-later, object-failed, object-pair, object-longer}
+use Rattle.steps.proofs.objects.object_field.Statement.{statement}
+use Rattle.steps.proofs.objects.object_field.Tie as tie
+
+returns : tie.Need-returns
+returns c o text load = object-empty _ _ _ o (c .before .before .before .args .index) _ _ (omega arith) (c .before .before .before .args .first) (c .if1 .taken) refl
+
+sub-count : tie.Need-sub-count
+sub-count c = search needs
+
+cast-count : tie.Need-cast-count
+cast-count c = search needs
+
+count-requires : tie.Need-count-requires
+count-requires c κs = search needs
+
+returns-2 : tie.Need-returns-2
+returns-2 c o text load =
+    object-later _ _ _ o (c .before .before .before .before .before .before .args .index) _ _ (omega arith) (c .before .before .before .if1 .left) (c .before .before .before .before .before .before .args .first) (not-true _ (c .before .before .if2 .taken))
+    (by-count _ _ _ _ _ _ _ _ (c .count .ensures) (count-nested _ _ _ _ _))
+
+number-at-requires : tie.Need-number-at-requires
+number-at-requires c κs = search needs
+
+enum-known-number : tie.Need-enum-known-number
+enum-known-number c = search needs
+
+put-pair-requires : tie.Need-put-pair-requires
+put-pair-requires c κs = search needs
+
+same-length : tie.Need-same-length
+same-length c = search needs
+
+returns-3 : tie.Need-returns-3
+returns-3 c o text load =
+    object-pair _ _ _ o (c .before .before .before .before .before .before .before .before .before .before .before .before .before .before .args .index) _ _ (omega arith) (c .before .before .before .before .before .before .before .before .before .before .before .if1 .left) (c .before .before .before .before .before .before .before .before .before .before .before .before .before .before .args .first)
+    (not-false _ (c .before .before .before .before .before .before .before .before .before .before .if2 .left)) _ _
+    (sym (c .before .before .before .before .before .before .before .before .before .number-at .ensures)
+    ∙ c .before .before .before .before .before .before .before .number .given .1)
+    (c .before .before .before .before .before .if3 .taken) (c .before .before .put-pair .ensures text load)
+
+count-requires-2 : tie.Need-count-requires-2
+count-requires-2 c κs = search needs
+
+enum-told : tie.Need-enum-told
+enum-told c = search needs
+
+count-requires-3 : tie.Need-count-requires-3
+count-requires-3 c κs = search needs
+
+returns-4 : tie.Need-returns-4
+returns-4 c o text load =
+    object-longer _ _ _ o (c .before .before .before .before .before .before .before .before .before .before .before .args .index) _ _ (omega arith) (c .before .before .before .before .before .before .before .before .if1 .left) (c .before .before .before .before .before .before .before .before .before .before .before .args .first)
+    (not-false _ (c .before .before .before .before .before .before .before .if2 .left)) _ _
+    (sym (c .before .before .before .before .before .before .number-at .ensures) ∙ c .before .before .before .before .number .given .1)
+    (c .before .before .if3 .left)
+    (by-count _ _ _ _ _ _ _ _ (c .count2 .ensures) (count-error _ _ _ _))
+
+returns-5 : tie.Need-returns-5
+returns-5 c o text load =
+    object-failed _ _ _ o (c .before .before .before .before .before .before .before .before .before .args .index) _ _ (omega arith) (c .before .before .before .before .before .before .if1 .left) (c .before .before .before .before .before .before .before .before .before .args .first)
+    (not-false _ (c .before .before .before .before .before .if2 .left))
+    (sym (c .before .before .before .before .number-at .ensures) ∙ c .before .before .enum-told .given .1)
+    (by-count _ _ _ _ _ _ _ _ (c .count3 .ensures) (count-error _ _ _ _))
+
+pub object-field-spec : {M : Type 1} → statement M
+object-field-spec =
+    tie.close
+    (tie.spec
+    returns
+    sub-count
+    cast-count
+    count-requires
+    returns-2
+    number-at-requires
+    enum-known-number
+    put-pair-requires
+    same-length
+    returns-3
+    count-requires-2
+    enum-told
+    count-requires-3
+    returns-4
+    returns-5)

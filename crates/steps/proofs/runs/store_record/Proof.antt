@@ -1,0 +1,90 @@
+-- A record that fits is written by five stores, and one that does not is not written.
+use borrow.Author.Needs.{needs}
+use mathlib.Core.Path.{sym}
+use native.Mathlib.Omega.{arith}
+use Prim.Native.Nat.{_+_, _≤_}
+use lib.ListN.{length, length-set}
+use Rattle.bits.proofs.RunLaws.{store-out}
+use Rattle.steps.proofs.StoreLaws.{fitting, past, store-five}
+use Rattle.steps.proofs.runs.store_record.Statement.{statement}
+use Rattle.steps.proofs.runs.store_record.Tie as tie
+
+room : (c : tie.Else1) → c .before .before .before .args .at + 5 ≤ length (c .before .before .before .args .d .now)
+room c = fitting _ _ _ (c .before .fits2 .ensures) (c .if1 .left)
+
+fits-requires : tie.Need-fits-requires
+fits-requires c κs = search needs
+
+returns : tie.Need-returns
+returns c = sym (store-out _ _ _ (past _ _ _ (c .before .fits2 .ensures) (c .if1 .taken)))
+
+mul-d : tie.Need-mul-d
+mul-d c = search needs
+
+slice-write-d : tie.Need-slice-write-d
+slice-write-d c = omega (arith, room c)
+
+add-d : tie.Need-add-d
+add-d c = search needs
+
+mul-d-2 : tie.Need-mul-d-2
+mul-d-2 c = search needs
+
+slice-write-d-2 : tie.Need-slice-write-d-2
+slice-write-d-2 c = simp length-set (omega (arith, room c))
+
+add-d-2 : tie.Need-add-d-2
+add-d-2 c = search needs
+
+mul-d-3 : tie.Need-mul-d-3
+mul-d-3 c = search needs
+
+slice-write-d-3 : tie.Need-slice-write-d-3
+slice-write-d-3 c = simp length-set (omega (arith, room c))
+
+add-d-3 : tie.Need-add-d-3
+add-d-3 c = search needs
+
+mul-d-4 : tie.Need-mul-d-4
+mul-d-4 c = search needs
+
+slice-write-d-4 : tie.Need-slice-write-d-4
+slice-write-d-4 c = simp length-set (omega (arith, room c))
+
+add-d-4 : tie.Need-add-d-4
+add-d-4 c = search needs
+
+mul-d-5 : tie.Need-mul-d-5
+mul-d-5 c = search needs
+
+slice-write-d-5 : tie.Need-slice-write-d-5
+slice-write-d-5 c = simp length-set (omega (arith, room c))
+
+same-length : tie.Need-same-length
+same-length c = search needs
+
+returns-2 : tie.Need-returns-2
+returns-2 c = store-five _ _ _ _ _ _ _ (room c)
+
+pub store-record-spec : {M : Type 1} → statement M
+store-record-spec =
+    tie.close
+    (tie.spec
+    fits-requires
+    returns
+    mul-d
+    slice-write-d
+    add-d
+    mul-d-2
+    slice-write-d-2
+    add-d-2
+    mul-d-3
+    slice-write-d-3
+    add-d-3
+    mul-d-4
+    slice-write-d-4
+    add-d-4
+    mul-d-5
+    slice-write-d-5
+    same-length
+    returns-2)
