@@ -15,7 +15,8 @@ use Rattle.bitio.specs.Cursors.{bitsOf, good, window, badCursor, atCurso
 use Rattle.bitio.specs.Reads.{seen, taken, widestRead, readBits}
 use Rattle.bitio.specs.Numbers.{readIntPacked, readSerializedInt}
 use Rattle.bitio.specs.Copies.{copyAnswer, pasted, copyTarget}
-use Rattle.bitio.specs.Order.{firstOf, openingRules, takingRules, readingRules, copyingRules}
+use Rattle.bits.specs.Refusals.{firstOf}
+use Rattle.bitio.specs.Order.{openingRules, takingRules, readingRules, copyingRules}
 use Rattle.bitio.proofs.ReadLaws.{by-cases}
 use Rattle.bitio.proofs.CopyLaws.{refused-target}
 use Rattle.bitio.specs.declared.Cursor.{Cursor}

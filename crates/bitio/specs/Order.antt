@@ -1,11 +1,10 @@
 -- The order of the refusals (01, Refusal numbers): the first whose condition holds is given, and none if none holds.
 use Prim.Native.Nat.{ℕ, _+_}
-use mathlib.Core.Bool.{Bool, not}
+use mathlib.Core.Bool.{not}
 use mathlib.Core.List.{List, [], _∷_}
-use mathlib.Core.Option.{Option, none, some}
 use lib.ListN.{length}
 use lib.Dec.{ltb}
-use Rattle.bits.specs.Choice.{if_then_else_}
+use Rattle.bits.specs.Refusals.{Rule, when}
 use Rattle.bits.specs.Runs.{bytesFor}
 use Rattle.bitio.specs.Cursors.{bitsOf, good, badCursor, longestWindow}
 use Rattle.bitio.specs.Reads.{widestRead}
@@ -13,37 +12,26 @@ use Rattle.bitio.specs.declared.Cursor.{Cursor}
 use Rattle.bitio.specs.declared.Refusal.{Refusal}
 use Rattle.bitio.specs.declared.Refusal.the-variants.{TooLong, TooFew, TooMany, Past}
 
-pub record Rule : Type 0 where
-  pub holds : Bool
-  pub gives : Refusal
-
-abbrev pub when : Bool → Refusal → Rule
-when t r = record { holds = t; gives = r }
-
-unfoldable pub firstOf : List Rule → Option Refusal
-firstOf [] = none
-firstOf (r ∷ rs) = if r .holds then some (r .gives) else firstOf rs
-
 -- a bad cursor, before all else
-abbrev pub badFirst : List ℕ → Cursor → Rule
+abbrev pub badFirst : List ℕ → Cursor → Rule Refusal
 badFirst s c = when (not (good s c)) (badCursor s c)
 
 -- fewer than n bits left
-abbrev pub fewer : Cursor → (n : ℕ) → Rule
+abbrev pub fewer : Cursor → (n : ℕ) → Rule Refusal
 fewer c n = when (ltb (c .len) (c .pos + n)) (TooFew (c .pos) (c .len) n)
 
 -- opening a reader: 1, 14
-abbrev pub openingRules : List ℕ → (n : ℕ) → List Rule
+abbrev pub openingRules : List ℕ → (n : ℕ) → List (Rule Refusal)
 openingRules s n = when (ltb longestWindow n) TooLong ∷ when (ltb (bitsOf s) n) (Past n (bitsOf s)) ∷ []
 
 -- a read, skip or inner window of n bits
-abbrev pub takingRules : List ℕ → Cursor → (n : ℕ) → List Rule
+abbrev pub takingRules : List ℕ → Cursor → (n : ℕ) → List (Rule Refusal)
 takingRules s c n = badFirst s c ∷ fewer c n ∷ []
 
 -- reading bits: 13, 7
-abbrev pub readingRules : List ℕ → Cursor → (n : ℕ) → List Rule
+abbrev pub readingRules : List ℕ → Cursor → (n : ℕ) → List (Rule Refusal)
 readingRules s c n = badFirst s c ∷ when (ltb widestRead n) TooMany ∷ fewer c n ∷ []
 
 -- copying: 14 for the target, 7
-abbrev pub copyingRules : List ℕ → Cursor → (n : ℕ) → (d : List ℕ) → List Rule
+abbrev pub copyingRules : List ℕ → Cursor → (n : ℕ) → (d : List ℕ) → List (Rule Refusal)
 copyingRules s c n d = badFirst s c ∷ when (ltb (length d) (bytesFor n)) (Past n (bitsOf d)) ∷ fewer c n ∷ []

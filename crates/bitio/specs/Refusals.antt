@@ -2,17 +2,9 @@
 -- is 0. And where the cursor stands after it. Positions count from the window's first bit.
 use Prim.Native.Nat.{ℕ, _+_, _*_}
 use Rattle.bits.specs.Packed.{mostBytes}
+use Rattle.bits.specs.Refusals.{Numbered, refusal}
 use Rattle.bitio.specs.declared.Refusal.{Refusal}
 use Rattle.bitio.specs.declared.Refusal.the-variants.{TooLong, TooFew, GoesOn, Overflows, NoMaximum, TooMany, Past}
-
-pub record Numbered : Type 0 where
-  pub number : ℕ
-  pub first : ℕ
-  pub second : ℕ
-  pub third : ℕ
-
-abbrev pub refusal : (number first second third : ℕ) → Numbered
-refusal n a b c = record { number = n; first = a; second = b; third = c }
 
 abbrev pub numbered : Refusal → Numbered
 numbered TooLong = refusal 1 0 0 0

@@ -4,3 +4,4 @@ pub mod RunLaws
 pub mod PackedLaws
 pub mod PackedWindows
 pub mod TwosLaws
+pub mod Never

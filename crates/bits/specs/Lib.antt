@@ -3,3 +3,4 @@ pub mod Bits
 pub mod Runs
 pub mod Packed
 pub mod TwosComplement
+pub mod Refusals

@@ -39,3 +39,9 @@ packedFrom (suc left) W len p =
 -- the packed number at bit p of the len bits of W
 unfoldable pub packed : (W len p : ℕ) → Packed
 packed W len p = packedFrom (mostBytes - 1) W len p
+
+-- a packed number that was taken: its first bit, the bytes that it took, its value
+pub record Number : Type 0 where
+  pub start : ℕ
+  pub bytes : ℕ
+  pub value : ℕ

@@ -15,9 +15,13 @@ abbrev pub bytesFor : ℕ → ℕ
 bytesFor n = (n + 7) / 8
 
 -- the buffer d with the run vs from index i on, where it fits
-unfoldable pub put : List ℕ → ℕ → List ℕ → List ℕ
+unfoldable pub put : {A : Type 0} → List A → ℕ → List A → List A
 put d i vs = take i d ++ vs ++ drop (i + length vs) d
 
 -- the same, and the buffer unchanged where the run does not fit: a run is written whole or not at all
-unfoldable pub store : (d : List ℕ) (i : ℕ) (run : List ℕ) → List ℕ
+unfoldable pub store : {A : Type 0} → (d : List A) (i : ℕ) (run : List A) → List A
 store d i run = if leb (i + length run) (length d) then put d i run else d
+
+-- a lent buffer after a call fills its front with `new`
+abbrev pub filled : {A : Type 0} → (new old : List A) → List A
+filled new old = new ++ drop (length new) old

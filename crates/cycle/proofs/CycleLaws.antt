@@ -10,6 +10,7 @@ use lib.ListN.{length, take, drop, length-drop}
 use lib.Seq.{take-take, length-take-le}
 use types.Run.{OneOf, miss}
 use denote.Enum.Declared.{tagOf}
+use Rattle.bits.proofs.Never.{never}
 use Rattle.schema.specs.Tables.{Tables, tables, lookUps}
 use Rattle.schema.specs.Labels.{labelBytes, dot}
 use Rattle.schema.specs.declared.Label.{Label}
@@ -67,7 +68,7 @@ behind-closed b n more (done t q) x y e =
     ran-append t (more q) x ∙ ap₂ (λ (k : ℕ) (v : World). ran (more k) v) d (sym w)
 behind-closed b n more (stopped t) x y e =
     let a : after.Closed n ≡ after.Open = ap (λ (d : Done). d .after) e in
-    absurd (let z : _≡_ {A = ℕ} 0 1 = cc in omega arith)
+    never cc
 
 closed-later : (b n : ℕ) (r : Run) (x y : World) → ended y (after.Closed n) ≡ finished b r x → b ≤ n
 closed-later b n (done t q) x y e =
@@ -76,12 +77,12 @@ closed-later b n (done t q) x y e =
     omega arith
 closed-later b n (stopped t) x y e =
     let a : after.Closed n ≡ after.Open = ap (λ (d : Done). d .after) e in
-    absurd (let z : _≡_ {A = ℕ} 0 1 = cc in omega arith)
+    never cc
 
 behind-open : (b : ℕ) (more : ℕ → Trace) (r : Run) (x y : World) → ended y after.Open ≡ finished b r x → y ≡ ran (behind more r) x
 behind-open b more (done t q) x y e =
     let a : after.Open ≡ after.Closed (b + q) = ap (λ (d : Done). d .after) e in
-    absurd (let z : _≡_ {A = ℕ} 0 1 = cc in omega arith)
+    never cc
 behind-open b more (stopped t) x y e = ap (λ (d : Done). d .world) e
 
 -- ---- the loop over an element's fields

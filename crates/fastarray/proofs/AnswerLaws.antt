@@ -11,11 +11,12 @@ use lib.IntN.{ℤ}
 use borrow.Author.Tests.{le-leb, lt-leb, lt-ltb, le-ltb, eq-eqb, ne-eqb, leb-true}
 use Rattle.bits.specs.Choice.{if_then_else_}
 use Rattle.bits.specs.Runs.{bytesFor}
+use Rattle.bits.specs.Runs.{filled}
+use Rattle.bits.proofs.Never.{never}
 use Rattle.fastarray.specs.Body.{window, flagBits, deletes, changes, deletedFrom, itemsFrom, Items, Body, bodyOf, fieldsOf}
-use Rattle.fastarray.specs.Records.{deletedRecord, itemRecord, fieldRecord, records, filled, storeAll}
+use Rattle.fastarray.specs.Records.{deletedRecord, itemRecord, fieldRecord, records, storeAll}
 use Rattle.fastarray.specs.Parts.{deltaOf, measuredOf, ItemsStored}
 use Rattle.fastarray.specs.Answers.{Call, Lent, lent, found, roomFor, fits, decided, answer, left, deletedIn, itemsIn, Answered}
-use Rattle.fastarray.proofs.ReadLaws.{never}
 use Rattle.fastarray.proofs.StoreLaws.{stored-front, records-length}
 use Rattle.fastarray.proofs.HeaderLaws.{both, bodyWith, measured-as}
 use Rattle.fastarray.specs.declared.ChecksumMode.{ChecksumMode}

@@ -9,10 +9,13 @@ use native.Mathlib.Nat.{add-zero}
 use lib.ListN.{length}
 use lib.Dec.{leb, eqb}
 use borrow.Author.Tests.{leb-true}
-use Rattle.fastarray.specs.Body.{Number, behind, numberAt, Lead, breaks, closes, opens, leadWidth, leadHandle, leadAt, rawField, Stream, closing, before, withField, onLead, fieldsFrom, fieldsAt}
-use Rattle.fastarray.specs.Records.{fieldRecord, store, storeAll}
+use Rattle.bits.specs.Packed.{Number}
+use Rattle.bits.specs.Runs.{store}
+use Rattle.bits.proofs.Never.{never}
+use Rattle.fastarray.specs.Body.{behind, numberAt, Lead, breaks, closes, opens, leadWidth, leadHandle, leadAt, rawField, Stream, closing, before, withField, onLead, fieldsFrom, fieldsAt}
+use Rattle.fastarray.specs.Records.{fieldRecord, storeAll}
 use Rattle.fastarray.specs.Parts.{headOf, fieldsReadOf, FieldsStored}
-use Rattle.fastarray.proofs.ReadLaws.{never, number-within}
+use Rattle.fastarray.proofs.ReadLaws.{number-within}
 use Rattle.fastarray.specs.declared.FieldHead.the-variants as H
 use Rattle.fastarray.specs.declared.FieldsRead.the-variants as F
 

@@ -10,9 +10,9 @@ use lib.Dec.{leb, eqb}
 use lib.IntN.{ℤ}
 use borrow.Author.Tests.{le-leb, lt-leb, lt-ltb, le-ltb, eq-eqb, ne-eqb, leb-true, eqb-true, eqb-false}
 use Rattle.bits.specs.Bits.{field}
+use Rattle.bits.proofs.Never.{never}
 use Rattle.fastarray.specs.Body.{signedAt, deletes, changes, notNegative, least, headed, Items, itemsFrom, deletedFrom, Body, ended, bodyOf, fieldsOf}
 use Rattle.fastarray.specs.Parts.{itemsReadOf, deltaOf, measuredOf}
-use Rattle.fastarray.proofs.ReadLaws.{never}
 use Rattle.fastarray.proofs.ItemLaws.{ItemsLying, items-lie, deleted-length}
 use Rattle.fastarray.specs.declared.Delta.{Delta}
 use Rattle.fastarray.specs.declared.ItemsRead.the-variants as I

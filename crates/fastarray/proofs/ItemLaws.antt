@@ -11,10 +11,11 @@ use lib.Dec.{leb}
 use lib.IntN.{ℤ}
 use borrow.Author.Tests.{le-leb, lt-leb, leb-true, leb-false}
 use Rattle.bits.specs.Bits.{field}
+use Rattle.bits.specs.Runs.{store}
+use Rattle.bits.proofs.Never.{never}
 use Rattle.fastarray.specs.Body.{signedAt, deletedFrom, Stream, fieldsAt, Item, Items, item, withItem, onFields, itemsFrom, fieldsOf}
-use Rattle.fastarray.specs.Records.{deletedRecord, itemRecord, fieldRecord, records, store, storeAll}
+use Rattle.fastarray.specs.Records.{deletedRecord, itemRecord, fieldRecord, records, storeAll}
 use Rattle.fastarray.specs.Parts.{fieldsReadOf, itemsReadOf, FieldsStored, ItemsStored}
-use Rattle.fastarray.proofs.ReadLaws.{never}
 use Rattle.fastarray.proofs.StoreLaws.{store-append, records-length}
 use Rattle.fastarray.proofs.FieldLaws.{Lying, fields-lie}
 use Rattle.fastarray.specs.declared.FieldsRead.the-variants as F

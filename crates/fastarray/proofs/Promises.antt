@@ -15,13 +15,13 @@ use Rattle.bits.specs.Bits.{num, field}
 use Rattle.bits.specs.Runs.{bytesFor}
 use Rattle.bits.proofs.FieldLaws.{field-same}
 use Rattle.bitio.specs.Cursors.{longestWindow}
-use Rattle.bitio.specs.Refusals.{refusal}
+use Rattle.bits.specs.Refusals.{refusal, when, firstOf}
+use Rattle.bits.proofs.Never.{never}
 use Rattle.fastarray.specs.Body.{window, flagBits, deletes, changes, headed, Items, Body, ended, bodyOf, fieldsOf}
 use Rattle.fastarray.specs.Records.{itemRecord, fieldRecord, records}
 use Rattle.fastarray.specs.Answers.{Call, call, Lent, found, fits, decided, answer, left, deletedIn, itemsIn, finalDeleted, finalItems, finalFields, Answered}
 use Rattle.fastarray.specs.Refusals.{numbered}
-use Rattle.fastarray.specs.Order.{when, firstOf, isNone, shortOf, rules}
-use Rattle.fastarray.proofs.ReadLaws.{never}
+use Rattle.fastarray.specs.Order.{isNone, shortOf, rules}
 use Rattle.fastarray.proofs.HeaderLaws.{headed-fits}
 use Rattle.fastarray.proofs.AnswerLaws.{Refusal, too-long, not-body, short, kept}
 use Rattle.fastarray.specs.declared.ChecksumMode.{ChecksumMode}
@@ -50,14 +50,14 @@ refusal-order c l = go (ltb longestWindow (c .bits)) refl
 
 -- ---- refusals change no buffer
 
-by-number : (r : FastArray) → (numbered r .number ≡ 0 → ⊥) → Refusal r
+by-number : (r : FastArray) → (numbered r ≡ none → ⊥) → Refusal r
 by-number (Decoded d) n = absurd (n refl)
 by-number TooLong n = too-long
 by-number NotFastArray n = not-body
 by-number (Short d i f) n = short
 
 -- A call that is refused, with whatever number, leaves every buffer as it was lent.
-pub refused-buffers : (c : Call) (l : Lent) → (numbered (answer c l) .number ≡ 0 → ⊥)
+pub refused-buffers : (c : Call) (l : Lent) → (numbered (answer c l) ≡ none → ⊥)
     → (finalDeleted c l ≡ l .deleted) × (finalItems c l ≡ l .items) × (finalFields c l ≡ l .fields)
 refused-buffers c l n = let k = by-number (answer c l) n in (kept k _ _, kept k _ _, kept k _ _)
 

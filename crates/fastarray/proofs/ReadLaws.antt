@@ -17,7 +17,9 @@ use Rattle.bits.proofs.TwosLaws.{twos-fits}
 use Rattle.bits.proofs.PackedLaws.{packed-window}
 use Rattle.bits.proofs.PackedWindows.{Lies, whole, cut, goes-on, overflows, packed-lies}
 use Rattle.bits.specs.declared.Packed.{Packed}
-use Rattle.fastarray.specs.Body.{window, signedAt, Number, behind, asNumber, numberAt, leadWidth, leadHandle, leadAt}
+use Rattle.bits.specs.Packed.{Number}
+use Rattle.bits.proofs.Never.{never}
+use Rattle.fastarray.specs.Body.{window, signedAt, behind, asNumber, numberAt, leadWidth, leadHandle, leadAt}
 use Rattle.fastarray.specs.Parts.{takenOf, headOf}
 use Rattle.fastarray.specs.declared.Taken.the-variants as T
 use Rattle.fastarray.specs.declared.FieldHead.the-variants as H
@@ -33,9 +35,6 @@ window-packed s end p = packed-window (num s) 0 end p ∙ ap₂ (λ (e q : ℕ).
 -- an i32 that was read is what its bits say
 pub read-back : (W p : ℕ) (z : ℤ) → z ≡ signedAt W p → toZ w32 (ofZ w32 z) ≡ signedAt W p
 read-back W p z e = rw e (toZ-ofZ (twos-fits w32 32 (field W p 32) (omega arith) (omega arith) (omega arith) (field-lt W p 32)))
-
-pub never : {A : Type 0} → _≡_ {A = ℕ} 0 1 → A
-never z = absurd (let n : ⊥ = omega arith in n)
 
 -- ---- a packed number takes a byte at least and lies in the window
 

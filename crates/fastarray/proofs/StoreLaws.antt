@@ -8,11 +8,13 @@ use native.Mathlib.Omega.{arith}
 use lib.ListN.{length, take, drop, set, length-append, length-drop, take-append-drop}
 use lib.Seq.{take-at, drop-drop, drop-append-add, length-take-le, sets-eq}
 use borrow.Author.Tests.{le-leb, lt-leb}
-use Rattle.fastarray.specs.Records.{records, filled, store, storeAll}
+use Rattle.bits.specs.Runs.{filled}
+use Rattle.bits.specs.Runs.{put, store}
+use Rattle.fastarray.specs.Records.{records, storeAll}
 
 module _ {A : Type 0} where
   pub store-fits : (d : List A) (i : ℕ) (run : List A) → i + length run ≤ length d → store d i run ≡ take i d ++ run ++ drop (i + length run) d
-  unfolding store
+  unfolding store put
   store-fits d i run h = simp (le-leb _ _ h)
 
   pub store-not : (d : List A) (i : ℕ) (run : List A) → length d < i + length run → store d i run ≡ d

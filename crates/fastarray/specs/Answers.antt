@@ -9,9 +9,10 @@ use lib.Dec.{leb, ltb, eqb}
 use lib.IntN.{ℤ}
 use Rattle.bits.specs.Choice.{if_then_else_}
 use Rattle.bits.specs.Runs.{bytesFor}
+use Rattle.bits.specs.Runs.{filled}
 use Rattle.bitio.specs.Cursors.{longestWindow}
 use Rattle.fastarray.specs.Body.{window, flagBits, Item, Body, bodyOf, fieldsOf}
-use Rattle.fastarray.specs.Records.{itemWords, itemRecord, fieldWords, fieldRecord, records, filled}
+use Rattle.fastarray.specs.Records.{itemWords, itemRecord, fieldWords, fieldRecord, records}
 use Rattle.fastarray.specs.Parts.{deltaOf}
 use Rattle.fastarray.specs.declared.ChecksumMode.{ChecksumMode}
 use Rattle.fastarray.specs.declared.FastArray.{FastArray}

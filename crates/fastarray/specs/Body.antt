@@ -13,7 +13,7 @@ use lib.Dec.{leb, ltb, eqb}
 use lib.IntN.{ℤ}
 use Rattle.bits.specs.Choice.{if_then_else_}
 use Rattle.bits.specs.Bits.{num, field}
-use Rattle.bits.specs.Packed.{packed}
+use Rattle.bits.specs.Packed.{packed, Number}
 use Rattle.bits.specs.TwosComplement.{twos}
 use Rattle.bits.specs.declared.Packed.{Packed}
 use Rattle.bits.specs.declared.Packed.the-variants.{Whole, Cut, GoesOn, Overflows}
@@ -25,12 +25,6 @@ unfoldable pub window : List ℕ → (bits : ℕ) → ℕ
 window s bits = field (num s) 0 bits
 
 -- ---- numbers
-
--- a packed number that was read: its first bit, the bytes that it took, its value
-pub record Number : Type 0 where
-  pub start : ℕ
-  pub bytes : ℕ
-  pub value : ℕ
 
 -- the bit behind it
 abbrev pub behind : Number → ℕ

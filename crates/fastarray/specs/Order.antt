@@ -4,32 +4,19 @@ use mathlib.Core.List.{List, [], _∷_}
 use mathlib.Core.Option.{Option, none, some}
 use lib.ListN.{length}
 use lib.Dec.{ltb}
-use Rattle.bits.specs.Choice.{if_then_else_}
 use Rattle.bitio.specs.Cursors.{longestWindow}
-use Rattle.bitio.specs.Refusals.{Numbered, refusal}
+use Rattle.bits.specs.Refusals.{Numbered, refusal, Rule, when}
 use Rattle.fastarray.specs.Body.{Body, fieldsOf}
 use Rattle.fastarray.specs.Answers.{Call, Lent, found, fits}
-
-pub record Rule : Type 0 where
-  pub holds : Bool
-  pub gives : Numbered
-
-abbrev pub when : Bool → Numbered → Rule
-when t r = record { holds = t; gives = r }
-
--- number 0 where none holds
-unfoldable pub firstOf : List Rule → Numbered
-firstOf [] = refusal 0 0 0 0
-firstOf (r ∷ rs) = if r .holds then r .gives else firstOf rs
 
 abbrev pub isNone : Option Body → Bool
 isNone none = true
 isNone (some b) = false
 
 -- refusal 3: the needs, whichever buffer is short
-abbrev pub shortOf : Lent → Option Body → Rule
+abbrev pub shortOf : Lent → Option Body → Rule Numbered
 shortOf l none = when false (refusal 0 0 0 0)
 shortOf l (some b) = when (not (fits b l)) (refusal 3 (length (b .deleted)) (length (b .items)) (length (fieldsOf (b .items))))
 
-abbrev pub rules : Call → Lent → List Rule
+abbrev pub rules : Call → Lent → List (Rule Numbered)
 rules c l = when (ltb longestWindow (c .bits)) (refusal 1 0 0 0) ∷ when (isNone (found c)) (refusal 6 0 0 0) ∷ shortOf l (found c) ∷ []

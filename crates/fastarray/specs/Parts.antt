@@ -4,7 +4,8 @@ use mathlib.Core.Path.{_≡_}
 use mathlib.Core.List.{List}
 use mathlib.Core.Option.{Option, none, some}
 use lib.ListN.{length}
-use Rattle.fastarray.specs.Body.{Number, behind, Lead, breaks, closes, opens, Stream, Items, Body, fieldsOf}
+use Rattle.bits.specs.Packed.{Number}
+use Rattle.fastarray.specs.Body.{behind, Lead, breaks, closes, opens, Stream, Items, Body, fieldsOf}
 use Rattle.fastarray.specs.Records.{itemWords, itemRecord, fieldWords, fieldRecord, storeAll}
 use Rattle.fastarray.specs.declared.Delta.{Delta}
 use Rattle.fastarray.specs.declared.Taken.{Taken}

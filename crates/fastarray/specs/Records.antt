@@ -1,10 +1,9 @@
 -- Deleted ids, items and fields as records of lent buffers (01, Fast-array body), and records in a buffer.
 use Prim.Native.Nat.{ℕ, _+_}
 use mathlib.Core.List.{List, [], _∷_, _++_}
-use lib.ListN.{length, take, drop}
-use lib.Dec.{leb}
+use lib.ListN.{length}
 use lib.IntN.{ℤ}
-use Rattle.bits.specs.Choice.{if_then_else_}
+use Rattle.bits.specs.Runs.{store}
 use Rattle.fastarray.specs.Body.{RawField, Item}
 
 -- the one place that says how many numbers a record has, and which
@@ -29,15 +28,7 @@ unfoldable pub records : {A B : Type 0} → (record-of : B → List A) → List 
 records f [] = []
 records f (x ∷ l) = f x ++ records f l
 
--- a lent buffer whose front holds `new`
-abbrev pub filled : {A : Type 0} → (new lent : List A) → List A
-filled new lent = new ++ drop (length new) lent
-
--- A run from index i on, written whole; one that does not fit is not written.
-unfoldable pub store : {A : Type 0} → List A → (i : ℕ) → (run : List A) → List A
-store d i run = if leb (i + length run) (length d) then take i d ++ run ++ drop (i + length run) d else d
-
--- The same of records one after the other. The index passes those that do not fit, so that a reading lent nothing counts.
+-- Records written one after the other, each whole or not at all. The index passes those that do not fit, so that a reading lent nothing counts.
 unfoldable pub storeAll : {A B : Type 0} → (record-of : B → List A) → List A → (i : ℕ) → List B → List A
 storeAll f d i [] = d
 storeAll f d i (x ∷ l) = storeAll f (store d i (f x)) (i + length (f x)) l

@@ -2,7 +2,8 @@
 ghost use mathlib.Core.Path.{_≡_};
 ghost use mathlib.Core.List.{[], _∷_};
 ghost use Prim.Native.Nat.{_*_, _≤_, _^_};
-ghost use Rattle.fastarray.specs.Records.{store, itemWords, fieldWords, deletedRecord};
+ghost use Rattle.bits.specs.Runs.{store};
+ghost use Rattle.fastarray.specs.Records.{itemWords, fieldWords, deletedRecord};
 
 // Deleted id number k.
 pub fn store_deleted(d: &mut [i32], k: u64, id: i32)

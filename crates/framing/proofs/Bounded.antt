@@ -8,13 +8,14 @@ use lib.ListN.{length}
 use lib.Dec.{eqb, ltb, leb}
 use borrow.Author.Tests.{ltb-true, eqb-true}
 use Rattle.bits.specs.Choice.{if_then_else_}
+use Rattle.bits.specs.Packed.{Number}
 use Rattle.schema.specs.Tables.{Tables, absent, child}
 use Rattle.schema.specs.Labels.{atIndex}
 use Rattle.schema.specs.declared.Child.{Child}
 use Rattle.schema.specs.declared.Child.the-variants.{Array, Leaf}
 use Rattle.framing.specs.Windows.{Window, windowOf, part, Reading, got, failed, reading}
 use Rattle.framing.specs.Events as Ev
-use Rattle.framing.specs.Events.{Event, Number, number, element, pair, truncation, error, implicit, nested, root, over, overs, Trace}
+use Rattle.framing.specs.Events.{Event, number, element, pair, truncation, error, implicit, nested, root, over, overs, Trace}
 use Rattle.framing.specs.Counters.{Counters, counters, sums, tally}
 use Rattle.framing.specs.Paths.{longestPath, grown, noted, given}
 use Rattle.framing.specs.Walk.{Sink, numberAt, rawLeaf, tail, inItem, entering, level}

@@ -7,8 +7,9 @@ use Prim.Native.Nat.{ℕ, zero, suc, _+_, _*_, _≤_}
 use lib.ListN.{length}
 use lib.Dec.{ltb, leb, eqb}
 use Rattle.bits.specs.Choice.{if_then_else_}
+use Rattle.bits.specs.Packed.{Number}
 use Rattle.framing.specs.Windows.{Window, part, opening, Reading, got, failed, reading}
-use Rattle.framing.specs.Events.{Leaf, rawHandle, Number, numbers, Event, number, element, leaf, truncation, error, implicit, over, Trace}
+use Rattle.framing.specs.Events.{Leaf, rawHandle, numbers, Event, number, element, leaf, truncation, error, implicit, over, Trace}
 use Rattle.framing.specs.Paths.{longestPath, given}
 use Rattle.framing.specs.Walk.{Sink, Lead, ends, fails, closes, opens, lead, Due, cut, broken, closed, present, fieldAt, rawLeaf, tail, Run, done, stopped, prepend, onField, onLastField, fields, closing, inItem, entering, behind, onIndex, onLastIndex, elements, onCount, level, maxFields, maxElements}
 use Rattle.framing.proofs.Shorter.{part-opening, Reads, agree, short, reads, Leads, at-end, unread, at-zero, at-more, leads, Dues, at-field, dues}

@@ -15,8 +15,9 @@ use Rattle.bits.proofs.FieldLaws.{field-low, field-same}
 use Rattle.bits.proofs.PackedWindows as PW
 use Rattle.bits.specs.declared.Packed.{Packed}
 use Rattle.bits.specs.declared.Packed.the-variants.{Whole, Cut, GoesOn, Overflows}
+use Rattle.bits.specs.Packed.{Number}
 use Rattle.framing.specs.Windows.{Window, windowOf, part, opening, Reading, got, failed, readingOf, reading}
-use Rattle.framing.specs.Events.{Leaf, rawHandle, Pair, Number, numbers, Event, number, element, leaf, pair, truncation, error, implicit, nested, root, over, leaves, pairs, Trace}
+use Rattle.framing.specs.Events.{Leaf, rawHandle, Pair, numbers, Event, number, element, leaf, pair, truncation, error, implicit, nested, root, over, leaves, pairs, Trace}
 use Rattle.framing.specs.Counters.{Counters, counters, tally, faults, isClean}
 use Rattle.framing.specs.Walk.{Sink, trailerBits, trailerOf, closing, level}
 use Rattle.framing.specs.Sinks.{structSink, objectSink, Walk, struct, exact, object, sinkOf, silent, walkWindow, walk}

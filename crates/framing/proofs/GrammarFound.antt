@@ -11,8 +11,10 @@ use lib.ListN.{length}
 use borrow.Author.Tests.{leb-false, ltb-false, eqb-true}
 use Rattle.bits.specs.Bits.{field}
 use Rattle.bits.proofs.FieldLaws.{field-lt}
+use Rattle.bits.specs.Packed.{Number}
+use Rattle.bits.proofs.Never.{never}
 use Rattle.framing.specs.Windows.{Window, part, Reading, got, failed, reading}
-use Rattle.framing.specs.Events.{Number, numbers, Event, number, element, truncation, error, implicit, Trace}
+use Rattle.framing.specs.Events.{numbers, Event, number, element, truncation, error, implicit, Trace}
 use Rattle.framing.specs.Counters.{counters, faults}
 use Rattle.framing.specs.Walk.{maxElements, maxFields, trailerBits, Sink, numberAt, Lead, ends, fails, closes, opens, lead, Due, cut, broken, closed, present, fieldAt, tail, Run, done, stopped, prepend, onField, onLastField, fields, trailerOf, closing, inItem, entering, behind, onIndex, onLastIndex, elements, onCount, level}
 use Rattle.framing.specs.Grammar.{Bits, noBits, _then_, Num, numBits, IsNum, Field, Element, Array, fieldBits, fieldsBits, elementBits, elementsBits, trailing, arrayBits}
@@ -20,7 +22,7 @@ use Rattle.framing.specs.GrammarRules.{Each, FieldOk, FieldsOk, ElementO
 use Rattle.framing.proofs.TraceLaws.{counters-append}
 use Rattle.framing.proofs.Demand3.{and-true, zero-byte}
 use Rattle.framing.proofs.GrammarBits.{Span, Below, span-none, span-join, read-num}
-use Rattle.framing.proofs.GrammarLeads.{Stands, Opens, Present, never, closes-stands, opens-stands, present-stands, closed-stands}
+use Rattle.framing.proofs.GrammarLeads.{Stands, Opens, Present, closes-stands, opens-stands, present-stands, closed-stands}
 
 -- a trace without fault
 abbrev pub Fine : Trace → Type 0

@@ -6,14 +6,12 @@ use mathlib.Core.List.{List, [], _∷_}
 use native.Mathlib.Omega.{arith}
 use lib.Dec.{leb, ltb, eqb}
 use borrow.Author.Tests.{lt-leb, le-ltb, eq-eqb, ne-eqb, eqb-true, eqb-false, ltb-false}
+use Rattle.bits.specs.Packed.{Number}
+use Rattle.bits.proofs.Never.{never}
 use Rattle.framing.specs.Windows.{Window, Reading, got, failed, reading}
-use Rattle.framing.specs.Events.{Number}
 use Rattle.framing.specs.Walk.{numberAt, Lead, ends, fails, closes, opens, leadOf, lead, Due, cut, broken, closed, present, widthOf, fieldOf, fieldAt}
 use Rattle.framing.specs.Grammar.{Bits, _then_, Num, numBits, IsNum}
 use Rattle.framing.proofs.GrammarBits.{Span, read-num, num-read}
-
-pub never : {A : Type 0} → _≡_ {A = ℕ} 0 1 → A
-never z = absurd (omega arith)
 
 -- ---- from what is due to the number that stands there
 

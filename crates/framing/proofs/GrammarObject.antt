@@ -6,6 +6,7 @@ use mathlib.Core.List.{List, [], _∷_, _++_}
 use native.Mathlib.Omega.{arith}
 use lib.Dec.{eqb}
 use borrow.Author.Tests.{eqb-true, eqb-false, eq-eqb, ne-eqb}
+use Rattle.bits.proofs.Never.{never}
 use Rattle.framing.specs.Windows.{Window, Reading, got, failed, reading}
 use Rattle.framing.specs.Events.{number, pair, error, nested, root, Trace}
 use Rattle.framing.specs.Walk.{Sink, numberAt, level}
@@ -13,7 +14,6 @@ use Rattle.framing.specs.Sinks.{guidOf, objectField, objectSink}
 use Rattle.framing.specs.Grammar.{Bits, noBits, Num, numBits, IsNum, Array, arrayBits}
 use Rattle.framing.specs.GrammarRules.{ArrayOk, Reference, absent, guid, referenceBits, referenceIn, ObjectArray}
 use Rattle.framing.proofs.GrammarBits.{Span, Below, read-num, num-read}
-use Rattle.framing.proofs.GrammarLeads.{never}
 use Rattle.framing.proofs.GrammarFound.{Fine, fine-number, bitsIn, Content, Found, level-found}
 use Rattle.framing.proofs.GrammarWalked.{windowAt, num-below, arrayTrace, level-walked}
 use Rattle.framing.proofs.GrammarStruct.{span-whole, whole-span, array-fine}

@@ -10,6 +10,7 @@ use lib.ListN.{length}
 use borrow.Author.Tests.{eqb-true, eqb-false, eq-eqb, ne-eqb}
 use Rattle.bits.specs.Bits.{field}
 use Rattle.bits.specs.Choice.{if_then_else_}
+use Rattle.bits.proofs.Never.{never}
 use Rattle.schema.specs.Tables.{Tables, child}
 use Rattle.schema.specs.Labels.{atIndex, dot, labelBytes, containerLabel, leafLabel}
 use Rattle.schema.specs.declared.Child.{Child}
@@ -24,7 +25,6 @@ use Rattle.framing.specs.Grammar.{Bits, Num, Field, Element, Array, fiel
 use Rattle.framing.specs.GrammarRules.{Each, FieldOk, FieldsOk, ElementOk, ArrayOk, Payload, plain, contentBits, PlainOk, NestedOk, array, allowedIn, StructArray}
 use Rattle.framing.specs.GrammarRules as G
 use Rattle.framing.proofs.GrammarBits.{Span, Below}
-use Rattle.framing.proofs.GrammarLeads.{never}
 use Rattle.framing.proofs.GrammarFound.{Fine, fine-append, fine-join, fine-rest, fine-number, fine-element, bitsIn, Content, Found, level-found}
 use Rattle.framing.proofs.GrammarWalked.{numAt, windowAt, fieldsTrace, bodyTrace, elementsTrace, endTrace, arrayTrace, array-below, level-walked}
 

@@ -10,8 +10,9 @@ use lib.ListN.{length}
 use lib.Pow.{pow-add, pow-pos}
 use borrow.Author.Tests.{le-ltb, lt-leb, eq-eqb, ne-eqb}
 use Rattle.bits.specs.Bits.{field}
+use Rattle.bits.specs.Packed.{Number}
 use Rattle.framing.specs.Windows.{Window, part, Reading, got, failed, reading}
-use Rattle.framing.specs.Events.{Number, numbers, Event, number, element, Trace}
+use Rattle.framing.specs.Events.{numbers, Event, number, element, Trace}
 use Rattle.framing.specs.Walk.{maxElements, maxFields, trailerBits, Sink, numberAt, Lead, closes, opens, lead, fieldAt, present, closed, Run, done, stopped, prepend, onField, onLastField, fields, trailerOf, closing, inItem, entering, behind, onIndex, onLastIndex, elements, onCount, level}
 use Rattle.framing.specs.Grammar.{Bits, noBits, _then_, Num, packedBits, numBits, IsNum, Field, Element, Array, fieldBits, fieldsBits, elementBits, elementsBits, trailing, arrayBits}
 use Rattle.framing.specs.GrammarRules.{Each, FieldOk, FieldsOk, ElementOk, ArrayOk}

@@ -10,8 +10,9 @@ use Rattle.bits.specs.Choice.{if_then_else_}
 use Rattle.bits.specs.declared.Packed.{Packed}
 use Rattle.bits.proofs.PackedWindows as PW
 use Rattle.bits.proofs.PackedWindows.{Lies, packed-lies}
+use Rattle.bits.specs.Packed.{Number}
 use Rattle.framing.specs.Windows.{Window, part, Reading, got, failed, readingOf, reading}
-use Rattle.framing.specs.Events.{Number, number, element, truncation, error, implicit, Trace}
+use Rattle.framing.specs.Events.{number, element, truncation, error, implicit, Trace}
 use Rattle.framing.specs.Walk.{Sink, numberAt, Lead, ends, fails, closes, opens, leadOf, lead, Due, cut, broken, closed, present, widthOf, fieldOf, fieldAt, tail, Run, done, stopped, prepend, onField, onLastField, fields, trailerBits, trailerOf, closing, inItem, entering, behind, onIndex, onLastIndex, elements, onCount, level, maxFields, maxElements}
 use Rattle.framing.proofs.Demand3.{and-true}
 

@@ -10,8 +10,8 @@ use Rattle.bits.specs.declared.Packed.{Packed}
 use Rattle.bits.proofs.FieldLaws.{field-prefix}
 use Rattle.bits.proofs.PackedWindows.{Shortened, packed-shortened}
 use Rattle.bits.proofs.PackedWindows as PW
+use Rattle.bits.specs.Packed.{Number}
 use Rattle.framing.specs.Windows.{Window, part, opening, Reading, got, failed, readingOf, reading}
-use Rattle.framing.specs.Events.{Number}
 use Rattle.framing.specs.Walk.{Lead, ends, fails, closes, opens, leadOf, lead, Due, cut, broken, closed, present, widthOf, fieldOf, fieldAt}
 
 -- a payload inside the first m bits

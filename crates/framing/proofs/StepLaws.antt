@@ -7,8 +7,9 @@ use native.Mathlib.Nat.{add-assoc}
 use lib.Dec.{eqb}
 use borrow.Author.Tests.{le-leb, lt-leb, ne-eqb}
 use Rattle.bits.proofs.FieldLaws.{field-field}
+use Rattle.bits.specs.Packed.{Number}
 use Rattle.framing.specs.Windows.{Window, part, got, failed, reading}
-use Rattle.framing.specs.Events.{Number, numbers, number, element, truncation, error, implicit, Trace}
+use Rattle.framing.specs.Events.{numbers, number, element, truncation, error, implicit, Trace}
 use Rattle.framing.specs.Walk.{Sink, numberAt, ends, fails, closes, opens, lead, cut, broken, closed, present, fieldAt, fieldOf, tail, Run, done, stopped, prepend, onField, onLastField, fields, closing, inItem, entering, behind, onIndex, onLastIndex, elements, onCount, level, maxFields}
 
 pub lead-ends : (w : Window) (p : ℕ) → w .size ≤ p → lead w p ≡ ends

@@ -2,6 +2,7 @@
 -- looked at and put back is no event.
 use Prim.Native.Nat.{ℕ, suc}
 use mathlib.Core.List.{List, [], _∷_}
+use Rattle.bits.specs.Packed.{Number}
 
 -- path: bytes. start: the payload's first bit, counted from the root window's first. payload: its bits as a number
 pub record Leaf : Type 0 where
@@ -14,12 +15,6 @@ pub record Leaf : Type 0 where
 pub record Pair : Type 0 where
   pub index : ℕ
   pub guid : ℕ
-
--- a packed number: its first bit, counted from the root window's first, the bytes that it took, its value
-pub record Number : Type 0 where
-  pub start : ℕ
-  pub bytes : ℕ
-  pub value : ℕ
 
 pub data Event : Type 0 where
   number : Number → Event  -- a packed number was taken, also where a rule then turned its value away

@@ -1,7 +1,7 @@
 -- Leaves and pairs as records, path bytes and payload bytes (01, Tables and outputs).
 use Prim.Native.Nat.{ℕ, _+_}
 use mathlib.Core.List.{List, [], _∷_, _++_}
-use lib.ListN.{length, drop}
+use lib.ListN.{length}
 use Rattle.bits.specs.Runs.{bytesOf, bytesFor}
 use Rattle.framing.specs.Events.{Leaf, Pair}
 
@@ -39,7 +39,3 @@ leafRecords a b (x ∷ l) = leafRecord a b x ++ leafRecords (a + length (x .path
 unfoldable pub pairRecords : List Pair → List ℕ
 pairRecords [] = []
 pairRecords (x ∷ l) = pairRecord x ++ pairRecords l
-
--- a lent buffer after a walk fills its front with `new`
-abbrev pub filled : (new old : List ℕ) → List ℕ
-filled new old = new ++ drop (length new) old

@@ -6,9 +6,10 @@ use mathlib.Core.List.{List, [], _∷_, _++_}
 use lib.Dec.{leb, ltb, eqb}
 use Rattle.bits.specs.Choice.{if_then_else_}
 use Rattle.bits.specs.Bits.{field}
+use Rattle.bits.specs.Packed.{Number}
 use Rattle.schema.specs.Labels.{atIndex, dot, rawLabel}
 use Rattle.framing.specs.Windows.{Window, part, Reading, got, failed, reading}
-use Rattle.framing.specs.Events.{Leaf, rawHandle, Number, numbers, Event, number, element, truncation, error, implicit, Trace}
+use Rattle.framing.specs.Events.{Leaf, rawHandle, numbers, Event, number, element, truncation, error, implicit, Trace}
 use Rattle.framing.specs.Paths.{grown, noted, given}
 
 -- 01, Sizes: elements of a level, fields of an element

@@ -1,15 +1,16 @@
 -- Document 01's refusal numbers: for each refusal the number, and the values that 01's table names; a value that it doesn't name is 0. And
 -- where the cursor stands after it.
 use Prim.Native.Nat.{ℕ}
+use Rattle.bits.specs.Refusals.{Numbered, refusal}
 use Rattle.bitio.specs.Refusals as bitio
 use Rattle.geometry.specs.declared.Refusal.{Refusal}
 use Rattle.geometry.specs.declared.Refusal.the-variants.{Unread, NoScale, NotFinite, NoSuchWidth}
 
-abbrev pub numbered : Refusal → bitio.Numbered
+abbrev pub numbered : Refusal → Numbered
 numbered (Unread r) = bitio.numbered r
-numbered NoScale = bitio.refusal 11 0 0 0
-numbered (NotFinite position) = bitio.refusal 12 0 0 0
-numbered NoSuchWidth = bitio.refusal 13 0 0 0
+numbered NoScale = refusal 11 0 0 0
+numbered (NotFinite position) = refusal 12 0 0 0
+numbered NoSuchWidth = refusal 13 0 0 0
 
 -- the cursor, which stood at `at`: after 12 behind the three components, after 11 and 13 where it stood
 abbrev pub standsAfter : (at : ℕ) → Refusal → ℕ

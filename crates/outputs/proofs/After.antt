@@ -6,9 +6,11 @@ use native.Mathlib.Nat.{zero-add}
 use native.Mathlib.Omega.{arith}
 use lib.ListN.{length, drop}
 use Rattle.bits.specs.Runs.{put}
-use Rattle.framing.specs.Events.{Leaf, Pair, Number, Event, number, element, leaf, pair, truncation, error, implicit, nested, root, over, leaves, pairs, overs, Trace}
+use Rattle.bits.specs.Packed.{Number}
+use Rattle.bits.specs.Runs.{filled}
+use Rattle.framing.specs.Events.{Leaf, Pair, Event, number, element, leaf, pair, truncation, error, implicit, nested, root, over, leaves, pairs, overs, Trace}
 use Rattle.framing.specs.Counters.{Counters, counted, counters, sums}
-use Rattle.framing.specs.Records.{leafWords, pairWords, leafRecord, pairRecord, payloadOf, pathBytes, payloadBytes, leafRecords, pairRecords, filled}
+use Rattle.framing.specs.Records.{leafWords, pairWords, leafRecord, pairRecord, payloadOf, pathBytes, payloadBytes, leafRecords, pairRecords}
 use Rattle.framing.proofs.TraceLaws.{sums-zero}
 use Rattle.outputs.specs.World.{Adding, plain, World, onEvent, apply, fresh, records, Tally, tallyOf, tallied}
 use Rattle.outputs.proofs.Paste.{length-store, tally-law, words-over, text-over, load-over}

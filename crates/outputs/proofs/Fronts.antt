@@ -8,9 +8,10 @@ use lib.Dec.{eqb}
 use lib.ListN.{length, drop}
 use Rattle.bits.specs.Choice.{if_then_else_}
 use Rattle.bits.specs.Bits.{num, field}
+use Rattle.bits.specs.Runs.{filled}
 use Rattle.framing.specs.Events.{Leaf, Pair, rawHandle, leaves, pairs, Trace}
 use Rattle.framing.specs.Sinks.{Walk, object, walk}
-use Rattle.framing.specs.Records.{pathBytes, payloadBytes, leafRecords, pairRecords, filled}
+use Rattle.framing.specs.Records.{pathBytes, payloadBytes, leafRecords, pairRecords}
 use Rattle.framing.specs.Refusing.{Answer, refused, accepted}
 use Rattle.framing.specs.Demand.{dropTail, Opens}
 use Rattle.framing.proofs.RecordLaws.{path-append, payload-append, records-append}

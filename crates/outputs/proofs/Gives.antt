@@ -11,13 +11,14 @@ use borrow.Author.Tests.{ltb-true}
 use Rattle.bits.specs.Choice.{if_then_else_}
 use Rattle.bits.specs.Runs.{bytesOf, bytesFor}
 use Rattle.bits.proofs.RunLaws.{length-bytesOf}
+use Rattle.bits.specs.Packed.{Number}
 use Rattle.schema.specs.Tables.{Tables, absent, child}
 use Rattle.schema.specs.Labels.{atIndex}
 use Rattle.schema.specs.declared.Child.{Child}
 use Rattle.schema.specs.declared.Child.the-variants.{Array, Leaf}
 use Rattle.framing.specs.Windows.{Window, windowOf, part, Reading, got, failed, reading}
 use Rattle.framing.specs.Events as Ev
-use Rattle.framing.specs.Events.{Event, Number, number, element, leaf, pair, truncation, error, implicit, nested, root, over, leaves, pairs, overs, Trace}
+use Rattle.framing.specs.Events.{Event, number, element, leaf, pair, truncation, error, implicit, nested, root, over, leaves, pairs, overs, Trace}
 use Rattle.framing.specs.Paths.{longestPath, grown, noted, given}
 use Rattle.framing.specs.Walk.{Sink, numberAt, tail, rawLeaf, inItem, entering, level}
 use Rattle.framing.specs.Sinks.{leafOf, onChild, structSinkOver, structSink, tooDeep, guidOf, objectField, objectSink, Walk, struct, exact, object, Leafy, declaredOnly, sinkOf, silent, walkWindow, walk}

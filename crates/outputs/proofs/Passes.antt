@@ -8,11 +8,12 @@ use native.Mathlib.Omega.{arith}
 use lib.Dec.{leb}
 use lib.ListN.{length}
 use borrow.Author.Tests.{leb-true, le-leb, lt-leb}
+use Rattle.bits.specs.Runs.{filled}
 use Rattle.bitio.specs.Cursors.{longestWindow}
 use Rattle.framing.specs.Events.{leaves, pairs, overs}
 use Rattle.framing.specs.Counters.{Counters, counters}
 use Rattle.framing.specs.Sinks.{Walk, object, Leafy, walk}
-use Rattle.framing.specs.Records.{leafWords, pairWords, pathBytes, payloadBytes, leafRecords, pairRecords, filled}
+use Rattle.framing.specs.Records.{leafWords, pairWords, pathBytes, payloadBytes, leafRecords, pairRecords}
 use Rattle.framing.specs.Refusing.{Room, noRoom, needed, within, Answer, refused, accepted}
 use Rattle.framing.proofs.Demand3.{and-true}
 use Rattle.framing.proofs.RefusingLaws.{decided-long, decided-broken, decided-over, decided-short, decided-fine}

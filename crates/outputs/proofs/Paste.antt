@@ -11,7 +11,8 @@ use lib.Seq.{sets, length-sets, sets-eq, set-out, drop-drop}
 use borrow.Author.Tests.{leb-true}
 use Rattle.bits.specs.Runs.{put, store}
 use Rattle.bits.proofs.RunLaws.{store-fits}
-use Rattle.framing.specs.Events.{Leaf, Pair, Number, numbers, Event, number, element, leaf, pair, truncation, error, implicit, nested, root, over, leaves, overs, Trace}
+use Rattle.bits.specs.Packed.{Number}
+use Rattle.framing.specs.Events.{Leaf, Pair, numbers, Event, number, element, leaf, pair, truncation, error, implicit, nested, root, over, leaves, overs, Trace}
 use Rattle.framing.specs.Counters.{Counters, counted, counters, sums, tally}
 use Rattle.framing.specs.Records.{leafRecord, pairRecord, payloadOf, pathBytes, payloadBytes}
 use Rattle.framing.proofs.TraceLaws.{sums-assoc}

@@ -5,11 +5,12 @@ use mathlib.Core.Bool.{Bool, true}
 use mathlib.Core.List.{List}
 use lib.ListN.{length}
 use lib.Dec.{leb}
+use Rattle.bits.specs.Runs.{filled}
 use Rattle.schema.specs.Tables.{absent}
 use Rattle.schema.specs.Layout.{laidOut}
 use Rattle.framing.specs.Events.{Leaf, leaves, pairs, Trace}
 use Rattle.framing.specs.Sinks.{Walk, struct, exact, object, declaredOnly, walk}
-use Rattle.framing.specs.Records.{leafWords, pairWords, pathBytes, payloadBytes, leafRecords, pairRecords, filled}
+use Rattle.framing.specs.Records.{leafWords, pairWords, pathBytes, payloadBytes, leafRecords, pairRecords}
 use Rattle.framing.specs.Refusing.{Room, noRoom, needed, within, Answer, refused, accepted, decided}
 use Rattle.framing.specs.Demand.{dropTail, Opens}
 use Rattle.outputs.specs.World.{World}

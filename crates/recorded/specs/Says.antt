@@ -1,6 +1,6 @@
 -- What an answer says of a refusal: its number and its values.
 use mathlib.Core.Path.{_≡_}
-use Rattle.bitio.specs.Refusals.{Numbered}
+use Rattle.bits.specs.Refusals.{Numbered}
 use Rattle.recorded.specs.declared.answers.Answer.{Answer}
 
 abbrev pub Says : Answer → Numbered → Type 0

@@ -1,7 +1,8 @@
 // Answers of a read, ours and the recorded one, and what comes of a case.
 ghost use mathlib.Core.Path.{_≡_};
 ghost use Prim.Native.Nat.{_%_, _^_};
-ghost use Rattle.bitio.specs.Refusals.{numbered, refusal, standsAfter};
+ghost use Rattle.bits.specs.Refusals.{refusal};
+ghost use Rattle.bitio.specs.Refusals.{numbered, standsAfter};
 ghost use Rattle.recorded.specs.Says.{Says};
 use crate::fields;
 use crate::say;

@@ -6,6 +6,7 @@ use mathlib.Core.Bool.{Bool, true, false}
 use mathlib.Core.List.{List, [], _∷_, _++_}
 use lib.Dec.{eqb}
 use borrow.Author.Tests.{ne-eqb, eq-eqb, eqb-true}
+use Rattle.bits.proofs.Never.{never}
 use Rattle.bits.specs.Choice.{if_then_else_}
 use Rattle.schema.specs.Tables.{Tables, tables, lookUps, child}
 use Rattle.schema.specs.Labels.{labelBytes, containerLabel, leafLabel, dot}
@@ -199,10 +200,10 @@ array-below s t (suc n) lvl handle width lower x e = omega arith
 array-below (sink.Record trailer) t zero lvl handle width lower x e = go (child (t .rows) lvl handle) e
   where
     go2 : (y : Bool) (z : Label) → kind.Array lower x ≡ (if y then kind.Nothing else kind.Deep z) → 0 < 0
-    go2 true z f = absurd (let q : _≡_ {A = ℕ} 0 1 = cc in omega arith)
-    go2 false z f = absurd (let q : _≡_ {A = ℕ} 0 1 = cc in omega arith)
+    go2 true z f = never cc
+    go2 false z f = never cc
 
     go : (c : Child) → kind.Array lower x ≡ kindBy t 0 lvl handle width c → 0 < 0
-    go child.Leaf f = absurd (let q : _≡_ {A = ℕ} 0 1 = cc in omega arith)
+    go child.Leaf f = never cc
     go (child.Array l) f = go2 (eqb width 0) (containerLabel t lvl handle) f
-array-below sink.Object t zero lvl handle width lower x e = absurd (let q : _≡_ {A = ℕ} 0 1 = cc in omega arith)
+array-below sink.Object t zero lvl handle width lower x e = never cc

@@ -6,6 +6,7 @@ use Prim.Native.Nat.{ℕ, zero, suc, _+_, _-_, _*_, _/_, _%_, _^_, _≤_, _<_}
 use native.Mathlib.Omega.{arith}
 use lib.Dec.{ltb, eqb}
 use borrow.Author.Tests.{lt-ltb, le-ltb, le-leb, lt-leb, eq-eqb, ne-eqb, eqb-true, eqb-false}
+use Rattle.bits.specs.Packed.{Number}
 use Rattle.bits.specs.Bits.{num, field}
 use Rattle.bits.specs.Packed.{packed}
 use Rattle.bits.specs.declared.Packed.{Packed}
@@ -139,7 +140,7 @@ module _ (w : Window) (p : ℕ) where
   -- ---- a field
 
   -- a field's head is its width's
-  due-sized : (e : Ev.Number) (handle q : ℕ) (r : Reading) → dueHead (widthOf w e handle q r) ≡ sizedHead w handle (numberOf q r)
+  due-sized : (e : Number) (handle q : ℕ) (r : Reading) → dueHead (widthOf w e handle q r) ≡ sizedHead w handle (numberOf q r)
   due-sized e handle q failed = refl
   due-sized e handle q (got k b) = go (ltb (w .size) (q + 8 * b + k)) refl
     where

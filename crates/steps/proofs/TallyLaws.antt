@@ -5,7 +5,8 @@ use Prim.Native.Nat.{ℕ, suc, _+_, _%_, _^_}
 use native.Mathlib.Omega.{arith}
 use lib.ListN.{length, getD, set}
 use Rattle.bits.specs.Runs.{store}
-use Rattle.framing.specs.Events.{Leaf, Pair, Number, Event, number, element, leaf, pair, truncation, error, implicit, nested, root, over, Trace}
+use Rattle.bits.specs.Packed.{Number}
+use Rattle.framing.specs.Events.{Leaf, Pair, Event, number, element, leaf, pair, truncation, error, implicit, nested, root, over, Trace}
 use Rattle.framing.specs.Records.{leafRecord, pairRecord, payloadOf}
 use Rattle.outputs.specs.World.{World, apply}
 use Rattle.steps.specs.Held.{held, ran, bumped, reserved}

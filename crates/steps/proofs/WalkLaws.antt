@@ -8,9 +8,11 @@ use mathlib.Core.Bool.{Bool, true, false, _&&_}
 use mathlib.Core.List.{List, [], _∷_, _++_}
 use lib.Dec.{leb, ltb, eqb}
 use borrow.Author.Tests.{lt-leb, le-ltb, ne-eqb}
+use Rattle.bits.proofs.Never.{never}
 use Rattle.bits.specs.Choice.{if_then_else_}
+use Rattle.bits.specs.Packed.{Number}
 use Rattle.framing.specs.Windows.{Window, part, Reading, got, failed, reading}
-use Rattle.framing.specs.Events.{Number, numbers, Event, number, element, truncation, error, implicit, Trace}
+use Rattle.framing.specs.Events.{numbers, Event, number, element, truncation, error, implicit, Trace}
 use Rattle.framing.specs.Walk.{Sink, maxElements, maxFields, numberAt, Lead, ends, fails, closes, opens, lead, Due, cut, broken, closed, present, fieldAt, tail, Run, done, stopped, prepend, fields, closing, inItem, entering, behind, elements, level}
 use Rattle.framing.proofs.StepLaws.{fields-last, fields-step, fields-present, elements-last, elements-step, level-count}
 use Rattle.outputs.specs.World.{World, wrapping}
@@ -179,17 +181,17 @@ module _ (s : Sink) (w : Window) (path : List ℕ) where
   fields-close i zero p first q e = go (lead w p) refl e
     where
       go : (l : Lead) → lead w p ≡ l → lastHead p l ≡ head.Closed q → Closes (fields s w i path 0 p first) q
-      go ends el f = absurd (let z : _≡_ {A = ℕ} 0 1 = cc in omega arith)
-      go fails el f = absurd (let z : _≡_ {A = ℕ} 0 1 = cc in omega arith)
+      go ends el f = never cc
+      go fails el f = never cc
       go (closes y r) el f = let z : r ≡ q = cc in record { read = y; is = rw (fields-last, el) (ap (done (number y ∷ [])) z) }
-      go (opens y h r) el f = absurd (let z : _≡_ {A = ℕ} 0 1 = cc in omega arith)
+      go (opens y h r) el f = never cc
   fields-close i (suc left) p first q e = go (fieldAt w p) refl e
     where
       go : (d : Due) → fieldAt w p ≡ d → dueHead d ≡ head.Closed q → Closes (fields s w i path (suc left) p first) q
-      go cut ed f = absurd (let z : _≡_ {A = ℕ} 0 1 = cc in omega arith)
-      go (broken ns) ed f = absurd (let z : _≡_ {A = ℕ} 0 1 = cc in omega arith)
+      go cut ed f = never cc
+      go (broken ns) ed f = never cc
       go (closed y r) ed f = let z : r ≡ q = cc in record { read = y; is = rw (fields-step, ed) (ap (done (number y ∷ [])) z) }
-      go (present ns h r k) ed f = absurd (let z : _≡_ {A = ℕ} 0 1 = cc in omega arith)
+      go (present ns h r k) ed f = never cc
 
 -- ---- the same at positions of the bytes
 
@@ -202,10 +204,10 @@ record Back (b : ℕ) (g : Head) (v f m : ℕ) : Type 0 where
   from-last : m ≡ b + last
 
 go-back : (b : ℕ) (g : Head) {v f m : ℕ} → shifted b g ≡ head.Go v f m → Back b g v f m
-go-back b head.Ended e = absurd (let z : _≡_ {A = ℕ} 0 1 = cc in omega arith)
-go-back b head.Failed e = absurd (let z : _≡_ {A = ℕ} 0 1 = cc in omega arith)
-go-back b (head.Closed q) e = absurd (let z : _≡_ {A = ℕ} 0 1 = cc in omega arith)
-go-back b (head.Limit q) e = absurd (let z : _≡_ {A = ℕ} 0 1 = cc in omega arith)
+go-back b head.Ended e = never cc
+go-back b head.Failed e = never cc
+go-back b (head.Closed q) e = never cc
+go-back b (head.Limit q) e = never cc
 go-back b (head.Go u q r) {v} {f} {m} e =
     let a : u ≡ v = cc in
     let c : b + q ≡ f = cc in
@@ -213,11 +215,11 @@ go-back b (head.Go u q r) {v} {f} {m} e =
     record { next = q; last = r; is = ap (λ (k : ℕ). head.Go k q r) a; from-next = sym c; from-last = sym d }
 
 closed-back : (b : ℕ) (g : Head) {n : ℕ} → shifted b g ≡ head.Closed n → (g ≡ head.Closed (n - b)) × (n ≡ b + (n - b))
-closed-back b head.Ended e = absurd (let z : _≡_ {A = ℕ} 0 1 = cc in omega arith)
-closed-back b head.Failed e = absurd (let z : _≡_ {A = ℕ} 0 1 = cc in omega arith)
+closed-back b head.Ended e = never cc
+closed-back b head.Failed e = never cc
 closed-back b (head.Closed q) {n} e = let c : b + q ≡ n = cc in let d : q ≡ n - b = omega arith in (ap head.Closed d, omega arith)
-closed-back b (head.Limit q) e = absurd (let z : _≡_ {A = ℕ} 0 1 = cc in omega arith)
-closed-back b (head.Go u q r) e = absurd (let z : _≡_ {A = ℕ} 0 1 = cc in omega arith)
+closed-back b (head.Limit q) e = never cc
+closed-back b (head.Go u q r) e = never cc
 
 -- where what goes on lies, in the bytes
 pub level-next : (bytes : List ℕ) (b end : ℕ) {v f m : ℕ} → levelHead (upTo bytes end) b ≡ head.Go v f m → (b ≤ f) × (f ≤ end)

@@ -7,8 +7,9 @@ use mathlib.Core.List.{List, [], _∷_}
 use lib.Dec.{leb, ltb, eqb}
 use borrow.Author.Tests.{leb-false, ltb-false, eqb-false}
 use Rattle.bits.specs.Choice.{if_then_else_}
+use Rattle.bits.specs.Packed.{Number}
+use Rattle.bits.proofs.Never.{never}
 use Rattle.framing.specs.Windows.{Window, Reading, got, failed, reading}
-use Rattle.framing.specs.Events.{Number}
 use Rattle.framing.specs.Walk.{maxElements, numberAt, Lead, ends, fails, closes, opens, lead, Due, cut, broken, closed, present, fieldAt}
 use Rattle.framing.proofs.Induct.{Inside, inside, nothing, reading-inside, Read, LeadIn, lead-in, DueIn, due-in}
 use Rattle.framing.proofs.Induct as I
@@ -16,9 +17,6 @@ use Rattle.steps.specs.Views.{HeadIn}
 use Rattle.steps.specs.Heads.{numberOf, countHead, levelHead, indexHead, elementHead, lastHead, dueHead, fieldHead}
 use Rattle.steps.specs.declared.Head.{Head}
 use Rattle.steps.specs.declared.Head.the-variants as head
-
-never : {A : Type 0} → _≡_ {A = ℕ} 0 1 → A
-never z = absurd (omega arith)
 
 -- ---- a head's position is in the window
 

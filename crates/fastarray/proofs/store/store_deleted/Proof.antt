@@ -5,7 +5,7 @@ use native.Mathlib.Omega.{arith}
 use mathlib.Core.List.{[], _∷_}
 use lib.IntN.{ℤ}
 use mir.Facts.{toZ-ofZ}
-use Rattle.fastarray.specs.Records.{store}
+use Rattle.bits.specs.Runs.{store}
 use Rattle.fastarray.proofs.StoreLaws.{store-one, store-not}
 use Rattle.fastarray.proofs.store.store_deleted.Statement.{statement}
 use Rattle.fastarray.proofs.store.store_deleted.Tie as tie
