@@ -1,0 +1,132 @@
+-- What the contracts promise: they determine the answers and the buffers, and a refusal leaves every buffer as it was lent.
+use mathlib.Core.Path.{_≡_, refl, sym, ap, _∙_}
+use mathlib.Core.List.{List}
+use Prim.Native.Nat.{ℕ}
+use lib.Dec.{eqb}
+use Rattle.bits.specs.Choice.{if_then_else_}
+use Rattle.framing.specs.Counters.{Counters}
+use Rattle.framing.specs.Sinks as F
+use Rattle.framing.specs.Sinks.{Walk, object, verdictOf}
+use Rattle.framing.specs.Refusing.{Room, Answer, refused, accepted}
+use Rattle.outputs.specs.Answers.{Call, Lent, final}
+use Rattle.outputs.proofs.Passes.{determined, refusal-keeps, pairs-determined, pairs-refusal-keeps}
+use Rattle.array.specs.Refusals.{countersOf, answerOf, pairsOf, sumsOf}
+use Rattle.array.specs.Merges.{Sums, summed, overflowing, merge}
+use Rattle.array.specs.Calls.{verdictIs, Judges, Judged, PairsJudged, Decodes, DecodesPairs}
+use Rattle.array.specs.declared.ArrayDecodeStats.{ArrayDecodeStats}
+use Rattle.array.specs.declared.Extent.{Extent}
+use Rattle.array.specs.declared.Verdict.{Verdict}
+use Rattle.array.specs.declared.Verdict.the-variants as verdict
+use Rattle.array.specs.declared.StructArray.{StructArray}
+use Rattle.array.specs.declared.StructArray.the-variants as structs
+use Rattle.array.specs.declared.ObjectArray.{ObjectArray}
+use Rattle.array.specs.declared.ObjectArray.the-variants as objects
+use Rattle.array.specs.declared.Merged.{Merged}
+use Rattle.array.specs.declared.Merged.the-variants as merged
+
+-- ---- an answer is known by what it says
+
+statsWith : Counters → ArrayDecodeStats
+statsWith c =
+    record {
+      «elements_decoded» = c .elements;
+      «fields_emitted» = c .fields;
+      truncations = c .truncations;
+      errors = c .errors;
+      «unconsumed_nested_bits» = c .nestedBits;
+      «unconsumed_root_bits» = c .rootBits;
+      «implicit_terminations» = c .implicits;
+    }
+
+extentWith : Room → Extent
+extentWith r = record { leaves = r .leaves; «path_bytes» = r .pathBytes; «payload_bytes» = r .payloadBytes }
+
+verdictWith : F.Verdict → Verdict
+verdictWith F.clean = verdict.Clean
+verdictWith F.partial = verdict.Partial
+
+verdict-back : (v : Verdict) → verdictWith (verdictIs v) ≡ v
+unfolding verdictWith
+verdict-back verdict.Clean = refl
+verdict-back verdict.Partial = refl
+
+-- the verdict that a walk's counters get
+judged : Walk → (bits : ℕ) → Counters → Verdict
+judged k bits c = verdictWith (verdictOf k bits c)
+
+judged-back : (k : Walk) (bits : ℕ) (c : Counters) (v : Verdict) → verdictIs v ≡ verdictOf k bits c → judged k bits c ≡ v
+unfolding judged
+judged-back k bits c v e = sym (ap verdictWith e) ∙ verdict-back v
+
+structWith : Walk → (bits : ℕ) → Answer Room → StructArray
+structWith k bits (accepted c n) = structs.Decoded (statsWith c) (judged k bits c) (extentWith n)
+structWith k bits (refused number n) =
+    if eqb number 1 then structs.TooLong else
+    (if eqb number 2 then structs.BrokenTables else (if eqb number 5 then structs.PathTooLong else structs.Short (extentWith n)))
+
+struct-back : (k : Walk) (bits : ℕ) (r : StructArray) → Judged k bits r → structWith k bits (answerOf r) ≡ r
+unfolding structWith statsWith extentWith
+struct-back k bits (structs.Decoded s v e) j = ap (λ (x : Verdict). structs.Decoded s x e) (judged-back k bits (countersOf s) v j)
+struct-back k bits structs.TooLong j = refl
+struct-back k bits structs.BrokenTables j = refl
+struct-back k bits structs.PathTooLong j = refl
+struct-back k bits (structs.Short e) j = refl
+
+objectWith : (bits : ℕ) → Answer ℕ → ObjectArray
+objectWith bits (accepted c n) = objects.Decoded (statsWith c) (judged object bits c) n
+objectWith bits (refused number n) = if eqb number 1 then objects.TooLong else objects.Short n
+
+object-back : (bits : ℕ) (r : ObjectArray) → PairsJudged bits r → objectWith bits (pairsOf r) ≡ r
+unfolding objectWith statsWith
+object-back bits (objects.Decoded s v n) j = ap (λ (x : Verdict). objects.Decoded s x n) (judged-back object bits (countersOf s) v j)
+object-back bits objects.TooLong j = refl
+object-back bits (objects.Short n) j = refl
+
+mergedWith : Sums → Merged
+mergedWith (summed c) = merged.Sum (statsWith c)
+mergedWith (overflowing number c) = merged.Overflow (statsWith c)
+
+merged-back : (r : Merged) → mergedWith (sumsOf r) ≡ r
+unfolding mergedWith statsWith
+merged-back (merged.Sum s) = refl
+merged-back (merged.Overflow s) = refl
+
+-- ---- the contracts determine the calls
+
+-- Two answers of a struct or exact walk that meet the contract are the same, with the same buffers.
+pub one-struct : (c : Call) (b : Lent) (r s : StructArray) (x y : Lent) → Decodes c b r x → Decodes c b s y → (r ≡ s) × (x ≡ y)
+one-struct c b r s x y f g =
+    let d = determined c b (answerOf r) (answerOf s) x y (f .answered) (g .answered) in
+    (sym (struct-back (c .how) (c .bits) r (f .judged)) ∙ ap (structWith (c .how) (c .bits)) (d .0) ∙ struct-back (c .how) (c .bits) s (g .judged), d .1)
+
+-- The same of the object walk.
+pub one-object : (bytes : List ℕ) (bits : ℕ) (b : List ℕ) (r s : ObjectArray) (x y : List ℕ)
+    → DecodesPairs bytes bits b r x → DecodesPairs bytes bits b s y → (r ≡ s) × (x ≡ y)
+one-object bytes bits b r s x y f g =
+    let d = pairs-determined bytes bits b (pairsOf r) (pairsOf s) x y (f .answered) (g .answered) in
+    (sym (object-back bits r (f .judged)) ∙ ap (objectWith bits) (d .0) ∙ object-back bits s (g .judged), d .1)
+
+-- The same of a merge, and of a verdict.
+pub one-merged : (left right : Counters) (r s : Merged) → sumsOf r ≡ merge left right → sumsOf s ≡ merge left right → r ≡ s
+one-merged left right r s f g = sym (merged-back r) ∙ ap mergedWith (f ∙ sym g) ∙ merged-back s
+
+pub one-verdict : (c : Counters) (r s : Verdict) → Judges c r → Judges c s → r ≡ s
+one-verdict c r s f g = sym (verdict-back r) ∙ ap verdictWith (f object 0 ∙ sym (g object 0)) ∙ verdict-back s
+
+-- ---- refusals change no buffer
+
+-- A refused walk, with whatever number, leaves every buffer as it was lent.
+pub refused-buffers : (c : Call) (b : Lent) (r : StructArray) (x : Lent) → Decodes c b r x → (number : ℕ) (need : Room) → answerOf r ≡ refused number need → x ≡ b
+refused-buffers c b r x f number need e =
+    let a = f .answered in
+    let l = a .leaves in
+    let p = a .paths in
+    let y = a .payloads in
+    let all : x ≡ final c b = λ i. record { leaves = l i; paths = p i; payloads = y i } in
+    all ∙ refusal-keeps c b number need (sym (a .says) ∙ e)
+
+pub refused-pairs : (bytes : List ℕ) (bits : ℕ) (b : List ℕ) (r : ObjectArray) (x : List ℕ) → DecodesPairs bytes bits b r x → (number need : ℕ)
+    → pairsOf r ≡ refused number need → x ≡ b
+refused-pairs bytes bits b r x f number need e =
+    let a = f .answered in
+    a .pairs ∙ pairs-refusal-keeps bytes bits b number need (sym (a .says) ∙ e)

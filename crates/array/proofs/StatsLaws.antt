@@ -1,0 +1,132 @@
+-- Counters: when they are clean, which verdict they get, and when two of them have sums.
+use mathlib.Core.Path.{_≡_, refl, sym, ap}
+use mathlib.Core.Bool.{Bool, true, false, _&&_}
+use Prim.Native.Nat.{ℕ, _+_, _-_, _<_}
+use native.Mathlib.Omega.{arith}
+use lib.Dec.{leb, ltb, eqb}
+use borrow.Author.Tests.{ltb-true, leb-true, leb-false, lt-ltb, le-ltb, ne-eqb}
+use Rattle.framing.specs.Counters.{Counters, sums, faults, isClean}
+use Rattle.framing.specs.Sinks.{verdictOf}
+use Rattle.framing.proofs.Demand3.{and-true}
+use Rattle.array.specs.Merges.{summed, overflowing, most, bounded, merge}
+use Rattle.array.specs.Calls.{Judges}
+use Rattle.array.specs.declared.Verdict.the-variants as verdict
+
+-- ---- clean
+
+module _ (c : Counters) where
+  unclean : (faults c ≡ 0 → ⊥) → false ≡ isClean c
+  unclean h = sym (ne-eqb (faults c) 0 h)
+
+  pub truncated : (c .truncations ≡ 0 → ⊥) → false ≡ isClean c
+  truncated h = unclean (λ e. h (omega arith))
+
+  pub failed : (c .errors ≡ 0 → ⊥) → false ≡ isClean c
+  failed h = unclean (λ e. h (omega arith))
+
+  pub left-inside : (c .nestedBits ≡ 0 → ⊥) → false ≡ isClean c
+  left-inside h = unclean (λ e. h (omega arith))
+
+  pub left-behind : (c .rootBits ≡ 0 → ⊥) → false ≡ isClean c
+  left-behind h = unclean (λ e. h (omega arith))
+
+-- where four of the five are 0 the last decides
+pub last-decides : (c : Counters) → c .truncations ≡ 0 → c .errors ≡ 0 → c .nestedBits ≡ 0 → c .rootBits ≡ 0 → eqb (c .implicits) 0 ≡ isClean c
+last-decides c t r n b = let e : c .implicits ≡ faults c = omega arith in ap (λ (k : ℕ). eqb k 0) e
+
+-- ---- verdicts
+
+pub judged-clean : (c : Counters) → isClean c ≡ true → Judges c verdict.Clean
+unfolding verdictOf
+judged-clean c h k bits = simp h
+
+pub judged-partial : (c : Counters) → isClean c ≡ false → Judges c verdict.Partial
+unfolding verdictOf
+judged-partial c h k bits = simp h
+
+-- ---- sums
+
+-- the code's test of one sum
+pub sum-below : (a b : ℕ) → b < most → leb a (18446744073709551615 - b) ≡ ltb (a + b) most
+sum-below a b h = go (leb a (18446744073709551615 - b)) refl
+  where
+    go : (x : Bool) → leb a (18446744073709551615 - b) ≡ x → x ≡ ltb (a + b) most
+    go true e = let f = leb-true a (18446744073709551615 - b) e in sym (lt-ltb (a + b) most (omega arith))
+    go false e = let f = leb-false a (18446744073709551615 - b) e in sym (le-ltb (a + b) most (omega arith))
+
+module _ (c : Counters) where
+  pub past-elements : ltb (c .elements) most ≡ false → false ≡ bounded c
+  unfolding bounded
+  past-elements e = simp e
+
+  module _ (e₁ : ltb (c .elements) most ≡ true) where
+    pub past-fields : ltb (c .fields) most ≡ false → false ≡ bounded c
+    unfolding bounded
+    past-fields e = simp (e₁, e)
+
+    module _ (e₂ : ltb (c .fields) most ≡ true) where
+      pub past-truncations : ltb (c .truncations) most ≡ false → false ≡ bounded c
+      unfolding bounded
+      past-truncations e = simp (e₁, e₂, e)
+
+      module _ (e₃ : ltb (c .truncations) most ≡ true) where
+        pub past-errors : ltb (c .errors) most ≡ false → false ≡ bounded c
+        unfolding bounded
+        past-errors e = simp (e₁, e₂, e₃, e)
+
+        module _ (e₄ : ltb (c .errors) most ≡ true) where
+          pub past-nested : ltb (c .nestedBits) most ≡ false → false ≡ bounded c
+          unfolding bounded
+          past-nested e = simp (e₁, e₂, e₃, e₄, e)
+
+          module _ (e₅ : ltb (c .nestedBits) most ≡ true) where
+            pub past-root : ltb (c .rootBits) most ≡ false → false ≡ bounded c
+            unfolding bounded
+            past-root e = simp (e₁, e₂, e₃, e₄, e₅, e)
+
+            pub implicits-decide : ltb (c .rootBits) most ≡ true → ltb (c .implicits) most ≡ bounded c
+            unfolding bounded
+            implicits-decide e₆ = simp (e₁, e₂, e₃, e₄, e₅, e₆)
+
+-- each counter, where none is too large
+pub record Below (c : Counters) : Type 0 where
+  pub elements : c .elements < most
+  pub fields : c .fields < most
+  pub truncations : c .truncations < most
+  pub errors : c .errors < most
+  pub nestedBits : c .nestedBits < most
+  pub rootBits : c .rootBits < most
+  pub implicits : c .implicits < most
+
+pub each-below : (c : Counters) → bounded c ≡ true → Below c
+unfolding bounded
+each-below c h =
+    let a₇ = ltb (c .implicits) most in
+    let a₆ = ltb (c .rootBits) most && a₇ in
+    let a₅ = ltb (c .nestedBits) most && a₆ in
+    let a₄ = ltb (c .errors) most && a₅ in
+    let a₃ = ltb (c .truncations) most && a₄ in
+    let a₂ = ltb (c .fields) most && a₃ in
+    let h₁ = and-true (ltb (c .elements) most) a₂ h in
+    let h₂ = and-true (ltb (c .fields) most) a₃ (h₁ .1) in
+    let h₃ = and-true (ltb (c .truncations) most) a₄ (h₂ .1) in
+    let h₄ = and-true (ltb (c .errors) most) a₅ (h₃ .1) in
+    let h₅ = and-true (ltb (c .nestedBits) most) a₆ (h₄ .1) in
+    let h₆ = and-true (ltb (c .rootBits) most) a₇ (h₅ .1) in
+    record {
+      elements = ltb-true _ _ (h₁ .0);
+      fields = ltb-true _ _ (h₂ .0);
+      truncations = ltb-true _ _ (h₃ .0);
+      errors = ltb-true _ _ (h₄ .0);
+      nestedBits = ltb-true _ _ (h₅ .0);
+      rootBits = ltb-true _ _ (h₆ .0);
+      implicits = ltb-true _ _ (h₆ .1);
+    }
+
+pub merge-sums : (a b : Counters) → bounded (sums a b) ≡ true → summed (sums a b) ≡ merge a b
+unfolding merge
+merge-sums a b h = simp h
+
+pub merge-refused : (a b : Counters) → bounded (sums a b) ≡ false → overflowing 4 a ≡ merge a b
+unfolding merge
+merge-refused a b h = simp h

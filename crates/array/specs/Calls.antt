@@ -1,0 +1,63 @@
+-- The contracts of the three public walks: the answer and the buffers of `outputs`, and the verdict of an accepted answer.
+use Prim.Native.Nat.{ℕ}
+use mathlib.Core.Path.{_≡_}
+use mathlib.Core.List.{List}
+use Rattle.schema.specs.Tables.{Tables}
+use Rattle.framing.specs.Counters.{Counters}
+use Rattle.framing.specs.Sinks as F
+use Rattle.framing.specs.Sinks.{Walk, struct, exact, object, verdictOf}
+use Rattle.outputs.specs.Answers.{Call, Lent, Answered, PairsAnswered}
+use Rattle.array.specs.Refusals.{countersOf, answerOf, pairsOf}
+use Rattle.array.specs.declared.Verdict.{Verdict}
+use Rattle.array.specs.declared.Verdict.the-variants as verdict
+use Rattle.array.specs.declared.StructArray.{StructArray}
+use Rattle.array.specs.declared.StructArray.the-variants as structs
+use Rattle.array.specs.declared.ObjectArray.{ObjectArray}
+use Rattle.array.specs.declared.ObjectArray.the-variants as objects
+
+-- ---- calls and buffers, by their parameters
+
+abbrev pub callOf : Walk → (levels : ℕ) (bytes : List ℕ) (bits : ℕ) → Call
+callOf k levels bytes bits = record { how = k; levels = levels; bytes = bytes; bits = bits }
+
+abbrev pub structCall : (bytes : List ℕ) (bits : ℕ) → Tables → (levels root : ℕ) → Call
+structCall bytes bits t levels root = callOf (struct t root) levels bytes bits
+
+abbrev pub exactCall : (bytes : List ℕ) (bits : ℕ) (declared declaredNames : List ℕ) → Call
+exactCall bytes bits d n = callOf (exact d n) 0 bytes bits
+
+abbrev pub lent : (leaves paths payloads : List ℕ) → Lent
+lent l p y = record { leaves = l; paths = p; payloads = y }
+
+-- ---- verdicts
+
+abbrev pub verdictIs : Verdict → F.Verdict
+verdictIs verdict.Clean = F.clean
+verdictIs verdict.Partial = F.partial
+
+-- a verdict on such counters, of whichever walk and however many bits
+abbrev pub Judges : Counters → Verdict → Type 0
+Judges c v = (k : Walk) (bits : ℕ) → verdictIs v ≡ verdictOf k bits c
+
+-- an accepted answer carries the verdict of its walk
+abbrev pub Judged : Walk → (bits : ℕ) → StructArray → Type 0
+Judged k bits (structs.Decoded s v e) = verdictIs v ≡ verdictOf k bits (countersOf s)
+Judged k bits structs.TooLong = Unit
+Judged k bits structs.BrokenTables = Unit
+Judged k bits structs.PathTooLong = Unit
+Judged k bits (structs.Short e) = Unit
+
+abbrev pub PairsJudged : (bits : ℕ) → ObjectArray → Type 0
+PairsJudged bits (objects.Decoded s v n) = verdictIs v ≡ verdictOf object bits (countersOf s)
+PairsJudged bits objects.TooLong = Unit
+PairsJudged bits (objects.Short n) = Unit
+
+-- ---- the contracts: what was lent, the answer, and what the buffers hold at the exit
+
+pub record Decodes (c : Call) (b : Lent) (r : StructArray) (end : Lent) : Type 0 where
+  pub answered : Answered c b (answerOf r) end
+  pub judged : Judged (c .how) (c .bits) r
+
+pub record DecodesPairs (bytes : List ℕ) (bits : ℕ) (b : List ℕ) (r : ObjectArray) (end : List ℕ) : Type 0 where
+  pub answered : PairsAnswered bytes bits b (pairsOf r) end
+  pub judged : PairsJudged bits r

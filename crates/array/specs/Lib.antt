@@ -1,0 +1,4 @@
+pub mod Merges
+pub mod Refusals
+pub mod Calls
+pub mod Passing
