@@ -40,15 +40,15 @@ pub struct ArrayDecodeStats {
     pub elements_decoded: u64,
     // Leaves, kept tails among them; in an object walk pairs.
     pub fields_emitted: u64,
-    // Limits that were hit: of elements, of fields, of depth.
+    // Times that more stood there than is allowed: elements, fields, levels.
     pub truncations: u64,
-    // Numbers that can't be read, indexes past the count, payloads past the window: the only sign that leaves were lost.
+    // Numbers that can't be read, indexes past the count, payloads past the window. The rest of that array is lost.
     pub errors: u64,
     // Bits inside payloads that the walk stepped past.
     pub unconsumed_nested_bits: u64,
     // Bits behind the root array's terminator.
     pub unconsumed_root_bits: u64,
-    // Elements and arrays that end with the window: the only sign that it was cut short.
+    // Elements and arrays that the window's end cuts off before their zero.
     pub implicit_terminations: u64,
 }
 
