@@ -162,10 +162,13 @@ pub fn stats_of(c: &[u32; 11]) -> ArrayDecodeStats
 pub fn extent_of(c: &[u32; 11]) -> Extent
     ensures { λ r. ⌜ roomIn r ≡ measured (held (now (c .entry)) [] [] []) ⌝ }
 {
+    let leaves = c[WORDS] / LEAF_WORDS;
+    let path_bytes = c[TEXT];
+    let payload_bytes = c[LOAD];
     Extent {
-        leaves: c[WORDS] / LEAF_WORDS,
-        path_bytes: c[TEXT],
-        payload_bytes: c[LOAD],
+        leaves,
+        path_bytes,
+        payload_bytes,
     }
 }
 

@@ -78,14 +78,21 @@ pub fn merge_from(left: ArrayDecodeStats, right: ArrayDecodeStats) -> Merged
     if !sums_fit(left, right) {
         return Merged::Overflow(left);
     }
+    let elements_decoded = left.elements_decoded + right.elements_decoded;
+    let fields_emitted = left.fields_emitted + right.fields_emitted;
+    let truncations = left.truncations + right.truncations;
+    let errors = left.errors + right.errors;
+    let unconsumed_nested_bits = left.unconsumed_nested_bits + right.unconsumed_nested_bits;
+    let unconsumed_root_bits = left.unconsumed_root_bits + right.unconsumed_root_bits;
+    let implicit_terminations = left.implicit_terminations + right.implicit_terminations;
     let sum = ArrayDecodeStats {
-        elements_decoded: left.elements_decoded + right.elements_decoded,
-        fields_emitted: left.fields_emitted + right.fields_emitted,
-        truncations: left.truncations + right.truncations,
-        errors: left.errors + right.errors,
-        unconsumed_nested_bits: left.unconsumed_nested_bits + right.unconsumed_nested_bits,
-        unconsumed_root_bits: left.unconsumed_root_bits + right.unconsumed_root_bits,
-        implicit_terminations: left.implicit_terminations + right.implicit_terminations,
+        elements_decoded,
+        fields_emitted,
+        truncations,
+        errors,
+        unconsumed_nested_bits,
+        unconsumed_root_bits,
+        implicit_terminations,
     };
     Merged::Sum(sum)
 }

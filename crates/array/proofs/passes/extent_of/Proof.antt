@@ -5,14 +5,14 @@ use Rattle.steps.specs.Held.{held}
 use Rattle.array.proofs.passes.extent_of.Statement.{statement}
 use Rattle.array.proofs.passes.extent_of.Tie as tie
 
-element-copy-out-t4 : tie.Need-element-copy-out-t4
-element-copy-out-t4 c = search needs
+element-copy-out-leaves : tie.Need-element-copy-out-leaves
+element-copy-out-leaves c = search needs
 
-element-copy-out-t8 : tie.Need-element-copy-out-t8
-element-copy-out-t8 c = search needs
+element-copy-out-path-bytes : tie.Need-element-copy-out-path-bytes
+element-copy-out-path-bytes c = search needs
 
-element-copy-out-t11 : tie.Need-element-copy-out-t11
-element-copy-out-t11 c = search needs
+element-copy-out-payload-bytes : tie.Need-element-copy-out-payload-bytes
+element-copy-out-payload-bytes c = search needs
 
 returns : tie.Need-returns
 unfolding held
@@ -20,4 +20,9 @@ returns c = refl
 
 pub extent-of-spec : {M : Type 1} → statement M
 extent-of-spec =
-    tie.close (tie.spec element-copy-out-t4 element-copy-out-t8 element-copy-out-t11 returns)
+    tie.close
+    (tie.spec
+    element-copy-out-leaves
+    element-copy-out-path-bytes
+    element-copy-out-payload-bytes
+    returns)

@@ -19,10 +19,14 @@ count-requires : tie.Need-count-requires
 count-requires c κs = search needs
 
 returns-2 : tie.Need-returns-2
-returns-2 c = ran-past _ _ _ _ _ _ _ (sym (c .before .before .before .before .is-silent .ensures) ∙ c .before .before .before .if1 .left) (c .before .before .if2 .taken) (by-count _ _ _ _ _ _ _ _ (c .count .ensures) (count-error _ _ _ _))
+returns-2 c =
+    ran-past _ _ _ _ _ _ _ (sym (c .before .before .before .before .is-silent .ensures) ∙ c .before .before .before .if1 .left) (c .before .before .if2 .taken)
+    (by-count _ _ _ _ _ _ _ _ (c .count .ensures) (count-error _ _ _ _))
 
 walk-level-requires : tie.Need-walk-level-requires
-walk-level-requires c κs = ready _ _ _ _ (c .before .before .before .before .before .before .before .before .before .before .before .before .before .before .before .before .pre) (c .before .before .before .before .before .if2 .left)
+walk-level-requires c κs =
+    let t = c .before .before .before .before .before in
+    ready _ _ _ _ (t .before .before .before .before .before .before .before .before .before .before .before .pre) (t .if2 .left)
 
 same-length : tie.Need-same-length
 same-length c = search needs
@@ -34,7 +38,10 @@ same-length-3 : tie.Need-same-length-3
 same-length-3 c = search needs
 
 returns-3 : tie.Need-returns-3
-returns-3 c = ran-level _ _ _ _ _ _ _ (sym (c .before .before .before .before .before .before .before .before .before .before .before .before .before .before .is-silent .ensures) ∙ c .before .before .before .before .before .before .before .before .before .before .before .before .before .if1 .left) (c .before .before .before .before .before .before .before .before .before .before .before .before .if2 .left) (c .before .before .before .before .before .before .walk-level .ensures .out 0)
+returns-3 c =
+    let t = c .before .before .before .before .before .before .before .before .before .before .before .before in
+    ran-level _ _ _ _ _ _ _ (sym (t .before .before .is-silent .ensures) ∙ t .before .if1 .left) (t .if2 .left)
+    (c .before .before .before .before .before .before .walk-level .ensures .out 0)
 
 pub pass-spec : {M : Type 1} → statement M
 pass-spec =

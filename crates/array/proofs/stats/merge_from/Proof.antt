@@ -3,7 +3,9 @@ use borrow.Author.Needs.{needs}
 use mathlib.Core.Path.{sym, _∙_}
 use native.Mathlib.Omega.{arith}
 use borrow.Author.Tests.{not-true, not-false}
-use Rattle.array.proofs.StatsLaws.{each-below, merge-sums, merge-refused}
+use Rattle.framing.specs.Counters.{sums}
+use Rattle.array.specs.Refusals.{countersOf}
+use Rattle.array.proofs.StatsLaws.{Below, each-below, merge-sums, merge-refused}
 use Rattle.array.proofs.stats.merge_from.Statement.{statement}
 use Rattle.array.proofs.stats.merge_from.Tie as tie
 
@@ -13,29 +15,38 @@ sums-fit-requires c κs = search needs
 returns : tie.Need-returns
 returns c = merge-refused _ _ (sym (c .before .sums-fit .ensures) ∙ not-true _ (c .if1 .taken))
 
-add-t6 : tie.Need-add-t6
-add-t6 c = let h = each-below _ (sym (c .before .before .before .sums-fit .ensures) ∙ not-false _ (c .before .before .if1 .left)) .elements in omega arith
+-- no sum passes
+below : (c : tie.Else1) → Below (sums (countersOf (c .before .before .args .left)) (countersOf (c .before .before .args .right)))
+below c = each-below _ (sym (c .before .sums-fit .ensures) ∙ not-false _ (c .if1 .left))
 
-add-t7 : tie.Need-add-t7
-add-t7 c = let h = each-below _ (sym (c .before .before .before .before .before .sums-fit .ensures) ∙ not-false _ (c .before .before .before .before .if1 .left)) .fields in omega arith
+add-elements-decoded : tie.Need-add-elements-decoded
+add-elements-decoded c = let h = below (c .before .before) .elements in omega arith
 
-add-t8 : tie.Need-add-t8
-add-t8 c = let h = each-below _ (sym (c .before .before .before .before .before .before .before .sums-fit .ensures) ∙ not-false _ (c .before .before .before .before .before .before .if1 .left)) .truncations in omega arith
+add-fields-emitted : tie.Need-add-fields-emitted
+add-fields-emitted c = let h = below (c .before .before .before .before) .fields in omega arith
 
-add-t9 : tie.Need-add-t9
-add-t9 c = let h = each-below _ (sym (c .before .before .before .before .before .before .before .before .before .sums-fit .ensures) ∙ not-false _ (c .before .before .before .before .before .before .before .before .if1 .left)) .errors in omega arith
+add-truncations : tie.Need-add-truncations
+add-truncations c = let h = below (c .before .before .before .before .before .before) .truncations in omega arith
 
-add-t10 : tie.Need-add-t10
-add-t10 c = let h = each-below _ (sym (c .before .before .before .before .before .before .before .before .before .before .before .sums-fit .ensures) ∙ not-false _ (c .before .before .before .before .before .before .before .before .before .before .if1 .left)) .nestedBits in omega arith
+add-errors : tie.Need-add-errors
+add-errors c = let h = below (c .before .before .before .before .before .before .before .before) .errors in omega arith
 
-add-t11 : tie.Need-add-t11
-add-t11 c = let h = each-below _ (sym (c .before .before .before .before .before .before .before .before .before .before .before .before .before .sums-fit .ensures) ∙ not-false _ (c .before .before .before .before .before .before .before .before .before .before .before .before .if1 .left)) .rootBits in omega arith
+add-unconsumed-nested-bits : tie.Need-add-unconsumed-nested-bits
+add-unconsumed-nested-bits c =
+    let h = below (c .before .before .before .before .before .before .before .before .before .before) .nestedBits in omega arith
 
-add-t12 : tie.Need-add-t12
-add-t12 c = let h = each-below _ (sym (c .before .before .before .before .before .before .before .before .before .before .before .before .before .before .before .sums-fit .ensures) ∙ not-false _ (c .before .before .before .before .before .before .before .before .before .before .before .before .before .before .if1 .left)) .implicits in omega arith
+add-unconsumed-root-bits : tie.Need-add-unconsumed-root-bits
+add-unconsumed-root-bits c =
+    let h = below (c .before .before .before .before .before .before .before .before .before .before .before .before) .rootBits in omega arith
+
+add-implicit-terminations : tie.Need-add-implicit-terminations
+add-implicit-terminations c =
+    let h = below (c .before .before .before .before .before .before .before .before .before .before .before .before .before .before) .implicits in omega arith
 
 returns-2 : tie.Need-returns-2
-returns-2 c = merge-sums _ _ (sym (c .before .before .before .before .before .before .before .before .before .before .before .before .before .before .before .sums-fit .ensures) ∙ not-false _ (c .before .before .before .before .before .before .before .before .before .before .before .before .before .before .if1 .left))
+returns-2 c =
+    let t = c .before .before .before .before .before .before .before .before .before .before .before .before .before .before in
+    merge-sums _ _ (sym (t .before .sums-fit .ensures) ∙ not-false _ (t .if1 .left))
 
 pub merge-from-spec : {M : Type 1} → statement M
 merge-from-spec =
@@ -43,11 +54,11 @@ merge-from-spec =
     (tie.spec
     sums-fit-requires
     returns
-    add-t6
-    add-t7
-    add-t8
-    add-t9
-    add-t10
-    add-t11
-    add-t12
+    add-elements-decoded
+    add-fields-emitted
+    add-truncations
+    add-errors
+    add-unconsumed-nested-bits
+    add-unconsumed-root-bits
+    add-implicit-terminations
     returns-2)
