@@ -8,7 +8,7 @@ use borrow.Author.Tests.{ltb-true, leb-true, leb-false, lt-ltb, le-ltb, ne-eqb}
 use Rattle.framing.specs.Counters.{Counters, sums, faults, isClean}
 use Rattle.framing.specs.Sinks.{verdictOf}
 use Rattle.framing.proofs.Demand3.{and-true}
-use Rattle.array.specs.Merges.{summed, overflowing, most, bounded, merge}
+use Rattle.array.specs.Merges.{summed, overflowing, counterLimit, bounded, merge}
 use Rattle.array.specs.Calls.{Judges}
 use Rattle.array.specs.declared.Verdict.the-variants as verdict
 
@@ -47,72 +47,72 @@ judged-partial c h k bits = simp h
 -- ---- sums
 
 -- the code's test of one sum
-pub sum-below : (a b : ℕ) → b < most → leb a (18446744073709551615 - b) ≡ ltb (a + b) most
+pub sum-below : (a b : ℕ) → b < counterLimit → leb a (18446744073709551615 - b) ≡ ltb (a + b) counterLimit
 sum-below a b h = go (leb a (18446744073709551615 - b)) refl
   where
-    go : (x : Bool) → leb a (18446744073709551615 - b) ≡ x → x ≡ ltb (a + b) most
-    go true e = let f = leb-true a (18446744073709551615 - b) e in sym (lt-ltb (a + b) most (omega arith))
-    go false e = let f = leb-false a (18446744073709551615 - b) e in sym (le-ltb (a + b) most (omega arith))
+    go : (x : Bool) → leb a (18446744073709551615 - b) ≡ x → x ≡ ltb (a + b) counterLimit
+    go true e = let f = leb-true a (18446744073709551615 - b) e in sym (lt-ltb (a + b) counterLimit (omega arith))
+    go false e = let f = leb-false a (18446744073709551615 - b) e in sym (le-ltb (a + b) counterLimit (omega arith))
 
 module _ (c : Counters) where
-  pub past-elements : ltb (c .elements) most ≡ false → false ≡ bounded c
+  pub past-elements : ltb (c .elements) counterLimit ≡ false → false ≡ bounded c
   unfolding bounded
   past-elements e = simp e
 
-  module _ (e₁ : ltb (c .elements) most ≡ true) where
-    pub past-fields : ltb (c .fields) most ≡ false → false ≡ bounded c
+  module _ (e₁ : ltb (c .elements) counterLimit ≡ true) where
+    pub past-fields : ltb (c .fields) counterLimit ≡ false → false ≡ bounded c
     unfolding bounded
     past-fields e = simp (e₁, e)
 
-    module _ (e₂ : ltb (c .fields) most ≡ true) where
-      pub past-truncations : ltb (c .truncations) most ≡ false → false ≡ bounded c
+    module _ (e₂ : ltb (c .fields) counterLimit ≡ true) where
+      pub past-truncations : ltb (c .truncations) counterLimit ≡ false → false ≡ bounded c
       unfolding bounded
       past-truncations e = simp (e₁, e₂, e)
 
-      module _ (e₃ : ltb (c .truncations) most ≡ true) where
-        pub past-errors : ltb (c .errors) most ≡ false → false ≡ bounded c
+      module _ (e₃ : ltb (c .truncations) counterLimit ≡ true) where
+        pub past-errors : ltb (c .errors) counterLimit ≡ false → false ≡ bounded c
         unfolding bounded
         past-errors e = simp (e₁, e₂, e₃, e)
 
-        module _ (e₄ : ltb (c .errors) most ≡ true) where
-          pub past-nested : ltb (c .nestedBits) most ≡ false → false ≡ bounded c
+        module _ (e₄ : ltb (c .errors) counterLimit ≡ true) where
+          pub past-nested : ltb (c .nestedBits) counterLimit ≡ false → false ≡ bounded c
           unfolding bounded
           past-nested e = simp (e₁, e₂, e₃, e₄, e)
 
-          module _ (e₅ : ltb (c .nestedBits) most ≡ true) where
-            pub past-root : ltb (c .rootBits) most ≡ false → false ≡ bounded c
+          module _ (e₅ : ltb (c .nestedBits) counterLimit ≡ true) where
+            pub past-root : ltb (c .rootBits) counterLimit ≡ false → false ≡ bounded c
             unfolding bounded
             past-root e = simp (e₁, e₂, e₃, e₄, e₅, e)
 
-            pub implicits-decide : ltb (c .rootBits) most ≡ true → ltb (c .implicits) most ≡ bounded c
+            pub implicits-decide : ltb (c .rootBits) counterLimit ≡ true → ltb (c .implicits) counterLimit ≡ bounded c
             unfolding bounded
             implicits-decide e₆ = simp (e₁, e₂, e₃, e₄, e₅, e₆)
 
 -- each counter, where none is too large
 pub record Below (c : Counters) : Type 0 where
-  pub elements : c .elements < most
-  pub fields : c .fields < most
-  pub truncations : c .truncations < most
-  pub errors : c .errors < most
-  pub nestedBits : c .nestedBits < most
-  pub rootBits : c .rootBits < most
-  pub implicits : c .implicits < most
+  pub elements : c .elements < counterLimit
+  pub fields : c .fields < counterLimit
+  pub truncations : c .truncations < counterLimit
+  pub errors : c .errors < counterLimit
+  pub nestedBits : c .nestedBits < counterLimit
+  pub rootBits : c .rootBits < counterLimit
+  pub implicits : c .implicits < counterLimit
 
 pub each-below : (c : Counters) → bounded c ≡ true → Below c
 unfolding bounded
 each-below c h =
-    let a₇ = ltb (c .implicits) most in
-    let a₆ = ltb (c .rootBits) most && a₇ in
-    let a₅ = ltb (c .nestedBits) most && a₆ in
-    let a₄ = ltb (c .errors) most && a₅ in
-    let a₃ = ltb (c .truncations) most && a₄ in
-    let a₂ = ltb (c .fields) most && a₃ in
-    let h₁ = and-true (ltb (c .elements) most) a₂ h in
-    let h₂ = and-true (ltb (c .fields) most) a₃ (h₁ .1) in
-    let h₃ = and-true (ltb (c .truncations) most) a₄ (h₂ .1) in
-    let h₄ = and-true (ltb (c .errors) most) a₅ (h₃ .1) in
-    let h₅ = and-true (ltb (c .nestedBits) most) a₆ (h₄ .1) in
-    let h₆ = and-true (ltb (c .rootBits) most) a₇ (h₅ .1) in
+    let a₇ = ltb (c .implicits) counterLimit in
+    let a₆ = ltb (c .rootBits) counterLimit && a₇ in
+    let a₅ = ltb (c .nestedBits) counterLimit && a₆ in
+    let a₄ = ltb (c .errors) counterLimit && a₅ in
+    let a₃ = ltb (c .truncations) counterLimit && a₄ in
+    let a₂ = ltb (c .fields) counterLimit && a₃ in
+    let h₁ = and-true (ltb (c .elements) counterLimit) a₂ h in
+    let h₂ = and-true (ltb (c .fields) counterLimit) a₃ (h₁ .1) in
+    let h₃ = and-true (ltb (c .truncations) counterLimit) a₄ (h₂ .1) in
+    let h₄ = and-true (ltb (c .errors) counterLimit) a₅ (h₃ .1) in
+    let h₅ = and-true (ltb (c .nestedBits) counterLimit) a₆ (h₄ .1) in
+    let h₆ = and-true (ltb (c .rootBits) counterLimit) a₇ (h₅ .1) in
     record {
       elements = ltb-true _ _ (h₁ .0);
       fields = ltb-true _ _ (h₂ .0);

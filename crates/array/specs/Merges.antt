@@ -11,14 +11,14 @@ pub data Sums : Type 0 where
   overflowing : (number : ℕ) → Counters → Sums
 
 -- one more than the largest counter
-abbrev pub most : ℕ
-most = 2 ^ 64
+abbrev pub counterLimit : ℕ
+counterLimit = 2 ^ 64
 
 -- no counter passes 2 ^ 64 - 1
 unfoldable pub bounded : Counters → Bool
 bounded c =
-    ltb (c .elements) most && (ltb (c .fields) most && (ltb (c .truncations) most && (ltb (c .errors) most
-    && (ltb (c .nestedBits) most && (ltb (c .rootBits) most && ltb (c .implicits) most)))))
+    ltb (c .elements) counterLimit && (ltb (c .fields) counterLimit && (ltb (c .truncations) counterLimit && (ltb (c .errors) counterLimit
+    && (ltb (c .nestedBits) counterLimit && (ltb (c .rootBits) counterLimit && ltb (c .implicits) counterLimit)))))
 
 -- counter by counter; if one sum passes, none is taken
 unfoldable pub merge : (left right : Counters) → Sums

@@ -1,5 +1,5 @@
 -- One pass of the code over a window: what it asks, and the trace that it runs.
-use Prim.Native.Nat.{ℕ, _*_, _/_, _≤_}
+use Prim.Native.Nat.{ℕ, _*_, _/_, _-_, _≤_}
 use mathlib.Core.Path.{_≡_}
 use mathlib.Core.Bool.{Bool, true, false}
 use mathlib.Core.List.{List, [], _∷_}
@@ -12,7 +12,7 @@ use Rattle.schema.specs.Labels.{leafLabel, containerLabel}
 use Rattle.schema.specs.Spans.{spansOf}
 use Rattle.framing.specs.Events.{error, Trace}
 use Rattle.framing.specs.Walk.{level}
-use Rattle.framing.specs.Sinks.{Walk, struct, exact, declaredOnly}
+use Rattle.framing.specs.Sinks.{Walk, struct, exact, declaredOnly, maxNesting}
 use Rattle.framing.specs.Records.{leafWords}
 use Rattle.framing.specs.Refusing.{Room}
 use Rattle.outputs.specs.Answers.{Lent}
@@ -38,7 +38,7 @@ silentFor sink.Object bits = false
 unfoldable pub passTrace : Sink → Tables → (root : ℕ) (bytes : List ℕ) (bits : ℕ) → Trace
 passTrace s t root bytes bits =
     if silentFor s bits then [] else
-    (if ltb (8 * length bytes) bits then error ∷ [] else level (sinkFor s t 11 false root) (inner bytes 0 bits 0) [])
+    (if ltb (8 * length bytes) bits then error ∷ [] else level (sinkFor s t (maxNesting - 1) false root) (inner bytes 0 bits 0) [])
 
 -- the room in outputs of these lengths
 abbrev pub roomBy : (words paths payloads : ℕ) → Room

@@ -4,7 +4,7 @@ ghost use Prim.Native.Nat.{_+_};
 ghost use lib.Dec.{ltb};
 ghost use Rattle.framing.specs.Counters.{isClean, sums};
 ghost use Rattle.array.specs.Refusals.{countersOf, sumsOf};
-ghost use Rattle.array.specs.Merges.{most, bounded, merge};
+ghost use Rattle.array.specs.Merges.{counterLimit, bounded, merge};
 ghost use Rattle.array.specs.Calls.{Judges};
 use crate::ArrayDecodeStats;
 use crate::Merged;
@@ -41,7 +41,7 @@ pub fn verdict(stats: ArrayDecodeStats) -> Verdict
 }
 
 fn sum_fits(a: u64, b: u64) -> bool
-    ensures { λ r. ⌜ r ≡ ltb (a + b) most ⌝ }
+    ensures { λ r. ⌜ r ≡ ltb (a + b) counterLimit ⌝ }
 {
     a <= u64::MAX - b
 }

@@ -42,7 +42,7 @@ numberAt W len p = asNumber p (packed W len p)
 
 -- ---- fields
 
--- offset: the payload's first bit
+-- offset: the payload's first bit, counted from the body's first
 pub record RawField : Type 0 where
   pub handle : ℕ
   pub offset : ℕ
@@ -69,7 +69,7 @@ leadAt W len p = leadHandle W len (numberAt W len p)
 abbrev pub rawField : (handle width : Number) → RawField
 rawField h w = record { handle = h .value - 1; offset = behind w; width = w .value }
 
--- an item's fields, the numbers that were read, and the bit behind the closing zero
+-- an item's fields, the numbers that were read (for a later count; no answer shows them), and the bit behind the closing zero
 pub record Stream : Type 0 where
   pub fields : List RawField
   pub numbers : List Number
@@ -90,7 +90,7 @@ onLead breaks rest = none
 onLead (closes h) rest = some (closing h)
 onLead (opens h w) rest = withField h w (rest (behind w + w .value))
 
--- The fields from bit p on, of which there are fewer than `most`.
+-- The fields from bit p on, of which there are fewer than `most`: a bound for the recursion, no limit of the format.
 unfoldable pub fieldsFrom : (most W len p : ℕ) → Option Stream
 fieldsFrom zero W len p = none
 fieldsFrom (suc most) W len p = onLead (leadAt W len p) (λ next. fieldsFrom most W len next)

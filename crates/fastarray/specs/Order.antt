@@ -13,7 +13,7 @@ abbrev pub isNone : Option Body → Bool
 isNone none = true
 isNone (some b) = false
 
--- refusal 3: the needs, whichever buffer is short
+-- refusal 3: the needs, whichever buffer is short; no rule where there is no body
 abbrev pub shortOf : Lent → Option Body → Rule Numbered
 shortOf l none = when false (refusal 0 0 0 0)
 shortOf l (some b) = when (not (fits b l)) (refusal 3 (length (b .deleted)) (length (b .items)) (length (fieldsOf (b .items))))

@@ -28,7 +28,7 @@ unfoldable pub records : {A B : Type 0} → (record-of : B → List A) → List 
 records f [] = []
 records f (x ∷ l) = f x ++ records f l
 
--- Records written one after the other, each whole or not at all. The index passes those that do not fit, so that a reading lent nothing counts.
+-- Records written one after the other, each whole or not at all. The index passes those that do not fit, so that with empty buffers a reading only measures.
 unfoldable pub storeAll : {A B : Type 0} → (record-of : B → List A) → List A → (i : ℕ) → List B → List A
 storeAll f d i [] = d
 storeAll f d i (x ∷ l) = storeAll f (store d i (f x)) (i + length (f x)) l

@@ -1,4 +1,4 @@
--- The seven counters of a walk, and its verdict.
+-- The seven counters of a walk, and whether they are clean.
 use Prim.Native.Nat.{ℕ, _+_}
 use mathlib.Core.Bool.{Bool}
 use mathlib.Core.List.{List, [], _∷_}

@@ -24,7 +24,7 @@ pub data Event : Type 0 where
   truncation : Event  -- a limit was met
   error : Event  -- a read failed, or a rule was broken
   implicit : Event  -- the window ended where a terminator was due
-  nested : (bits : ℕ) → Event  -- bits of a payload that were stepped past
+  nested : (bits : ℕ) → Event  -- bits of a payload that were stepped past, or that a child left behind its terminator
   root : (bits : ℕ) → Event  -- bits left at the root
   over : Event  -- a working path would pass its size: refusal 5
 
