@@ -9,6 +9,11 @@ pub struct Field {
     pub next: usize,
 }
 
+pub struct ShortField {
+    pub value: u32,
+    pub next: usize,
+}
+
 // The place after a part that doesn't fit.
 fn past() -> usize {
     0xffff_ffff_ffff_ffff
@@ -65,6 +70,23 @@ pub fn number(s: &[u8], at: usize) -> Field {
     Field { value, next }
 }
 
+// A number below 2^32; a larger one counts as a part that doesn't fit.
+pub fn short_number(s: &[u8], at: usize) -> ShortField {
+    let field = number(s, at);
+    let value = field.value;
+    if 0xffff_ffff < value {
+        return ShortField {
+            value: 0,
+            next: past(),
+        };
+    }
+    let next = field.next;
+    ShortField {
+        value: value as u32,
+        next,
+    }
+}
+
 // The place after the run.
 pub fn after_run(s: &[u8], at: usize) -> usize {
     let count = number(s, at);
@@ -91,6 +113,17 @@ pub fn run(s: &[u8], at: usize) -> &[u8] {
         return &s[..0];
     }
     &s[start..end]
+}
+
+// The bytes from a to e, none where they don't lie in s.
+pub fn part(s: &[u8], a: usize, e: usize) -> &[u8] {
+    if e < a {
+        return &s[..0];
+    }
+    if s.len() < e {
+        return &s[..0];
+    }
+    &s[a..e]
 }
 
 // All bytes from the place on.

@@ -5,6 +5,7 @@ pub mod answers;
 pub mod copied;
 pub mod fields;
 pub mod fixed;
+pub mod lists;
 pub mod packed;
 pub mod say;
 pub mod serialized;

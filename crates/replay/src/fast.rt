@@ -10,6 +10,7 @@ use recorded::answers::Expected;
 use recorded::answers::Fault;
 use recorded::answers::Outcome;
 use recorded::fields;
+use recorded::lists;
 use recorded::say;
 
 // The call's inputs, without its bytes and buffers.
@@ -151,47 +152,8 @@ fn same_ids(list: &[u8], ids: &[i32]) -> bool {
     true
 }
 
-// Whether the list holds these words.
-fn same_words(list: &[u8], words: &[u32]) -> bool {
-    let n = list.len() / 4;
-    if n != words.len() {
-        return false;
-    }
-    let mut i = 0;
-    while i < n {
-        let word = bits::load::load32(list, 4 * i);
-        if wide(words[i]) != word {
-            return false;
-        }
-        i += 1;
-    }
-    true
-}
-
-// The bytes from a to e, none where they don't lie in s.
-fn part(s: &[u8], a: usize, e: usize) -> &[u8] {
-    if e < a {
-        return &s[..0];
-    }
-    if s.len() < e {
-        return &s[..0];
-    }
-    &s[a..e]
-}
-
-fn least(a: usize, b: usize) -> usize
-    ensures { λ r. ⌜ r ≤ b ⌝ }
-{
-    if a < b { a } else { b }
-}
-
 fn front_ids(s: &[i32], n: usize) -> &[i32] {
-    let end = least(n, s.len());
-    &s[..end]
-}
-
-fn front_words(s: &[u32], n: usize) -> &[u32] {
-    let end = least(n, s.len());
+    let end = lists::least(n, s.len());
     &s[..end]
 }
 
@@ -220,9 +182,12 @@ fn same_lists(
     let items_end = ids_end + 4 * i;
     let end = items_end + 4 * f;
     same_keys(list, r)
-        && same_ids(part(list, 8, ids_end), front_ids(ids, d))
-        && same_words(part(list, ids_end, items_end), front_words(items, i))
-        && same_words(part(list, items_end, end), front_words(records, f))
+        && same_ids(fields::part(list, 8, ids_end), front_ids(ids, d))
+        && lists::same_words(
+            fields::part(list, ids_end, items_end),
+            lists::front(items, i),
+        )
+        && lists::same_words(fields::part(list, items_end, end), lists::front(records, f))
 }
 
 // The call, lent so much of the buffers.
@@ -236,9 +201,9 @@ fn decode(
 ) -> FastArray {
     let bits = call.bits;
     let mode = call.mode;
-    let d = least(room.ids, ids.len());
-    let i = least(room.items, items.len());
-    let f = least(room.records, records.len());
+    let d = lists::least(room.ids, ids.len());
+    let i = lists::least(room.items, items.len());
+    let f = lists::least(room.records, records.len());
     fastarray::decode_fast_array_delta(
         bytes,
         bits,

@@ -6,7 +6,7 @@
 //     file   = "VRFCASE1" case*
 //     case   = size (u32: the bytes of what follows) kind (u8: a letter) length (u8) id (length bytes) fields
 //     run    = count, count bytes
-//     list   = a run of u32: of rows at most 2,600 of them, of declared names at most 2,100
+//     list   = a run of u32: of rows at most 2,600 of them, of declared names at most 2,100, of a walk's output at most 163,840
 //     window = skip, bits, run: the first `bits` bits of the bytes, read at bit `skip`
 //     answer = number, first, second, third, cursor
 //
@@ -22,6 +22,9 @@
 //     R      width window answer                              a rotation (width is below 2^32)
 //     M      scale width bits run answer record               a movement in the first `bits` bits (record: movement.rt)
 //     F      mode bits run answer lists                       a fast-array body (mode 0: no checksum flag, 1: a flag)
+//     S      twelve levels root tables bits run walk          a struct walk (twelve 1: by the twelve levels; no rows then)
+//     X      list run bits run walk                           an exact struct walk (the list and run: declared names)
+//     O      bits run counts pairs list                       an object walk
 //
 // An answer's number is 0 for an accepted read, whose first value is what was read (of a copy or a movement 0; of V, N and
 // R the three values are the bit patterns of the three floats), or a refusal's number by document 01, with the values of
@@ -35,6 +38,10 @@
 // Of a fast-array body the answer's values are the deletes, items and fields, and its cursor the bits used; the lists are,
 // in u32, the two keys, the deleted ids, the items and the fields, and none where it is refused. Each buffer is lent exactly
 // as large as needed; a further call for each buffer that needs something lacks one record there, and has to give 3.
+//
+// What is recorded of a walk (tables, walk, counts) the crate `walked` says. Each output holds a pattern before the call, and is
+// lent exactly as large as needed, then a bit longer; a further call for each output that needs something lacks one number or
+// byte there, and has to give 3 with the needs and to write nothing.
 //
 // A difference is one line with both answers. At a case that breaks these rules the replay stops, says which case it is,
 // counted from 1, and the last line says that it stopped.
@@ -60,6 +67,9 @@ use recorded::fixed;
 use recorded::packed;
 use recorded::say;
 use recorded::serialized;
+use walked::exact_walk;
+use walked::object_walk;
+use walked::struct_walk;
 
 // How far the replay has come.
 struct Progress {
@@ -112,6 +122,9 @@ fn replay_case(s: &[u8]) -> Outcome {
         b'R' => rotation::replay(s, at),
         b'M' => movement::replay(s, at),
         b'F' => fast::replay(s, at),
+        b'S' => struct_walk::replay(s, at),
+        b'X' => exact_walk::replay(s, at),
+        b'O' => object_walk::replay(s, at),
         _ => Outcome::Damaged(Fault::Kind),
     }
 }

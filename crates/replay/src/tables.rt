@@ -1,44 +1,9 @@
 // Kind L: schema and declared tables, accepted or refused 2.
-ghost use mathlib.Core.Path.{_≡_};
-ghost use Prim.Native.Nat.{_/_, _≤_};
-ghost use lib.ListN.{length};
 use recorded::answers::Fault;
 use recorded::answers::Outcome;
 use recorded::fields;
+use recorded::lists;
 use recorded::say;
-
-// Rooms for the numbers of the two lists: more than document 01 accepts (512 rows of 5, 1,024 handles of 2), so that lists
-// over size are replayed too. `say` names both for a longer one.
-const ROW_ROOM: usize = 2600;
-
-const DECLARED_ROOM: usize = 2100;
-
-fn row_room() -> [u32; 2600]
-    ensures { λ r. ⌜ 2600 ≡ length r ⌝ }
-{
-    [0; 2600]
-}
-
-fn declared_room() -> [u32; 2100]
-    ensures { λ r. ⌜ 2100 ≡ length r ⌝ }
-{
-    [0; 2100]
-}
-
-// The u32 of a list, to the front of `room`; how many they are.
-fn unpack(list: &[u8], room: &mut [u32]) -> usize
-    requires { ⌜ length (now list) / 4 ≤ length (now room) ⌝ }
-    ensures { λ r. ⌜ r ≤ length (now (room .entry)) ⌝ }
-{
-    let n = list.len() / 4;
-    let mut i = 0;
-    while i < n {
-        let value = bits::load::load32(list, 4 * i);
-        room[i] = value as u32;
-        i += 1;
-    }
-    n
-}
 
 // Our answer: 0 for accepted tables, or the refusal's number.
 fn answer(
@@ -48,13 +13,11 @@ fn answer(
     names: &[u8],
     declared: &[u8],
     declared_names: &[u8],
-) -> u64
-    requires { ⌜ (length (now rows) / 4 ≤ 2600) × (length (now declared) / 4 ≤ 2100) ⌝ }
-{
-    let mut row_numbers = row_room();
-    let mut declared_numbers = declared_room();
-    let n = unpack(rows, &mut row_numbers);
-    let m = unpack(declared, &mut declared_numbers);
+) -> u64 {
+    let mut row_numbers = lists::row_room();
+    let mut declared_numbers = lists::declared_room();
+    let n = lists::unpack(rows, &mut row_numbers);
+    let m = lists::unpack(declared, &mut declared_numbers);
     let row_space: &[u32] = &row_numbers;
     let declared_space: &[u32] = &declared_numbers;
     let row_list = &row_space[0..n];
@@ -103,14 +66,15 @@ pub fn replay(s: &[u8], at: usize) -> Outcome {
     let declared_names = fields::run(s, declared_names_at);
     let end = fields::after_run(s, declared_names_at);
     let expected = fields::number(s, end);
-    if expected.next != s.len() || rows.len() % 4 != 0 || declared.len() % 4 != 0 {
+    if expected.next != s.len() {
         return Outcome::Damaged(Fault::Layout);
     }
-    if ROW_ROOM < rows.len() / 4 {
-        return Outcome::Damaged(Fault::List);
-    }
-    if DECLARED_ROOM < declared.len() / 4 {
-        return Outcome::Damaged(Fault::List);
+    let fault = lists::tables_fault(rows, declared);
+    match fault {
+        Fault::None => {}
+        _ => {
+            return Outcome::Damaged(fault);
+        }
     }
     let large_levels = level_count.value;
     let large_root = root_level.value;

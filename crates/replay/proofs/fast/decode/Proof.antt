@@ -18,19 +18,19 @@ slice-relend-prefix-decode-fast-array-delta : tie.Need-slice-relend-prefix-decod
 slice-relend-prefix-decode-fast-array-delta c = search needs
 
 slice-aggregate-decode-fast-array-delta : tie.Need-slice-aggregate-decode-fast-array-delta
-slice-aggregate-decode-fast-array-delta c = sym (length-take-le _ _ (c .before .before .before .least .ensures))
+slice-aggregate-decode-fast-array-delta c = sym (length-take-le _ _ (c .before .before .before .least .ensures .1))
 
 slice-relend-prefix-decode-fast-array-delta-2 : tie.Need-slice-relend-prefix-decode-fast-array-delta-2
 slice-relend-prefix-decode-fast-array-delta-2 c = search needs
 
 slice-aggregate-decode-fast-array-delta-2 : tie.Need-slice-aggregate-decode-fast-array-delta-2
-slice-aggregate-decode-fast-array-delta-2 c = sym (length-take-le _ _ (c .before .before .before .least2 .ensures))
+slice-aggregate-decode-fast-array-delta-2 c = sym (length-take-le _ _ (c .before .before .before .least2 .ensures .1))
 
 slice-relend-prefix-decode-fast-array-delta-3 : tie.Need-slice-relend-prefix-decode-fast-array-delta-3
 slice-relend-prefix-decode-fast-array-delta-3 c = search needs
 
 slice-aggregate-decode-fast-array-delta-3 : tie.Need-slice-aggregate-decode-fast-array-delta-3
-slice-aggregate-decode-fast-array-delta-3 c = sym (length-take-le _ _ (c .before .before .before .least3 .ensures))
+slice-aggregate-decode-fast-array-delta-3 c = sym (length-take-le _ _ (c .before .before .before .least3 .ensures .1))
 
 decode-fast-array-delta-requires : tie.Need-decode-fast-array-delta-requires
 decode-fast-array-delta-requires c κs = search needs

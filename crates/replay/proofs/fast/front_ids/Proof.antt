@@ -9,7 +9,7 @@ least-requires : tie.Need-least-requires
 least-requires c κs = search needs
 
 slice-aggregate-result : tie.Need-slice-aggregate-result
-slice-aggregate-result c = sym (length-take-le _ _ (c .before .least .ensures))
+slice-aggregate-result c = sym (length-take-le _ _ (c .before .least .ensures .1))
 
 returns : tie.Need-returns
 returns c = search needs

@@ -1,8 +1,8 @@
--- `replay::same_words` meets its contract: the list has four bytes for each word.
+-- `recorded::lists::same_words` meets its contract: the list has four bytes for each word.
 use borrow.Author.Needs.{needs}
 use Prim.Native.Nat.{_≤_, _-_}
-use Rattle.replay.proofs.fast.same_words.Statement.{statement}
-use Rattle.replay.proofs.fast.same_words.Tie as tie
+use Rattle.recorded.proofs.lists.same_words.Statement.{statement}
+use Rattle.recorded.proofs.lists.same_words.Tie as tie
 
 abbrev Inv-loop : tie.InvT-loop
 Inv-loop list words n i₀ i = i ≤ n

@@ -1,18 +1,21 @@
--- `replay::tables::unpack` meets its contract: of n whole u32 each has its four bytes in the list, and its place in the room.
+-- `recorded::lists::unpack` meets its contract: of n whole u32 each has its four bytes in the list, and its place in the room.
 use mathlib.Core.Path.{_≡_}
-use Prim.Native.Nat.{_≤_, _-_}
+use Prim.Native.Nat.{_≤_, _-_, _/_}
 use lib.ListN.{length}
 use borrow.Author.Needs.{needs}
 use native.Mathlib.Omega.{arith}
 use Rattle.bits.proofs.FieldLaws.{bound}
-use Rattle.replay.proofs.tables.unpack.Statement.{statement}
-use Rattle.replay.proofs.tables.unpack.Tie as tie
+use Rattle.recorded.proofs.lists.unpack.Statement.{statement}
+use Rattle.recorded.proofs.lists.unpack.Tie as tie
 
 abbrev Inv-loop : tie.InvT-loop
-Inv-loop list room₀ n i₀ room i = (length room ≡ length room₀) × (i ≤ n)
+Inv-loop list room₀ n i₀ room i = (length room ≡ length room₀) × (i ≤ n) × (n ≤ length list / 4) × (n ≤ length room)
 
 abbrev μ-loop : tie.MeasureT-loop
 μ-loop list room₀ n i₀ room i = n - i
+
+least-requires : tie.Need-least-requires Inv-loop μ-loop
+least-requires c κs = search needs
 
 loop-holds : tie.Need-loop-holds Inv-loop μ-loop
 loop-holds c = search needs
@@ -53,6 +56,7 @@ unpack-spec =
     (tie.spec
     Inv-loop
     μ-loop
+    least-requires
     loop-holds
     mul-load32
     load32-requires

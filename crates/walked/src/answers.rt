@@ -1,0 +1,227 @@
+// Answers of a walk, ours and the recorded one.
+use array::ArrayDecodeStats;
+use array::Extent;
+use array::ObjectArray;
+use array::StructArray;
+use array::Verdict;
+use recorded::fields;
+use recorded::say;
+
+pub struct Answer {
+    // 0 for a walk, or the refusal's number by document 01.
+    pub number: u64,
+    // The seven counters, and 1 for a partial walk; of a refusal all are 0.
+    pub counts: [u64; 8],
+    // What the outputs need: records, path bytes, payload bytes.
+    pub records: u64,
+    pub path_bytes: u64,
+    pub payload_bytes: u64,
+}
+
+// What is recorded of a walk.
+pub struct Recorded {
+    pub answer: Answer,
+    // Whether its outputs stand in the case.
+    pub whole: bool,
+    // The runs of the records, the path bytes and the payload bytes.
+    pub records: usize,
+    pub paths: usize,
+    pub payloads: usize,
+    // The place after all of it.
+    pub end: usize,
+}
+
+fn wide(x: u32) -> u64 {
+    x as u64
+}
+
+fn is_partial(v: Verdict) -> u64 {
+    match v {
+        Verdict::Clean => 0,
+        Verdict::Partial => 1,
+    }
+}
+
+fn counts_of(stats: ArrayDecodeStats, v: Verdict) -> [u64; 8] {
+    [
+        stats.elements_decoded,
+        stats.fields_emitted,
+        stats.truncations,
+        stats.errors,
+        stats.unconsumed_nested_bits,
+        stats.unconsumed_root_bits,
+        stats.implicit_terminations,
+        is_partial(v),
+    ]
+}
+
+pub fn answer_of(
+    number: u64,
+    counts: [u64; 8],
+    records: u64,
+    path_bytes: u64,
+    payload_bytes: u64,
+) -> Answer {
+    Answer {
+        number,
+        counts,
+        records,
+        path_bytes,
+        payload_bytes,
+    }
+}
+
+fn with_extent(number: u64, counts: [u64; 8], e: Extent) -> Answer {
+    answer_of(
+        number,
+        counts,
+        wide(e.leaves),
+        wide(e.path_bytes),
+        wide(e.payload_bytes),
+    )
+}
+
+fn refused(number: u64) -> Answer {
+    answer_of(number, [0; 8], 0, 0, 0)
+}
+
+// The refusal of this walk for an output that is too short.
+pub fn short_of(a: Answer) -> Answer {
+    answer_of(3, [0; 8], a.records, a.path_bytes, a.payload_bytes)
+}
+
+pub fn of_structs(r: StructArray) -> Answer {
+    match r {
+        StructArray::Decoded(stats, v, extent) => with_extent(0, counts_of(stats, v), extent),
+        StructArray::TooLong => refused(1),
+        StructArray::BrokenTables => refused(2),
+        StructArray::PathTooLong => refused(5),
+        StructArray::Short(extent) => with_extent(3, [0; 8], extent),
+    }
+}
+
+pub fn of_objects(r: ObjectArray) -> Answer {
+    match r {
+        ObjectArray::Decoded(stats, v, pairs) => {
+            answer_of(0, counts_of(stats, v), wide(pairs), 0, 0)
+        }
+        ObjectArray::TooLong => refused(1),
+        ObjectArray::Short(pairs) => answer_of(3, [0; 8], wide(pairs), 0, 0),
+    }
+}
+
+// The recorded counters and verdict, and the place after them.
+struct Counted {
+    counts: [u64; 8],
+    next: usize,
+}
+
+fn recorded_counts(s: &[u8], at: usize) -> Counted {
+    let mut counts = [0u64; 8];
+    let mut next = at;
+    let mut i = 0;
+    while i < 8 {
+        let field = fields::number(s, next);
+        counts[i] = field.value;
+        next = field.next;
+        i += 1;
+    }
+    Counted { counts, next }
+}
+
+// What is recorded of a struct or exact walk.
+pub fn recorded_leaves(s: &[u8], at: usize) -> Recorded {
+    let counted = recorded_counts(s, at);
+    let leaves = fields::number(s, counted.next);
+    let path_bytes = fields::number(s, leaves.next);
+    let payload_bytes = fields::number(s, path_bytes.next);
+    let whole = fields::number(s, payload_bytes.next);
+    let records = whole.next;
+    let paths = fields::after_run(s, records);
+    let payloads = fields::after_run(s, paths);
+    let held = whole.value != 0;
+    let end = if held {
+        fields::after_run(s, payloads)
+    } else {
+        records
+    };
+    let counts = counted.counts;
+    let answer = answer_of(
+        0,
+        counts,
+        leaves.value,
+        path_bytes.value,
+        payload_bytes.value,
+    );
+    Recorded {
+        answer,
+        whole: held,
+        records,
+        paths,
+        payloads,
+        end,
+    }
+}
+
+// What is recorded of an object walk. Its only output is the pairs: at the end no run stands.
+pub fn recorded_pairs(s: &[u8], at: usize) -> Recorded {
+    let counted = recorded_counts(s, at);
+    let pairs = fields::number(s, counted.next);
+    let records = pairs.next;
+    let end = fields::after_run(s, records);
+    let counts = counted.counts;
+    let answer = answer_of(0, counts, pairs.value, 0, 0);
+    Recorded {
+        answer,
+        whole: true,
+        records,
+        paths: end,
+        payloads: end,
+        end,
+    }
+}
+
+fn same_counts(a: [u64; 8], b: [u64; 8]) -> bool {
+    let mut i = 0;
+    while i < 8 {
+        if a[i] != b[i] {
+            return false;
+        }
+        i += 1;
+    }
+    true
+}
+
+pub fn same(a: Answer, b: Answer) -> bool {
+    let ours = a.counts;
+    let theirs = b.counts;
+    a.number == b.number
+        && same_counts(ours, theirs)
+        && a.records == b.records
+        && a.path_bytes == b.path_bytes
+        && a.payload_bytes == b.payload_bytes
+}
+
+fn say_counts(counts: [u64; 8]) {
+    let mut i = 0;
+    while i < 8 {
+        say::text(b" ");
+        say::number(counts[i]);
+        i += 1;
+    }
+}
+
+pub fn say_answer(a: Answer) {
+    say::text(b"number ");
+    say::number(a.number);
+    say::text(b", counters and verdict");
+    let counts = a.counts;
+    say_counts(counts);
+    say::text(b", needs ");
+    say::number(a.records);
+    say::text(b" records, ");
+    say::number(a.path_bytes);
+    say::text(b" path bytes, ");
+    say::number(a.payload_bytes);
+    say::text(b" payload bytes");
+}

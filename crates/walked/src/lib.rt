@@ -1,0 +1,18 @@
+// Recorded walks: each is walked again, lent outputs that are exactly full, longer, and one number or byte too short.
+//
+// The parts of their cases, in the words of `replay`'s format:
+//
+//     tables = list run list run: rows and their name pool, declared numbers and theirs
+//     counts = the seven counters, in the order of ArrayDecodeStats, then 1 for a partial walk, 0 for a clean one
+//     walk   = counts, leaves, path bytes, payload bytes, whole, and where whole is 1: list run run
+//
+// Behind the counts of a walk stands what it needs of each output, then what it writes: the records of the leaves, five u32
+// each, at most 1,048,576 path bytes and at most 65,536 payload bytes. Where whole is 0, the outputs are larger; such a walk is
+// lent nothing, and has to be refused for its needs. An object walk writes pairs alone, two u32 each.
+
+pub mod answers;
+pub mod exact_walk;
+pub mod object_walk;
+pub mod patterns;
+pub mod struct_walk;
+pub mod trials;
