@@ -1,0 +1,35 @@
+-- `exports::vrf_copy_bits` meets its contract: the cursor goes in as it is, the struct says what the answer says, and the target is that of the call.
+use borrow.Author.Needs.{needs}
+use mathlib.Core.Path.{ap, _∙_}
+use Rattle.exports.proofs.ResultLaws.{read-as}
+use Rattle.bitio.specs.Copies.{copyAnswer, copyTarget}
+use Rattle.bitio.specs.declared.Cursor.{Cursor}
+use Rattle.exports.specs.ReadResults.{copyResult}
+use Rattle.exports.proofs.vrf_copy_bits.Statement.{statement}
+use Rattle.exports.proofs.vrf_copy_bits.Tie as tie
+
+cursor-of-requires : tie.Need-cursor-of-requires
+cursor-of-requires c κs = search needs
+
+copy-bits-to-requires : tie.Need-copy-bits-to-requires
+copy-bits-to-requires c κs = search needs
+
+copy-of-requires : tie.Need-copy-of-requires
+copy-of-requires c κs = search needs
+
+same-length : tie.Need-same-length
+same-length c = search needs
+
+returns : tie.Need-returns
+returns c =
+    let a = c .before .before .before .before .before .before .before .before .args in
+    let e = c .before .before .before .before .before .cursor-of .ensures in
+    let d = c .before .before .before .copy-bits-to .ensures in (
+      read-as copyResult (λ (x : Cursor). copyAnswer (a .bytes .now) x (a .count) (a .target .now)) e (d .0) (c .copy-of .ensures),
+      d .1 ∙ ap (λ (x : Cursor). copyTarget (a .bytes .now) x (a .count) (a .target .now)) e,
+    )
+
+pub vrf-copy-bits-spec : {M : Type 1} → statement M
+vrf-copy-bits-spec =
+    tie.close
+    (tie.spec cursor-of-requires copy-bits-to-requires copy-of-requires same-length returns)

@@ -1,0 +1,16 @@
+-- `exports::walks::refused_objects` meets its contract: its counters are all 0.
+use borrow.Author.Needs.{needs}
+use Rattle.exports.proofs.walks.refused_objects.Statement.{statement}
+use Rattle.exports.proofs.walks.refused_objects.Tie as tie
+
+no-counters-requires : tie.Need-no-counters-requires
+no-counters-requires c κs = search needs
+
+returns : tie.Need-returns
+returns c =
+    let k = c .no-counters .ensures in
+    let a = c .before .args in
+    λ i. record { refusal = a .refusal; pairs = a .pairs; counters = k i; verdict = 0 }
+
+pub refused-objects-spec : {M : Type 1} → statement M
+refused-objects-spec = tie.close (tie.spec no-counters-requires returns)

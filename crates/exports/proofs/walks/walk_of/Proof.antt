@@ -1,0 +1,80 @@
+-- `exports::walks::walk_of` meets its contract: each arm builds the struct of its form.
+use borrow.Author.Needs.{needs}
+use Rattle.exports.proofs.ResultLaws.{by-form}
+use Rattle.exports.specs.WalkResults.{walkOf}
+use Rattle.exports.proofs.walks.walk_of.Statement.{statement}
+use Rattle.exports.proofs.walks.walk_of.Tie as tie
+
+enum-known-a : tie.Need-enum-known-a
+enum-known-a c = search needs
+
+counters-of-requires : tie.Need-counters-of-requires
+counters-of-requires c κs = search needs
+
+verdict-number-requires : tie.Need-verdict-number-requires
+verdict-number-requires c κs = search needs
+
+enum-told : tie.Need-enum-told
+enum-told c = search needs
+
+refused-walk-requires : tie.Need-refused-walk-requires
+refused-walk-requires c κs = search needs
+
+enum-told-2 : tie.Need-enum-told-2
+enum-told-2 c = search needs
+
+refused-walk-requires-2 : tie.Need-refused-walk-requires-2
+refused-walk-requires-2 c κs = search needs
+
+enum-told-3 : tie.Need-enum-told-3
+enum-told-3 c = search needs
+
+refused-walk-requires-3 : tie.Need-refused-walk-requires-3
+refused-walk-requires-3 c κs = search needs
+
+enum-known-a-2 : tie.Need-enum-known-a-2
+enum-known-a-2 c = search needs
+
+refused-walk-requires-4 : tie.Need-refused-walk-requires-4
+refused-walk-requires-4 c κs = search needs
+
+returns : tie.Need-returns
+returns c =
+    let k = c .before .counters-of .ensures in
+    let n = c .verdict-number .ensures in
+    let e = c .before .before .before .a .given .0 .1 .1 .0 in
+    by-form walkOf (c .before .before .before .a .given .1)
+    (λ i. record { refusal = 0; leaves = e .leaves; «path_bytes» = e .«path_bytes»; «payload_bytes» = e .«payload_bytes»; counters = k i; verdict = n i })
+
+returns-2 : tie.Need-returns-2
+returns-2 c = by-form walkOf (c .before .enum-told .given .1) (c .refused-walk .ensures)
+
+returns-3 : tie.Need-returns-3
+returns-3 c = by-form walkOf (c .before .enum-told2 .given .1) (c .refused-walk2 .ensures)
+
+returns-4 : tie.Need-returns-4
+returns-4 c = by-form walkOf (c .before .enum-told3 .given .1) (c .refused-walk3 .ensures)
+
+returns-5 : tie.Need-returns-5
+returns-5 c = by-form walkOf (c .before .before .a2 .given .1) (c .refused-walk4 .ensures)
+
+pub walk-of-spec : {M : Type 1} → statement M
+walk-of-spec =
+    tie.close
+    (tie.spec
+    enum-known-a
+    counters-of-requires
+    verdict-number-requires
+    enum-told
+    refused-walk-requires
+    enum-told-2
+    refused-walk-requires-2
+    enum-told-3
+    refused-walk-requires-3
+    enum-known-a-2
+    refused-walk-requires-4
+    returns
+    returns-2
+    returns-3
+    returns-4
+    returns-5)

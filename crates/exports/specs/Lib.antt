@@ -1,0 +1,3 @@
+pub mod WalkResults
+pub mod ReadResults
+pub mod MoveResults

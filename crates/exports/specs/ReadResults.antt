@@ -1,0 +1,50 @@
+-- Cursors from C, and the answers of the bit reader as structs for C: the refusal's number and values, or zeros; the value read, or 0; where the
+-- cursor stands, refused or not.
+use Prim.Native.Nat.{ℕ, _%_, _^_}
+use Rattle.bits.specs.Refusals.{Numbered}
+use Rattle.bitio.specs.Refusals.{numbered, standsAfter}
+use Rattle.bitio.specs.declared.Cursor.{Cursor}
+use Rattle.bitio.specs.declared.BitsRead.{BitsRead}
+use Rattle.bitio.specs.declared.BitsRead.the-variants as B
+use Rattle.bitio.specs.declared.PackedRead.{PackedRead}
+use Rattle.bitio.specs.declared.PackedRead.the-variants as P
+use Rattle.bitio.specs.declared.SerializedRead.{SerializedRead}
+use Rattle.bitio.specs.declared.SerializedRead.the-variants as Ser
+use Rattle.bitio.specs.declared.Copied.{Copied}
+use Rattle.bitio.specs.declared.Copied.the-variants as Copy
+use Rattle.exports.specs.declared.VrfCursor.{VrfCursor}
+use Rattle.exports.specs.declared.VrfRead.{VrfRead}
+
+abbrev pub cursorOf : VrfCursor → Cursor
+cursorOf c = record { start = c .start; pos = c .pos; len = c .len }
+
+abbrev pub readValue : (value position : ℕ) → VrfRead
+readValue x p = record { refusal = 0; first = 0; second = 0; third = 0; value = x; position = p }
+
+abbrev pub refusedAt : (number first second third position : ℕ) → VrfRead
+refusedAt n a b c p = record { refusal = n; first = a; second = b; third = c; value = 0; position = p }
+
+-- a position in 64 bits; no read of a packed number goes past them (proofs/Promises.packed-position)
+unfoldable pub as64 : ℕ → ℕ
+as64 p = p % 2 ^ 64
+
+abbrev pub refusedRead : Numbered → (stands : ℕ) → VrfRead
+refusedRead n p = refusedAt (n .number) (n .first) (n .second) (n .third) (as64 p)
+
+-- ---- the answers of calls at a cursor that stood at `at`
+
+abbrev pub bitsResult : (at : ℕ) → BitsRead → VrfRead
+bitsResult at (B.Value x p) = readValue x p
+bitsResult at (B.Refused r) = refusedRead (numbered r) (standsAfter at r)
+
+abbrev pub packedResult : (at : ℕ) → PackedRead → VrfRead
+packedResult at (P.Value x p) = readValue x p
+packedResult at (P.Refused r) = refusedRead (numbered r) (standsAfter at r)
+
+abbrev pub serializedResult : (at : ℕ) → SerializedRead → VrfRead
+serializedResult at (Ser.Value x p) = readValue x p
+serializedResult at (Ser.Refused r) = refusedRead (numbered r) (standsAfter at r)
+
+abbrev pub copyResult : (at : ℕ) → Copied → VrfRead
+copyResult at (Copy.Done p) = readValue 0 p
+copyResult at (Copy.Refused r) = refusedRead (numbered r) (standsAfter at r)

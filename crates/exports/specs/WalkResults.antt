@@ -1,0 +1,144 @@
+-- The answers of the walks, the merge, the verdict, the schema and the fast array as structs for C: the refusal's number, or 0; the values that
+-- 01's table names, which an accepted call has too; then what only an accepted call gives, else 0.
+use Prim.Native.Nat.{ℕ}
+use mathlib.Core.Path.{_≡_}
+use mathlib.Core.List.{List}
+use lib.Dec.{eqb}
+use lib.IntN.{pos}
+use Rattle.bits.specs.Choice.{if_then_else_}
+use Rattle.schema.specs.TwelveLevels.{rowNumbers, nameBytes, levelCount}
+use Rattle.schema.specs.declared.Filled.{Filled}
+use Rattle.schema.specs.declared.Filled.the-variants as Fill
+use Rattle.framing.specs.Counters.{Counters, counted}
+use Rattle.framing.specs.Sinks.{Walk, object, Verdict, clean, partial, verdictOf}
+use Rattle.framing.specs.Refusing.{Room, Answer, refused, accepted}
+use Rattle.outputs.specs.Answers.{Call, Lent, answer, final, pairAnswer, finalPairs}
+use Rattle.array.specs.Calls.{verdictIs}
+use Rattle.array.specs.Refusals.{countersOf}
+use Rattle.array.specs.Merges.{Sums, summed, overflowing}
+use Rattle.array.specs.declared.StructArray.{StructArray}
+use Rattle.array.specs.declared.StructArray.the-variants as structs
+use Rattle.array.specs.declared.ObjectArray.{ObjectArray}
+use Rattle.array.specs.declared.ObjectArray.the-variants as objects
+use Rattle.fastarray.specs.Answers as F
+use Rattle.fastarray.specs.declared.ChecksumMode.{ChecksumMode}
+use Rattle.fastarray.specs.declared.ChecksumMode.the-variants.{Absent, Present}
+use Rattle.fastarray.specs.declared.FastArray.{FastArray}
+use Rattle.fastarray.specs.declared.FastArray.the-variants as body
+use Rattle.exports.specs.declared.VrfCounters.{VrfCounters}
+use Rattle.exports.specs.declared.VrfWalk.{VrfWalk}
+use Rattle.exports.specs.declared.VrfObjects.{VrfObjects}
+use Rattle.exports.specs.declared.VrfMerge.{VrfMerge}
+use Rattle.exports.specs.declared.VrfSchema.{VrfSchema}
+use Rattle.exports.specs.declared.VrfFastArray.{VrfFastArray}
+
+-- ---- counters and verdicts
+
+abbrev pub countersIn : VrfCounters → Counters
+countersIn c = counted (c .elements) (c .fields) (c .truncations) (c .errors) (c .«nested_bits») (c .«root_bits») (c .«implicit_terminations»)
+
+abbrev pub countersOut : Counters → VrfCounters
+countersOut c =
+    record {
+      elements = c .elements;
+      fields = c .fields;
+      truncations = c .truncations;
+      errors = c .errors;
+      «nested_bits» = c .nestedBits;
+      «root_bits» = c .rootBits;
+      «implicit_terminations» = c .implicits;
+    }
+
+abbrev pub noCounters : VrfCounters
+noCounters = countersOut (counted 0 0 0 0 0 0 0)
+
+abbrev pub verdictNumber : Verdict → ℕ
+verdictNumber clean = 0
+verdictNumber partial = 1
+
+-- the number of the verdict on such counters, of whichever walk and however many bits
+abbrev pub Judges : Counters → (number : ℕ) → Type 0
+Judges c n = (k : Walk) (bits : ℕ) → n ≡ verdictNumber (verdictOf k bits c)
+
+-- ---- struct and exact walks
+
+abbrev pub refusedWalk : (number leaves pathBytes payloadBytes : ℕ) → VrfWalk
+refusedWalk n l p y =
+    record { refusal = n; leaves = l; «path_bytes» = p; «payload_bytes» = y; counters = noCounters; verdict = 0 }
+
+abbrev pub acceptedWalk : Counters → Verdict → (leaves pathBytes payloadBytes : ℕ) → VrfWalk
+acceptedWalk c v l p y =
+    record { refusal = 0; leaves = l; «path_bytes» = p; «payload_bytes» = y; counters = countersOut c; verdict = verdictNumber v }
+
+-- the struct for an answer of such a walk
+abbrev pub walkResult : Walk → (bits : ℕ) → Answer Room → VrfWalk
+walkResult k bits (refused n need) = refusedWalk n (need .leaves) (need .pathBytes) (need .payloadBytes)
+walkResult k bits (accepted c need) = acceptedWalk c (verdictOf k bits c) (need .leaves) (need .pathBytes) (need .payloadBytes)
+
+-- the contract: r is the struct of the walk's answer, and `end` what the buffers hold at the exit
+pub record Walks (c : Call) (b : Lent) (r : VrfWalk) (end : Lent) : Type 0 where
+  pub says : r ≡ walkResult (c .how) (c .bits) (answer c b)
+  pub buffers : end ≡ final c b
+
+-- the same struct, from the answer of `array`
+abbrev pub walkOf : StructArray → VrfWalk
+walkOf (structs.Decoded s v e) = acceptedWalk (countersOf s) (verdictIs v) (e .leaves) (e .«path_bytes») (e .«payload_bytes»)
+walkOf structs.TooLong = refusedWalk 1 0 0 0
+walkOf structs.BrokenTables = refusedWalk 2 0 0 0
+walkOf structs.PathTooLong = refusedWalk 5 0 0 0
+walkOf (structs.Short e) = refusedWalk 3 (e .leaves) (e .«path_bytes») (e .«payload_bytes»)
+
+-- ---- the object walk
+
+abbrev pub refusedObjects : (number pairs : ℕ) → VrfObjects
+refusedObjects n p = record { refusal = n; pairs = p; counters = noCounters; verdict = 0 }
+
+abbrev pub acceptedObjects : Counters → Verdict → (pairs : ℕ) → VrfObjects
+acceptedObjects c v p = record { refusal = 0; pairs = p; counters = countersOut c; verdict = verdictNumber v }
+
+abbrev pub objectsResult : (bits : ℕ) → Answer ℕ → VrfObjects
+objectsResult bits (refused n need) = refusedObjects n need
+objectsResult bits (accepted c need) = acceptedObjects c (verdictOf object bits c) need
+
+pub record WalksPairs (bytes : List ℕ) (bits : ℕ) (b : List ℕ) (r : VrfObjects) (end : List ℕ) : Type 0 where
+  pub says : r ≡ objectsResult bits (pairAnswer bytes bits b)
+  pub buffer : end ≡ finalPairs bytes bits b
+
+abbrev pub objectsOf : ObjectArray → VrfObjects
+objectsOf (objects.Decoded s v n) = acceptedObjects (countersOf s) (verdictIs v) n
+objectsOf objects.TooLong = refusedObjects 1 0
+objectsOf (objects.Short n) = refusedObjects 3 n
+
+-- ---- merges
+
+abbrev pub mergeResult : Sums → VrfMerge
+mergeResult (summed c) = record { refusal = 0; counters = countersOut c }
+mergeResult (overflowing n c) = record { refusal = n; counters = countersOut c }
+
+-- ---- the schema: what is filled, or needed, of both buffers, and the number of levels
+
+abbrev pub schemaResult : Filled → VrfSchema
+schemaResult Fill.Done = record { refusal = 0; rows = rowNumbers; names = nameBytes; levels = levelCount }
+schemaResult (Fill.Short r n) = record { refusal = 3; rows = r; names = n; levels = 0 }
+
+-- ---- the fast array
+
+-- a number as the checksum mode
+unfoldable pub modeOf : ℕ → ChecksumMode
+modeOf n = if eqb n 0 then Absent else Present
+
+abbrev pub refusedBody : (number deletes items fields : ℕ) → VrfFastArray
+refusedBody n d i f = record { refusal = n; deletes = d; items = i; fields = f; key = pos 0; base = pos 0; used = 0 }
+
+abbrev pub bodyResult : FastArray → VrfFastArray
+bodyResult (body.Decoded d) =
+    record { refusal = 0; deletes = d .deletes; items = d .changes; fields = d .fields; key = d .key; base = d .base; used = d .used }
+bodyResult body.TooLong = refusedBody 1 0 0 0
+bodyResult body.NotFastArray = refusedBody 6 0 0 0
+bodyResult (body.Short d i f) = refusedBody 3 d i f
+
+pub record DecodesBody (c : F.Call) (l : F.Lent) (r : VrfFastArray) (end : F.Lent) : Type 0 where
+  pub says : r ≡ bodyResult (F.answer c l)
+  pub deleted : end .deleted ≡ F.finalDeleted c l
+  pub items : end .items ≡ F.finalItems c l
+  pub fields : end .fields ≡ F.finalFields c l

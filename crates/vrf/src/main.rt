@@ -1,0 +1,73 @@
+// Reads one window of bits out of a file and prints what it holds: `vrf walk KIND FILE [BITS]` an array, `vrf fastarray MODE
+// FILE [BITS]` a fast-array body, `vrf movement SCALE WIDTH FILE [BITS]` a movement record. `vrf schema` prints the levels.
+//
+// The window is the first BITS bits of the file, without BITS all of it. Walks print a line for each leaf, the seven counters
+// and the verdict. The exit status is always 0: what went wrong is said in words.
+mod args;
+mod fast;
+mod file;
+mod movement;
+mod walk;
+
+use args::Asked;
+use args::Count;
+use args::Job;
+use tell::levels;
+use tell::say;
+use walk::Way;
+
+fn usage() {
+    say::text(b"usage: vrf walk KIND FILE [BITS]\n");
+    say::text(b"       vrf fastarray absent|present FILE [BITS]\n");
+    say::text(b"       vrf movement SCALE WIDTH FILE [BITS]\n");
+    say::text(b"       vrf schema\n");
+    say::text(
+        b"KIND is none, exact, objects or a level's name, which vrf schema prints; absent or present is the checksum\n",
+    );
+    say::text(
+        b"flag of each item; SCALE is 1, 10 or 100 and WIDTH 8 or 16. The window is the first BITS bits of the file,\n",
+    );
+    say::text(b"without BITS all of it.\n");
+}
+
+fn run(job: Job, bytes: &[u8], bits: u32) {
+    match job {
+        Job::Struct(root) => walk::leaves(Way::Levels(root), bytes, bits),
+        Job::Exact => walk::leaves(Way::Exact, bytes, bits),
+        Job::Objects => walk::objects(bytes, bits),
+        Job::FastArray(mode) => fast::body(mode, bytes, bits),
+        Job::Movement(scale, width) => movement::record(scale, width, bytes, bits),
+    }
+}
+
+// The file that is named at the place, as a window.
+fn window(job: Job, at: usize, given: Count) {
+    let mut space = file::room();
+    let room: &mut [u8] = &mut space;
+    let n = file::load(at, room);
+    if n == 0 {
+        return;
+    }
+    let bytes = say::front(room, n);
+    let bits = args::window_bits(given, n);
+    run(job, bytes, bits);
+}
+
+fn asked_window(job: Job) {
+    let at = args::file_place(job);
+    let given = args::count_at(at + 1);
+    match given {
+        Count::Wrong => usage(),
+        Count::Whole => window(job, at, given),
+        Count::First(_) => window(job, at, given),
+    }
+}
+
+fn main() {
+    let asked = args::command();
+    match asked {
+        Asked::Usage => usage(),
+        Asked::Schema => levels::list(),
+        Asked::Window(job) => asked_window(job),
+    }
+}

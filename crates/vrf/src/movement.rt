@@ -1,0 +1,93 @@
+// A movement record: each number with its name, floats as pattern and value.
+use geometry::Movement;
+use geometry::MovementRead;
+use geometry::Number;
+use geometry::Rotation;
+use geometry::RotatorQuantization;
+use geometry::Spin;
+use geometry::Vector;
+use geometry::VectorQuantization;
+use tell::decimal;
+use tell::refusals;
+use tell::say;
+
+fn say_flag(name: &[u8], set: bool) {
+    say::left(name, 24);
+    if set {
+        say::text(b"yes\n");
+    } else {
+        say::text(b"no\n");
+    }
+}
+
+fn say_number(name: &[u8], n: Number) {
+    say::left(name, 24);
+    match n {
+        Number::Absent => say::text(b"absent"),
+        Number::Present(x) => say::number(say::wide(x)),
+    }
+    say::text(b"\n");
+}
+
+fn say_location(v: Vector) {
+    decimal::double(b"location x", v.x);
+    decimal::double(b"location y", v.y);
+    decimal::double(b"location z", v.z);
+}
+
+fn say_rotation(v: Rotation) {
+    decimal::single(b"pitch", v.pitch);
+    decimal::single(b"yaw", v.yaw);
+    decimal::single(b"roll", v.roll);
+}
+
+fn say_linear(v: Vector) {
+    decimal::double(b"linear velocity x", v.x);
+    decimal::double(b"linear velocity y", v.y);
+    decimal::double(b"linear velocity z", v.z);
+}
+
+fn say_angular(spin: Spin) {
+    match spin {
+        Spin::Absent => say::text(b"angular velocity        absent\n"),
+        Spin::Present(v) => {
+            decimal::double(b"angular velocity x", v.x);
+            decimal::double(b"angular velocity y", v.y);
+            decimal::double(b"angular velocity z", v.z);
+        }
+    }
+}
+
+fn say_record(m: Movement) {
+    let angular = m.angular;
+    let frame = m.frame;
+    let handle = m.handle;
+    say_flag(b"sleep", m.sleep);
+    say_flag(b"physics", m.physics);
+    say_location(m.location);
+    say_rotation(m.rotation);
+    say_linear(m.linear);
+    say_angular(angular);
+    say_number(b"server frame", frame);
+    say_number(b"physics handle", handle);
+}
+
+pub fn record(
+    location: VectorQuantization,
+    rotation: RotatorQuantization,
+    bytes: &[u8],
+    bits: u32,
+) {
+    let read = geometry::read_rep_movement(bytes, say::wide(bits), rotation, location);
+    match read {
+        MovementRead::Value(m, used) => {
+            say_record(m);
+            say::text(b"verdict: a whole movement record; it takes ");
+            say::number(used);
+            say::text(b" bits of ");
+            say::number(say::wide(bits));
+            say::text(b"\n");
+        }
+        MovementRead::Refused(r) => refusals::unmoved(r),
+    }
+}

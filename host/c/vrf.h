@@ -1,0 +1,306 @@
+/* The proved array walkers and bit reader, for C.
+ *
+ * libexports.a holds these functions (x86-64, System V calling convention). Build it with `rt staticlib exports`; see example.c
+ * for a program that uses it. Each function is proved, for all inputs: it ends, it stays inside what is lent, and its answer and
+ * the final contents of every lent buffer are those of a definition that depends on the inputs alone. The contracts stand in
+ * crates/exports/src/lib.rt. There is no state: calls from several threads don't meet.
+ *
+ * What you hand in
+ *   A slice is a pointer and a length. Lengths count elements of the pointer's type, not bytes: a buffer of 170 uint32_t has
+ *   the length 170. A `const` slice is read; the others are lent for the time of the call and may be written.
+ *   A bit count says how many bits of the bytes belong to the payload. Bit k is bit k % 8 of byte k / 8, the lowest first.
+ *
+ * What you owe, since nothing here can check it
+ *   - A length is real: so many elements stand behind the pointer, and all of them may be read (lent ones: written).
+ *   - A pointer is aligned for its type, as every C array is.
+ *   - A lent buffer overlaps no other argument of the call, lent or `const`. Two `const` slices may overlap.
+ *   - No other thread writes to an argument while the call runs.
+ *   A null pointer with the length 0 is fine.
+ *   Everything else is checked: any bytes, any tables, any number gets an answer. Not proved: how long a call takes, and how much
+ *   stack.
+ *
+ * What you get
+ *   A struct by value. `refusal` is 0 if the call is accepted, else the number of a refusal. A refused call has written nothing.
+ *   Behind it stand the values that the refusal names (below), then what only an accepted call gives. In a refused answer all that
+ *   isn't named is 0, but for `position`; so a `verdict` of 0 says "clean" only where `refusal` is 0 too.
+ *
+ * Refusals, and the values that come with them
+ *    1  the bit count is above 524,288                                         none
+ *    2  a schema or declared table breaks its layout or a size, or the root
+ *       isn't one of its levels                                                none
+ *    3  a lent buffer is too short                                             what each of them needs: fields of the same name
+ *    4  a sum of two counters would pass 2^64 - 1                              the left counters
+ *    5  a path would be longer than 1,024 bytes                                none
+ *    6  not a fast-array body, or not as many bytes as the bits take           none
+ *    7  fewer bits are left than asked                                         first: position, second: window's length, third: bits asked
+ *    8  a packed number goes on behind its fifth byte                          first: where it starts
+ *    9  a packed number's fifth byte holds more than 15                        first: where it starts
+ *   10  a serialized integer with maximum 0                                    none
+ *   11  a vector with scale 0                                                  none
+ *   12  a component is a NaN or infinite                                       none
+ *   13  more than 64 bits asked at once; a rotation of neither 8 nor 16 bits   none
+ *   14  a cursor or a bit count past its bytes, a cursor past its window; a
+ *       copy's target is too short                                             first: bits asked, second: bits available
+ *   docs/REFUSALS.md says what a person at a box does about each.
+ */
+#ifndef VRF_H
+#define VRF_H
+
+#include <stdbool.h>
+#include <stddef.h>
+#include <stdint.h>
+
+#ifdef __cplusplus
+extern "C" {
+#endif
+
+/* ---- walks */
+
+enum {
+  VRF_LONGEST_WINDOW = 524288, /* bits */
+  VRF_LEAF_WORDS = 5,          /* uint32_t in a leaf */
+  VRF_PAIR_WORDS = 2,          /* uint32_t in a pair */
+  VRF_CLEAN = 0,
+  VRF_PARTIAL = 1
+};
+
+/* A root level that means no schema; a declared name's start, with length 0, that means none; the handle of a kept tail, `_raw`. */
+#define VRF_NONE UINT32_C(4294967295)
+
+/* What a walk counted. It is clean if the last five are 0. */
+typedef struct VrfCounters {
+  uint64_t elements;              /* elements, of all levels */
+  uint64_t fields;                /* leaves, kept tails among them; in an object walk pairs */
+  uint64_t truncations;           /* more stood there than is allowed: elements, fields, levels */
+  uint64_t errors;                /* what can't be read; the rest of that array is lost */
+  uint64_t nested_bits;           /* bits inside payloads that were stepped past */
+  uint64_t root_bits;             /* bits behind the root array */
+  uint64_t implicit_terminations; /* arrays and elements that the window's end cuts off */
+} VrfCounters;
+
+/* Accepted: how much of each buffer is filled. Refusal 3: how much of each is needed. */
+typedef struct VrfWalk {
+  uint32_t refusal; /* 1, 2, 5, 3, tried in this order */
+  uint32_t leaves;  /* leaves, of VRF_LEAF_WORDS each */
+  uint32_t path_bytes;
+  uint32_t payload_bytes;
+  VrfCounters counters;
+  uint32_t verdict; /* VRF_CLEAN or VRF_PARTIAL */
+} VrfWalk;
+
+/* The array of structs in the first `bits` bits, taken apart into leaves.
+ *
+ * Tables. rows: the schema, five uint32_t a row (see vrf_schema, which fills one); levels: how many levels it has; root: the level
+ * of the outermost elements, or VRF_NONE; names: the names that rows point into. declared: for each handle two uint32_t, the start
+ * and the length of its name in pool. Without tables pass lengths 0, levels 0 and root VRF_NONE. rows_len has to be the table's own
+ * length: what stands behind the table in a larger buffer is not a row.
+ *
+ * Outputs. A leaf is five uint32_t: path start, path length, handle, bits, payload start. Starts count bytes of paths and of
+ * payloads; paths aren't ended by a zero. A payload takes (bits + 7) / 8 bytes, the first bit lowest, the last byte's spare bits 0.
+ *
+ * How large to lend: call once with lengths 0. The answer is refusal 3 with leaves, path_bytes and payload_bytes; lend
+ * VRF_LEAF_WORDS * leaves numbers and so many bytes, and call again. (A walk that gives nothing is accepted at once.) */
+VrfWalk vrf_struct_array(const uint8_t *bytes, size_t bytes_len, uint32_t bits,
+                         const uint32_t *rows, size_t rows_len, uint32_t levels, uint32_t root,
+                         const uint8_t *names, size_t names_len,
+                         const uint32_t *declared, size_t declared_len,
+                         const uint8_t *pool, size_t pool_len,
+                         uint32_t *leaves, size_t leaves_len,
+                         uint8_t *paths, size_t paths_len,
+                         uint8_t *payloads, size_t payloads_len);
+
+/* The same with no schema, and with no zero byte accepted behind the array. */
+VrfWalk vrf_struct_array_exact(const uint8_t *bytes, size_t bytes_len, uint32_t bits,
+                               const uint32_t *declared, size_t declared_len,
+                               const uint8_t *pool, size_t pool_len,
+                               uint32_t *leaves, size_t leaves_len,
+                               uint8_t *paths, size_t paths_len,
+                               uint8_t *payloads, size_t payloads_len);
+
+typedef struct VrfObjects {
+  uint32_t refusal; /* 1, 3 */
+  uint32_t pairs;   /* filled, or with refusal 3 needed */
+  VrfCounters counters;
+  uint32_t verdict;
+} VrfObjects;
+
+/* The array of object references in the first `bits` bits. A pair is two uint32_t: index, object. How large to lend: call once
+ * with length 0, then lend VRF_PAIR_WORDS * pairs numbers. */
+VrfObjects vrf_object_array(const uint8_t *bytes, size_t bytes_len, uint32_t bits, uint32_t *pairs, size_t pairs_len);
+
+typedef struct VrfMerge {
+  uint32_t refusal; /* 4 */
+  VrfCounters counters;
+} VrfMerge;
+
+/* The counters of two walks added up, counter by counter. */
+VrfMerge vrf_merge(VrfCounters left, VrfCounters right);
+
+/* VRF_CLEAN or VRF_PARTIAL, of a walk that counted this. It refuses nothing. */
+uint32_t vrf_verdict(VrfCounters counters);
+
+/* ---- the schema */
+
+enum {
+  VRF_SCHEMA_ROWS = 170,  /* uint32_t */
+  VRF_SCHEMA_NAMES = 187, /* bytes */
+  VRF_SCHEMA_LEVELS = 12
+};
+
+/* The levels; a walk may start at 1 to 6. */
+enum {
+  VRF_LEAVES = 0,
+  VRF_COMBAT_ROUNDS = 1,
+  VRF_ABILITY_CASTS = 2,
+  VRF_ABILITY_EFFECTS = 3,
+  VRF_LIFE_CHANGE_DAMAGE = 4,
+  VRF_LIFE_CHANGE_SECTION = 5,
+  VRF_LIFE_CHANGE_BY_SECTION = 6,
+  VRF_DEALT_INTERACTION = 7,
+  VRF_RECEIVED_INTERACTION = 8,
+  VRF_PARTICIPANT = 9,
+  VRF_CHARACTER_REPORT = 10,
+  VRF_AFFECTED_TARGET = 11
+};
+
+typedef struct VrfSchema {
+  uint32_t refusal; /* 3 */
+  size_t rows;      /* uint32_t filled, or with refusal 3 needed */
+  size_t names;     /* bytes filled, or with refusal 3 needed */
+  uint32_t levels;  /* for the walk's parameter of that name */
+} VrfSchema;
+
+/* The twelve levels, to the front of both buffers. Lend VRF_SCHEMA_ROWS numbers and VRF_SCHEMA_NAMES bytes or more; hand the walk
+ * the lengths that come back. */
+VrfSchema vrf_schema(uint32_t *rows, size_t rows_len, uint8_t *names, size_t names_len);
+
+/* ---- the fast array */
+
+enum {
+  VRF_ITEM_WORDS = 2, /* uint32_t in an item */
+  VRF_FIELD_WORDS = 3 /* uint32_t in a field */
+};
+
+typedef struct VrfFastArray {
+  uint32_t refusal; /* 1, 6, 3, tried in this order */
+  uint32_t deletes; /* these three: filled, or with refusal 3 needed */
+  uint32_t items;
+  uint32_t fields;
+  int32_t key;
+  int32_t base;
+  uint32_t used; /* bits: all of them */
+} VrfFastArray;
+
+/* The fast-array body that the first `bits` bits are; payload_len has to be (bits + 7) / 8. checksum: 0 if no flag bit stands behind
+ * an item's id, any other number if one does. The bits can't tell which it is: the caller has to know.
+ * A deleted id is one int32_t. An item is its id's bits and its number of fields; its fields follow those of the items before it. A
+ * field is its handle, the first bit of its payload and its width. How large to lend: call once with lengths 0, then lend deletes,
+ * VRF_ITEM_WORDS * items and VRF_FIELD_WORDS * fields numbers. */
+VrfFastArray vrf_fast_array(const uint8_t *payload, size_t payload_len, uint32_t bits, uint32_t checksum,
+                            int32_t *deleted, size_t deleted_len,
+                            uint32_t *items, size_t items_len,
+                            uint32_t *fields, size_t fields_len);
+
+/* ---- bit reads */
+
+/* A window of some bytes, and a place in it. For the first n bits of some bytes: { 0, 0, n }. Every number is allowed: a cursor that
+ * doesn't fit its bytes is refused with 14 before all else. */
+typedef struct VrfCursor {
+  uint64_t start; /* the window's first bit in the bytes */
+  uint64_t pos;   /* the next bit to read, counted from the window's first */
+  uint64_t len;   /* the window's length in bits */
+} VrfCursor;
+
+/* position: where the cursor stands afterwards, refused or not; put it into the cursor's pos to go on. */
+typedef struct VrfRead {
+  uint32_t refusal;
+  uint64_t first, second, third;
+  uint64_t value;
+  uint64_t position;
+} VrfRead;
+
+/* The next `count` bits, at most 64, as one number, the first bit lowest. 14, 13, 7. */
+VrfRead vrf_read_bits(const uint8_t *bytes, size_t bytes_len, VrfCursor cursor, uint64_t count);
+
+/* A packed number. 14, 7, 8, 9. */
+VrfRead vrf_read_packed(const uint8_t *bytes, size_t bytes_len, VrfCursor cursor);
+
+/* An integer below maximum. 14, 10, 7. */
+VrfRead vrf_read_serialized(const uint8_t *bytes, size_t bytes_len, VrfCursor cursor, uint32_t maximum);
+
+/* The next `count` bits to the front of target, which needs (count + 7) / 8 bytes; the last byte's spare bits become 0. value is 0.
+ * 14 for the cursor, 14 for the target, 7. */
+VrfRead vrf_copy_bits(const uint8_t *bytes, size_t bytes_len, VrfCursor cursor, uint64_t count,
+                      uint8_t *target, size_t target_len);
+
+/* ---- vectors, rotations, movement */
+
+typedef struct VrfXyz {
+  double x, y, z;
+} VrfXyz;
+
+/* In degrees. */
+typedef struct VrfAngles {
+  float pitch, yaw, roll;
+} VrfAngles;
+
+typedef struct VrfVector {
+  uint32_t refusal;
+  uint64_t first, second, third;
+  VrfXyz value;
+  uint64_t position;
+} VrfVector;
+
+typedef struct VrfRotation {
+  uint32_t refusal;
+  uint64_t first, second, third;
+  VrfAngles value;
+  uint64_t position;
+} VrfRotation;
+
+/* A quantized vector. 14, 11, 7, 12. */
+VrfVector vrf_vector(const uint8_t *bytes, size_t bytes_len, VrfCursor cursor, uint32_t scale);
+
+/* A fixed-point normal. 14, 7. */
+VrfVector vrf_normal(const uint8_t *bytes, size_t bytes_len, VrfCursor cursor);
+
+/* A rotation of 8 or 16 bits an axis. 14, 13, 7. */
+VrfRotation vrf_rotation(const uint8_t *bytes, size_t bytes_len, VrfCursor cursor, uint32_t width);
+
+/* Absent is not the same as zero: look at `present` first. */
+typedef struct VrfSpin {
+  bool present;
+  VrfXyz velocity;
+} VrfSpin;
+
+typedef struct VrfNumber {
+  bool present;
+  uint32_t value;
+} VrfNumber;
+
+typedef struct VrfMovement {
+  uint32_t refusal; /* 1, 14, then those of the parts: 7, 8, 9, 12 */
+  uint64_t first, second, third;
+  VrfXyz location;
+  VrfAngles rotation;
+  VrfXyz linear; /* velocity */
+  VrfSpin angular;
+  bool sleep;
+  bool physics;
+  VrfNumber frame;
+  VrfNumber handle;
+  uint64_t position; /* the bits used, or where a refused reading stopped */
+} VrfMovement;
+
+/* How a movement is sent. A number that isn't listed counts as the last of its list. */
+enum { VRF_ROTATION_8_BITS = 0, VRF_ROTATION_16_BITS = 1 };
+enum { VRF_LOCATION_SCALE_1 = 0, VRF_LOCATION_SCALE_10 = 1, VRF_LOCATION_SCALE_100 = 2 };
+
+/* The movement record in the first `count` bits; bits may be left over. */
+VrfMovement vrf_movement(const uint8_t *bytes, size_t bytes_len, uint64_t count, uint32_t rotation, uint32_t location);
+
+#ifdef __cplusplus
+}
+#endif
+
+#endif
