@@ -22,6 +22,7 @@ use Rattle.framing.specs.Counters.{counted}
 use Rattle.framing.specs.Refusing.{Room, within}
 use Rattle.outputs.specs.World.{World, fresh}
 use Rattle.outputs.specs.Answers.{laid}
+use Rattle.outputs.proofs.After.{no-length}
 use Rattle.steps.specs.Held.{held, ran}
 use Rattle.steps.specs.Views.{inner, sinkFor}
 use Rattle.cycle.specs.Cycle.{Ready}
@@ -129,20 +130,16 @@ unfolding held
 starts-fresh words text load = refl
 
 -- outputs of no length stay empty
-none : (l : List ℕ) → length l ≡ 0 → l ≡ []
-none [] h = refl
-none (x ∷ l) h = absurd (omega arith)
-
 pub words-alone : (t : Trace) (d l p y b : List ℕ) → length p ≡ 0 → length y ≡ 0
     → held d l p y ≡ ran t (held (0 ∷ 0 ∷ 0 ∷ 0 ∷ 0 ∷ 0 ∷ 0 ∷ 0 ∷ 0 ∷ 0 ∷ 0 ∷ []) b [] []) → held d l [] [] ≡ ran t (fresh b [] [])
 words-alone t d l p y b ep ey e =
-    let np = none p ep in
-    let ny = none y ey in
+    let np = no-length p ep in
+    let ny = no-length y ey in
     sym (λ i. held d l (np i) (ny i)) ∙ e ∙ ap (ran t) (starts-fresh b [] [])
 
 pub measures : (t : Trace) (d l p y : List ℕ) → length l ≡ 0 → length p ≡ 0 → length y ≡ 0
     → held d l p y ≡ ran t (held (0 ∷ 0 ∷ 0 ∷ 0 ∷ 0 ∷ 0 ∷ 0 ∷ 0 ∷ 0 ∷ 0 ∷ 0 ∷ []) [] [] []) → held d [] [] [] ≡ ran t (fresh [] [] [])
-measures t d l p y el ep ey e = let nl = none l el in sym (λ i. held d (nl i) [] []) ∙ words-alone t d l p y [] ep ey e
+measures t d l p y el ep ey e = let nl = no-length l el in sym (λ i. held d (nl i) [] []) ∙ words-alone t d l p y [] ep ey e
 
 -- ---- what is read off a pass
 

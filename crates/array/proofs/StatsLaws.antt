@@ -7,7 +7,7 @@ use lib.Dec.{leb, ltb, eqb}
 use borrow.Author.Tests.{ltb-true, leb-true, leb-false, lt-ltb, le-ltb, ne-eqb}
 use Rattle.framing.specs.Counters.{Counters, sums, faults, isClean}
 use Rattle.framing.specs.Sinks.{verdictOf}
-use Rattle.framing.proofs.Demand3.{and-true}
+use Rattle.bits.proofs.ChoiceLaws.{and-true}
 use Rattle.array.specs.Merges.{summed, overflowing, counterLimit, bounded, merge}
 use Rattle.array.specs.Calls.{Judges}
 use Rattle.array.specs.declared.Verdict.the-variants as verdict

@@ -8,16 +8,15 @@ use lib.Dec.{ltb, eqb}
 use Rattle.bits.specs.Choice.{if_then_else_}
 use Rattle.bitio.specs.Cursors.{longestWindow}
 use Rattle.schema.specs.Tables.{Tables, absent}
-use Rattle.schema.specs.Labels.{leafLabel, containerLabel}
+use Rattle.schema.specs.Labels.{leafLabel, containerLabel, LabelLies}
 use Rattle.schema.specs.Spans.{spansOf}
 use Rattle.framing.specs.Events.{error, Trace}
 use Rattle.framing.specs.Walk.{level}
-use Rattle.framing.specs.Sinks.{Walk, struct, exact, declaredOnly, maxNesting}
+use Rattle.framing.specs.Sinks.{Walk, struct, exact, declaredOnly, levelsBelow}
 use Rattle.framing.specs.Records.{leafWords}
 use Rattle.framing.specs.Refusing.{Room}
 use Rattle.outputs.specs.Answers.{Lent}
 use Rattle.steps.specs.Views.{inner, sinkFor}
-use Rattle.steps.specs.Paths.{Lies}
 use Rattle.array.specs.Calls.{callOf, Decodes}
 use Rattle.array.specs.declared.StructArray.{StructArray}
 use Rattle.steps.specs.declared.Sink.{Sink}
@@ -26,8 +25,8 @@ use Rattle.steps.specs.declared.Sink.the-variants as sink
 -- the window is not too long, every label lies in its pool, and the spans are those of the rows
 pub record Passable (bits : ℕ) (t : Tables) (spans : List ℕ) : Type 0 where
   pub short : bits ≤ longestWindow
-  pub leaf-lies : (level handle : ℕ) → Lies t (leafLabel t level handle)
-  pub container-lies : (level handle : ℕ) → Lies t (containerLabel t level handle)
+  pub leaf-lies : (level handle : ℕ) → LabelLies t (leafLabel t level handle)
+  pub container-lies : (level handle : ℕ) → LabelLies t (containerLabel t level handle)
   pub spans-are : spans ≡ spansOf (t .rows)
 
 -- rule 9: a struct or exact walk of no bits counts nothing
@@ -38,11 +37,7 @@ silentFor sink.Object bits = false
 unfoldable pub passTrace : Sink → Tables → (root : ℕ) (bytes : List ℕ) (bits : ℕ) → Trace
 passTrace s t root bytes bits =
     if silentFor s bits then [] else
-    (if ltb (8 * length bytes) bits then error ∷ [] else level (sinkFor s t (maxNesting - 1) false root) (inner bytes 0 bits 0) [])
-
--- the room in outputs of these lengths
-abbrev pub roomBy : (words paths payloads : ℕ) → Room
-roomBy l p y = record { leaves = l / leafWords; pathBytes = p; payloadBytes = y }
+    (if ltb (8 * length bytes) bits then error ∷ [] else level (sinkFor s t levelsBelow false root) (inner bytes 0 bits 0) [])
 
 -- the walk that the code's sink and tables stand for: with the trailer a struct walk, without it an exact one, which has no schema
 pub data Stands : (trailer : Bool) → Tables → (levels root : ℕ) → Walk → Type 0 where

@@ -164,8 +164,8 @@ fn decode_leaves<'a>(
     StructArray::Decoded(stats, judged, extent)
 }
 
-// The leaves of the array of structs in the first `bits` bits. A leaf is five u32: path start, path length, handle, bits,
-// payload start.
+// The leaves of the array of structs in the first `bits` bits. Of each five numbers are written: where its path starts and
+// how long it is, the handle, the bits of its payload and where that starts.
 pub fn decode_struct_array<'a>(
     bytes: &[u8],
     bits: u32,

@@ -1,25 +1,16 @@
 -- The laws of cursors: what is good, what a bad one gets, and the window's fields as fields of the bytes.
-use Prim.Native.Nat.{ℕ, _+_, _-_, _*_, _^_, _≤_, _<_}
-use mathlib.Core.Path.{_≡_, refl, sym, ap, _∙_}
+use Prim.Native.Nat.{ℕ, _+_, _≤_, _<_}
+use mathlib.Core.Path.{_≡_, sym, ap, _∙_}
 use mathlib.Core.List.{List}
-use mathlib.Core.Bool.{Bool, true, false, not, _&&_}
-use native.Mathlib.Omega.{arith}
-use lib.Dec.{leb}
+use mathlib.Core.Bool.{Bool, true, false, not}
 use borrow.Author.Tests.{le-leb, lt-leb, leb-true, lt-ltb, le-ltb, not-true, not-false}
 use Rattle.bits.specs.Bits.{num, field}
+use Rattle.bits.proofs.ChoiceLaws.{and-true}
 use Rattle.bits.proofs.FieldLaws.{field-field}
 use Rattle.bitio.specs.Cursors.{bitsOf, good, window, badCursor, atCursor, asking}
 use Rattle.bitio.specs.declared.Cursor.{Cursor}
 use Rattle.bitio.specs.declared.Refusal.{Refusal}
 use Rattle.bitio.specs.declared.Refusal.the-variants.{TooFew}
-
-both-true : (a b : Bool) → a && b ≡ true → (a ≡ true) × (b ≡ true)
-both-true true true e = (refl, refl)
-both-true true false e = (refl, e)
-both-true false b e = (e, other b e)
-  where
-    other : (b : Bool) → false ≡ true → b ≡ true
-    other b e = cc
 
 module _ (s : List ℕ) (c : Cursor) where
   pub good-true : c .pos ≤ c .len → c .start + c .len ≤ bitsOf s → good s c ≡ true
@@ -36,7 +27,7 @@ module _ (s : List ℕ) (c : Cursor) where
 
   pub good-le : good s c ≡ true → (c .pos ≤ c .len) × (c .start + c .len ≤ bitsOf s)
   unfolding good
-  good-le e = let p = both-true _ _ e in (leb-true _ _ (p .0), leb-true _ _ (p .1))
+  good-le e = let p = and-true _ _ e in (leb-true _ _ (p .0), leb-true _ _ (p .1))
 
   -- a field of the window is a field of the bytes
   pub window-field : (p n : ℕ) → p + n ≤ c .len → field (window s c) p n ≡ field (num s) (c .start + p) n

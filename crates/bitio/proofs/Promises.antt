@@ -1,7 +1,7 @@
 -- What the calls' definitions promise: refusals exactly when document 01 says and in its order, nothing moved by bits outside the window, and
 -- a buffer that a refusal leaves alone.
 use Prim.Native.Nat.{ℕ, _+_, _-_, _*_, _^_, _<_, min}
-use mathlib.Core.Path.{_≡_, refl, sym, ap, ap₂, _∙_}
+use mathlib.Core.Path.{_≡_, refl, ap, ap₂, _∙_}
 use mathlib.Core.List.{List}
 use mathlib.Core.Bool.{Bool, _&&_}
 use mathlib.Core.Option.{Option, none, some}
@@ -17,7 +17,7 @@ use Rattle.bitio.specs.Numbers.{readIntPacked, readSerializedInt}
 use Rattle.bitio.specs.Copies.{copyAnswer, pasted, copyTarget}
 use Rattle.bits.specs.Refusals.{firstOf}
 use Rattle.bitio.specs.Order.{openingRules, takingRules, readingRules, copyingRules}
-use Rattle.bitio.proofs.ReadLaws.{by-cases}
+use Rattle.bits.proofs.ChoiceLaws.{by-cases}
 use Rattle.bitio.proofs.CopyLaws.{refused-target}
 use Rattle.bitio.specs.declared.Cursor.{Cursor}
 use Rattle.bitio.specs.declared.Refusal.{Refusal}

@@ -1,14 +1,15 @@
 -- What an answer that was given says: the bits were there, and the number has their width.
 use Prim.Native.Nat.{ℕ, _+_, _^_, _≤_, _<_}
-use mathlib.Core.Path.{_≡_, refl, sym, ap, _∙_, subst}
+use mathlib.Core.Path.{_≡_, sym, _∙_, subst}
 use mathlib.Core.List.{List}
-use mathlib.Core.Bool.{Bool, true, false}
-use native.Mathlib.Omega.{arith}
+use mathlib.Core.Bool.{true}
 use lib.Dec.{leb}
 use borrow.Author.Tests.{leb-true, leb-false}
-use Rattle.bits.specs.Bits.{num, field}
+use Rattle.bits.specs.Bits.{num}
 use Rattle.bits.specs.Packed.{packed}
 use Rattle.bits.proofs.PackedLaws.{packed-window}
+use Rattle.bits.proofs.ChoiceLaws.{by-cases}
+use Rattle.bits.proofs.Never.{never}
 use Rattle.bits.proofs.FieldLaws.{field-lt}
 use Rattle.bitio.specs.Cursors.{good, window, badCursor, asking, skipped}
 use Rattle.bitio.specs.Reads.{seen, taken}
@@ -19,13 +20,6 @@ use Rattle.bitio.specs.declared.Skipped.{Skipped}
 use Rattle.bitio.specs.declared.Skipped.the-variants as Skip
 use Rattle.bitio.specs.declared.U64Read.the-variants as U64
 
-pub by-cases : {A : Type 0} (b : Bool) → (b ≡ true → A) → (b ≡ false → A) → A
-by-cases true f g = f refl
-by-cases false f g = g refl
-
-never : _≡_ {A = ℕ} 0 1 → ⊥
-never z = omega arith
-
 -- bits that were skipped lie in the window
 pub skip-done : (s : List ℕ) (c : Cursor) (n next : ℕ) → skipped s c n ≡ Skip.Done next → (good s c ≡ true) × (c .pos + n ≤ c .len)
 skip-done s c n next e =
@@ -34,15 +28,15 @@ skip-done s c n next e =
     (λ h. (g, leb-true _ _ h))
     (λ h. let few : skipped s c n ≡ Skip.Refused (TooFew (c .pos) (c .len) n)
     = at-good s c Skip.Refused (λ W. asking (c .len) (c .pos) n Skip.Refused (Skip.Done (c .pos + n))) g ∙ asking-few (c .len) (c .pos) n Skip.Refused _ (leb-false _ _ h) in
-    let z : _≡_ {A = ℕ} 0 1 = cc in absurd (never z)))
+    let z : _≡_ {A = ℕ} 0 1 = cc in never z))
     (λ g. let bad : skipped s c n ≡ Skip.Refused (badCursor s c)
     = at-bad s c Skip.Refused (λ W. asking (c .len) (c .pos) n Skip.Refused (Skip.Done (c .pos + n))) g in
-    let z : _≡_ {A = ℕ} 0 1 = cc in absurd (never z))
+    let z : _≡_ {A = ℕ} 0 1 = cc in never z)
 
 seen-value : (x y next : ℕ) (k : Skipped) → seen x k ≡ U64.Value y next → y ≡ x
 unfolding seen
 seen-value x y next (Skip.Done n) e = cc
-seen-value x y next (Skip.Refused r) e = let z : _≡_ {A = ℕ} 0 1 = cc in omega arith
+seen-value x y next (Skip.Refused r) e = let z : _≡_ {A = ℕ} 0 1 = cc in never z
 
 -- a number that was taken has the width that was asked
 pub taken-lt : (s : List ℕ) (c : Cursor) (n x next : ℕ) → taken s c n ≡ U64.Value x next → x < 2 ^ n

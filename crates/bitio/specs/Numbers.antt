@@ -35,8 +35,8 @@ halvings (suc k) n = if leb n 1 then 0 else suc (halvings k (n / 2))
 unfoldable pub log2 : ℕ → ℕ
 log2 n = halvings 32 n
 
--- A serialized integer with maximum m, of which b bits v are read, up to pos: if v + 2 ^ b reaches m the answer is v, else one more bit
--- adds 2 ^ b.
+-- A serialized integer below m, whose low b bits v stand before pos: the next bit, worth 2 ^ b, is read only where the sum would still be below
+-- m.
 unfoldable pub serializedTop : (W len m b v pos : ℕ) → SerializedRead
 serializedTop W len m b v pos =
     if leb m (v + 2 ^ b) then Ser.Value v pos else asking len pos 1 Ser.Refused (Ser.Value (v + field W pos 1 * 2 ^ b) (pos + 1))

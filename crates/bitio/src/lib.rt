@@ -1,7 +1,7 @@
 // The bit reader (vrf-bitio/src/lib.rs): reads at a cursor that stands in a window of bits of some bytes.
 //
-// Bit k of a window is bit k mod 8 of byte k div 8, counted from the low end, after the window's start; the first bit
-// read is the lowest. Every call takes any bytes, any cursor and any count, and answers with a value or with one of
+// A byte holds eight bits of a window, its lowest first, from the window's start on; a number's lowest bit is read
+// first. Every call takes any bytes, any cursor and any count, and answers with a value or with one of
 // document 01's refusals. A cursor goes in by value; an answer carries the next position.
 ghost use mathlib.Core.Path.{_≡_};
 ghost use Prim.Native.Nat.{_+_, _-_, _*_, _≤_, _<_};

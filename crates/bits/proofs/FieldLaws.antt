@@ -2,12 +2,12 @@
 use Prim.Native.Nat.{ℕ, zero, suc, _+_, _-_, _*_, _/_, _%_, _^_, _≤_, _<_}
 use mathlib.Core.Path.{_≡_, refl, sym, ap, ap₂, _∙_, subst}
 use mathlib.Core.List.{List, [], _∷_}
-use native.Mathlib.Nat.{mod-lt, zero-div, zero-mod, div-add-mod, mod-mod, mod-one, add-zero, mul-comm, add-comm, mul-suc, div-one, pow-zero, add-mul-div-left, add-mul-mod-self-left, div-eq-of-lt, mod-eq-of-lt, sub-add-cancel, zero-add, lt-of-lt-of-le}
+use native.Mathlib.Nat.{mod-lt, zero-div, zero-mod, div-add-mod, mod-one, add-zero, mul-comm, add-comm, div-one, add-mul-div-left, add-mul-mod-self-left, div-eq-of-lt, mod-eq-of-lt, sub-add-cancel, zero-add, lt-of-lt-of-le}
 use native.Mathlib.Numerals.{add-one}
 use native.Mathlib.Omega.{arith}
 use lib.ListN.{length, getD, take, drop, List·getD-eq-default}
 use lib.Dec.{lit<}
-use lib.Seq.{getD-drop, getD-take}
+use lib.Seq.{getD-drop}
 use lib.Pow.{pow-pos, pow-mono, pow-add, shr-shr, shr-lt, mod-pow-add, mod-mod-pow}
 use lib.Pow as P
 use Rattle.bits.specs.Bits.{num, field, Bytes}
@@ -82,7 +82,7 @@ step : (b : ℕ) (s : List ℕ) → b < 2 ^ 8 → num (b ∷ s) / 2 ^ 8 ≡ num 
 unfolding num
 step b s h = add-mul-div-left b (num s) (lit< tt) ∙ ap (λ (x : ℕ). x + num s) (div-eq-of-lt h) ∙ zero-add (num s)
 
-eight-suc : (i : ℕ) → 8 * suc i ≡ 8 + 8 * i
+pub eight-suc : (i : ℕ) → 8 * suc i ≡ 8 + 8 * i
 eight-suc i = omega arith
 
 num-nil-shr : (k : ℕ) → num [] ≡ num [] / 2 ^ k

@@ -5,3 +5,4 @@ pub mod PackedLaws
 pub mod PackedWindows
 pub mod TwosLaws
 pub mod Never
+pub mod ChoiceLaws

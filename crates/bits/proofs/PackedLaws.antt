@@ -1,7 +1,7 @@
 -- The laws of the packed number: what each byte that is read makes of it.
 use Prim.Native.Nat.{ℕ, zero, suc, _+_, _-_, _*_, _/_, _%_, _^_, _≤_, _<_}
 use mathlib.Core.Path.{_≡_, refl, sym, ap, ap₂, _∙_, subst}
-use mathlib.Core.Bool.{Bool, true, false}
+use mathlib.Core.Bool.{true, false}
 use native.Mathlib.Nat.{add-zero, add-assoc, mul-add, mul-assoc, mul-comm}
 use native.Mathlib.Omega.{arith}
 use lib.Dec.{leb, eqb}
@@ -9,6 +9,7 @@ use lib.Pow.{pow-add}
 use borrow.Author.Tests.{le-leb, lt-leb, leb-true, leb-false, eq-eqb, ne-eqb}
 use Rattle.bits.specs.Bits.{field}
 use Rattle.bits.specs.Packed.{after, earlierByte, fifthByte, packedFrom, packed}
+use Rattle.bits.proofs.ChoiceLaws.{by-cases}
 use Rattle.bits.proofs.FieldLaws.{field-field}
 use Rattle.bits.specs.declared.Packed.{Packed}
 use Rattle.bits.specs.declared.Packed.the-variants.{Whole, Cut, GoesOn, Overflows}
@@ -107,10 +108,6 @@ module _ (W len p : ℕ) where
 
 -- ---- windows
 
-choose : {A : Type 0} (b : Bool) → (b ≡ true → A) → (b ≡ false → A) → A
-choose true f g = f refl
-choose false f g = g refl
-
 -- the same test in the window and in the bytes
 shifted-in : (start len p : ℕ) → p + 8 ≤ len → leb (start + p + 8) (start + len) ≡ true
 shifted-in start len p h = le-leb (start + p + 8) (start + len) (omega arith)
@@ -122,11 +119,11 @@ shifted-out start len p h = lt-leb (start + p + 8) (start + len) (omega arith)
 from-window : (left N start len p : ℕ) → packedFrom left (field N start len) len p ≡ packedFrom left N (start + len) (start + p)
 unfolding packedFrom
 from-window zero N start len p =
-    choose (leb (p + 8) len)
+    by-cases (leb (p + 8) len)
     (λ k. let h : p + 8 ≤ len = leb-true _ _ k in simp (k, shifted-in start len p h) (ap fifthByte (field-field N start len p 8 h)))
     (λ k. simp (k, shifted-out start len p (leb-false _ _ k)))
 from-window (suc left) N start len p =
-    choose (leb (p + 8) len)
+    by-cases (leb (p + 8) len)
     (λ k. let h : p + 8 ≤ len = leb-true _ _ k in
     simp (k, shifted-in start len p h)
     (ap₂ earlierByte (field-field N start len p 8 h)
@@ -156,21 +153,21 @@ read-after left g Overflows = omega arith
 read-fifth : (b : ℕ) → bytesRead 0 (fifthByte b) ≡ 1
 unfolding fifthByte
 read-fifth b =
-    choose (eqb (b % 2) 0)
-    (λ e. choose (leb (b / 2) 15) (λ k. simp (e, k)) (λ k. simp (e, k)))
+    by-cases (eqb (b % 2) 0)
+    (λ e. by-cases (leb (b / 2) 15) (λ k. simp (e, k)) (λ k. simp (e, k)))
     (λ e. simp e)
 
 -- they lie in the window
 pub read-within : (left W len p : ℕ) → p ≤ len → p + 8 * bytesRead left (packedFrom left W len p) ≤ len
 unfolding packedFrom earlierByte
 read-within zero W len p h =
-    choose (leb (p + 8) len)
+    by-cases (leb (p + 8) len)
     (λ k. let l : p + 8 ≤ len = leb-true _ _ k in simp k (omega (arith, read-fifth (field W p 8))))
     (λ k. simp k (omega arith))
 read-within (suc left) W len p h =
-    choose (leb (p + 8) len)
+    by-cases (leb (p + 8) len)
     (λ k. let l : p + 8 ≤ len = leb-true _ _ k in
-    choose (eqb (field W p 8 % 2) 0)
+    by-cases (eqb (field W p 8 % 2) 0)
     (λ e. simp (k, e) (omega arith))
     (λ e. simp (k, e)
     (omega (arith, read-after left (field W p 8 / 2) (packedFrom left W len (p + 8)), read-within left W len (p + 8) l))))

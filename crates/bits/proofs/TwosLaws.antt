@@ -1,17 +1,17 @@
 -- Signed numbers from unsigned ones: a difference of two unsigned numbers as an `i64`, and the w bits of a number as two's complement.
 -- Assumes nothing.
-use mathlib.Core.Path.{_≡_, refl, sym, ap, _∙_, subst}
+use mathlib.Core.Path.{_≡_, refl, sym, ap, _∙_}
 use mathlib.Core.Bool.{Bool, true, false, cond}
 use Prim.Native.Nat.{ℕ, zero, suc, _+_, _-_, _*_, _%_, _^_, _≤_, _<_}
 use native.Mathlib.Nat.{mod-eq-of-lt, pow-suc, one-mul}
 use native.Mathlib.Omega.{arith}
-use lib.Dec.{T, ltb, ltb→lt, nltb→le}
-use lib.Pow.{pow-mono, pow-pos}
+use lib.Dec.{T, ltb, ltb→lt}
+use lib.Pow.{pow-mono}
 use lib.IntN.{ℤ, pos, negsuc, natAbs, subℕ, _-ℤ_}
 use borrow.Author.Tests.{lt-ltb, le-ltb, ltb-true, ltb-false}
 use mir.Val.{SFits, toZ, ofZ, hbits}
-use mir.Syntax.{Width}
-use mir.Facts.{toZ-pos, toZ-ofZ}
+use mir.Syntax.{Width, w32, w64}
+use mir.Facts.{toZ-ofZ}
 use Rattle.bits.specs.Choice.{if_then_else_}
 use Rattle.bits.specs.TwosComplement.{twos}
 
@@ -84,3 +84,14 @@ twos-fits t w raw lo hi h f = go (ltb raw (2 ^ (w - 1))) refl
         let l : raw < 2 ^ hbits t = omega (arith, half) in
         rw (twos-low w raw k) (record { sfits = l })
     go false e = let k : 2 ^ (w - 1) ≤ raw = ltb-false _ _ e in rw (← (twos-high w raw lo hi f k)) (rest k)
+
+-- 32 bits that are made an i64, and that an i32
+module _ (x : ℕ) (z : ℤ) (h : x < 2 ^ 32) (e : z ≡ twos 32 x) where
+  pub twos-i64 : toZ w64 (ofZ w64 z) ≡ twos 32 x
+  twos-i64 = rw e (toZ-ofZ (twos-fits w64 32 x (omega arith) (omega arith) (omega arith) h))
+
+  pub twos-narrows : SFits w32 (toZ w64 (ofZ w64 z))
+  twos-narrows = rw twos-i64 (twos-fits w32 32 x (omega arith) (omega arith) (omega arith) h)
+
+  pub twos-i32 : toZ w32 (ofZ w32 (toZ w64 (ofZ w64 z))) ≡ twos 32 x
+  twos-i32 = rw twos-i64 (toZ-ofZ (twos-fits w32 32 x (omega arith) (omega arith) (omega arith) h))

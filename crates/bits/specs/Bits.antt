@@ -1,5 +1,5 @@
--- Bytes as one number, and a field of bits of a number. Bit k of some bytes is bit k mod 8 of byte k div 8, counted from the low end
--- (`field-bit` in proofs/FieldLaws), and the first bit of a field is its lowest.
+-- Bytes as one number, and a field of bits of a number. Eight bits come from each byte, its lowest first (`field-bit` in proofs/FieldLaws), and
+-- a field begins with its lowest bit.
 use Prim.Native.Nat.{ℕ, _+_, _*_, _/_, _%_, _^_, _<_}
 use mathlib.Core.List.{List, [], _∷_}
 use lib.ListN.{getD}

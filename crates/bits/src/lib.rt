@@ -2,7 +2,7 @@
 // (vrf-bitio/src/lib.rs). The functions here ask for room by a `requires` and test nothing twice; the crate bitio has the
 // same reads as calls that take any cursor.
 //
-// A position is a bit of the slice: bit k is bit k mod 8 of byte k div 8, counted from the low end.
+// A position is a bit of the slice: eight to a byte, each byte's lowest first.
 
 pub mod copy;
 pub mod field;

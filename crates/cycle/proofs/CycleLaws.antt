@@ -1,15 +1,13 @@
 -- What the cycle's loops keep: the rest of the definition's walk from here, on the world as it is, comes to what the whole comes to from the
 -- world at the entry.
-use Prim.Native.Nat.{ℕ, _+_, _-_, _*_, _/_, _%_, _≤_, _<_}
+use Prim.Native.Nat.{ℕ, _+_, _-_, _*_, _/_, _%_, _≤_}
 use native.Mathlib.Omega.{arith}
 use mathlib.Core.Path.{_≡_, refl, sym, ap, ap₂, subst, _∙_}
 use mathlib.Core.Bool.{Bool, true, _&&_}
-use mathlib.Core.List.{List, [], _∷_, _++_}
+use mathlib.Core.List.{List, _∷_}
 use lib.Dec.{eqb}
 use lib.ListN.{length, take, drop, length-drop}
 use lib.Seq.{take-take, length-take-le}
-use types.Run.{OneOf, miss}
-use denote.Enum.Declared.{tagOf}
 use Rattle.bits.proofs.Never.{never}
 use Rattle.schema.specs.Tables.{Tables, tables, lookUps}
 use Rattle.schema.specs.Labels.{labelBytes, dot}
@@ -17,25 +15,23 @@ use Rattle.schema.specs.declared.Label.{Label}
 use Rattle.framing.specs.Windows.{Window}
 use Rattle.framing.specs.Events.{element, Trace}
 use Rattle.framing.specs.Paths.{grown, noted, longestPath}
-use Rattle.framing.specs.Walk as W
 use Rattle.framing.specs.Walk.{Run, done, stopped, prepend, fields, behind, elements, level, inItem, entering, maxFields, maxElements}
 use Rattle.outputs.specs.World.{World}
 use Rattle.steps.specs.Held.{ran}
 use Rattle.steps.specs.Views.{inner, upTo, sinkFor, exitSink}
 use Rattle.steps.specs.Heads.{levelHead, elementHead, fieldHead}
-use Rattle.steps.specs.Paths.{pools, itemPath, itemNoted}
-use Rattle.steps.specs.Kinds.{kindOf}
+use Rattle.steps.specs.Paths.{itemPath, itemNoted}
+use Rattle.steps.specs.Kinds.{kindOf, KindLies}
 use Rattle.steps.specs.Gives.{fieldsStop, levelStop, flatField}
 use Rattle.steps.specs.declared.Sink.{Sink}
 use Rattle.steps.specs.declared.Head.{Head}
 use Rattle.steps.specs.declared.Head.the-variants as head
 use Rattle.steps.specs.declared.Kind.{Kind}
 use Rattle.steps.specs.declared.Kind.the-variants as kind
-use Rattle.steps.proofs.Head as HeadType
-use Rattle.steps.proofs.Kind as KindType
+use Rattle.steps.proofs.CaseLaws.{NotGo, NotClosed, NotArray}
 use Rattle.steps.proofs.ShiftLaws.{size-inner}
-use Rattle.steps.proofs.WalkLaws.{ran-append, NotGo, NotClosed, Alike, Ends, Shuts, Goes, level-exit, level-walks, level-next, elements-exit, elements-walk, element-next, fields-exit, fields-closed, fields-walk, field-next}
-use Rattle.steps.proofs.FieldKindLaws.{sink-alike, item-path, item-noted, pool-bytes, kind-tables, flat-pools, NotArray, field-flat, field-array}
+use Rattle.steps.proofs.WalkLaws.{ran-append, Alike, Ends, Shuts, Goes, level-exit, level-walks, level-next, elements-exit, elements-walk, element-next, fields-exit, fields-closed, fields-walk, field-next}
+use Rattle.steps.proofs.FieldKindLaws.{sink-alike, item-path, item-noted, kind-tables, kind-lies, field-flat, field-array}
 use Rattle.cycle.specs.Cycle.{Place, place, sinkAt, windowAt, Ready, LevelRan, Done, finished, FieldsRan, FieldRan}
 use Rattle.cycle.specs.declared.After.{After}
 use Rattle.cycle.specs.declared.After.the-variants as after
@@ -279,28 +275,7 @@ module _ (q : Place) (index : ℕ) (first : Bool) (handle start : ℕ) (x : Worl
         kept = same;
       }
 
--- ---- for the code: which variants a failed match leaves, and the part of the bytes that a child gets
-
-pub not-go : (h : Head) → OneOf (0 ∷ 1 ∷ 2 ∷ 3 ∷ []) (tagOf HeadType.the-type h) → NotGo h
-not-go head.Ended o = tt
-not-go head.Failed o = tt
-not-go (head.Closed n) o = tt
-not-go (head.Limit n) o = tt
-not-go (head.Go v a b) o = miss (0 ∷ 1 ∷ 2 ∷ 3 ∷ []) 4 tt o
-
-pub not-closed : (h : Head) → OneOf (0 ∷ 1 ∷ 3 ∷ 4 ∷ []) (tagOf HeadType.the-type h) → NotClosed h
-not-closed head.Ended o = tt
-not-closed head.Failed o = tt
-not-closed (head.Closed n) o = miss (0 ∷ 1 ∷ 3 ∷ 4 ∷ []) 2 tt o
-not-closed (head.Limit n) o = tt
-not-closed (head.Go v a b) o = tt
-
-pub not-array : (k : Kind) → OneOf (0 ∷ 1 ∷ 2 ∷ 3 ∷ []) (tagOf KindType.the-type k) → NotArray k
-not-array kind.Object o = tt
-not-array kind.Nothing o = tt
-not-array (kind.Leaf x) o = tt
-not-array (kind.Deep x) o = tt
-not-array (kind.Array lower x) o = miss (0 ∷ 1 ∷ 2 ∷ 3 ∷ []) 4 tt o
+-- ---- for the code: the part of the bytes that a child gets
 
 -- a child's window lies in the bytes that it gets
 pub child-inside : (bytes : List ℕ) (start end : ℕ) → start ≤ end → end ≤ 8 * length bytes
@@ -309,6 +284,19 @@ child-inside bytes start end le fit =
     let d = length-drop (start / 8) bytes in
     let t = length-take-le ((end + 7) / 8 - start / 8) (drop (start / 8) bytes) (omega arith) in
     omega arith
+
+-- what the code found a field to be is what the tables say of it, and its label lies in a pool
+module _ (rows names declared pool : List ℕ) where
+  pub kind-is : (s : Sink) (below lvl handle width : ℕ) {k : Kind} → k ≡ kindOf s (lookUps rows declared) below lvl handle width
+      → k ≡ kindOf s (tables rows names declared pool) below lvl handle width
+  kind-is s below lvl handle width e = e ∙ kind-tables s rows names declared pool below lvl handle width
+
+  pub kind-ready : {bytes : List ℕ} {start end plen : ℕ} {spans : List ℕ} → Ready bytes start end plen (tables rows names declared pool) spans
+      → (s : Sink) (below lvl handle width : ℕ) {k : Kind} → k ≡ kindOf s (lookUps rows declared) below lvl handle width
+      → KindLies (tables rows names declared pool) k
+  kind-ready r s below lvl handle width e =
+      let t = tables rows names declared pool in
+      subst (KindLies t) (sym (kind-is s below lvl handle width e)) (kind-lies s t below lvl handle width (r .leaf-lies) (r .container-lies))
 
 -- what the code asks for a child, and for a field or an element's fields of the same level
 pub ready-child : (bytes : List ℕ) (start end plen longer : ℕ) (t : Tables) (spans : List ℕ) → Ready bytes start end plen t spans → longer ≤ longestPath

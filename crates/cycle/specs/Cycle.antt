@@ -5,7 +5,7 @@ use mathlib.Core.Bool.{Bool, true}
 use mathlib.Core.List.{List}
 use lib.ListN.{length}
 use Rattle.schema.specs.Tables.{Tables}
-use Rattle.schema.specs.Labels.{leafLabel, containerLabel}
+use Rattle.schema.specs.Labels.{leafLabel, containerLabel, LabelLies}
 use Rattle.schema.specs.Spans.{spansOf}
 use Rattle.framing.specs.Windows.{Window}
 use Rattle.framing.specs.Walk as W
@@ -15,7 +15,6 @@ use Rattle.outputs.specs.World.{World}
 use Rattle.bitio.specs.Cursors.{longestWindow}
 use Rattle.steps.specs.Held.{ran}
 use Rattle.steps.specs.Views.{inner, sinkFor}
-use Rattle.steps.specs.Paths.{Lies}
 use Rattle.steps.specs.declared.Sink.{Sink}
 use Rattle.cycle.specs.declared.After.{After}
 use Rattle.cycle.specs.declared.After.the-variants as after
@@ -49,8 +48,8 @@ pub record Ready (bytes : List ℕ) (start end plen : ℕ) (t : Tables) (spans :
   pub inside : end ≤ 8 * length bytes
   pub short : end ≤ longestWindow
   pub path : plen ≤ longestPath
-  pub leaf-lies : (level handle : ℕ) → Lies t (leafLabel t level handle)
-  pub container-lies : (level handle : ℕ) → Lies t (containerLabel t level handle)
+  pub leaf-lies : (level handle : ℕ) → LabelLies t (leafLabel t level handle)
+  pub container-lies : (level handle : ℕ) → LabelLies t (containerLabel t level handle)
   pub spans-are : spans ≡ spansOf (t .rows)
 
 -- a level: the world x became y, and the path the walk stands at is still `path`

@@ -11,7 +11,6 @@ use lib.Ieee.Scale.{finite}
 use Rattle.bits.specs.Choice.{if_then_else_}
 use Rattle.bits.specs.Bits.{field}
 use Rattle.bits.specs.Packed.{packed}
-use Rattle.bits.specs.TwosComplement.{twos}
 use Rattle.bits.specs.declared.Packed.{Packed}
 use Rattle.bits.specs.declared.Packed.the-variants as Num
 use Rattle.bits.proofs.PackedLaws.{goes-on-within, overflows-within}
@@ -33,9 +32,9 @@ use Rattle.bitio.specs.declared.PackedRead.the-variants as P
 use Rattle.bitio.specs.declared.SerializedRead.{SerializedRead}
 use Rattle.bitio.specs.declared.SerializedRead.the-variants as Ser
 use Rattle.bitio.proofs.CursorLaws.{good-le}
-use Rattle.geometry.specs.Vectors.{checked, vectorOf, behind, quantizedAt}
+use Rattle.geometry.specs.Vectors.{checked, vectorOf, vectorBehind, quantizedAt}
 use Rattle.geometry.specs.Rotations.{rotationOf, rotationAt}
-use Rattle.geometry.specs.Movements.{afterBit, afterVector, afterRotation, afterPacked, afterSpin, afterNumber, afterFlags, afterPose, afterExtras, widthOf, scaleOf, velocityScale, flagsAt, poseAt, spinAt, numberAt, extrasAt, movementAt, inReader, readMovement}
+use Rattle.geometry.specs.Movements.{afterBit, afterVector, afterRotation, afterPacked, afterSpin, afterNumber, afterFlags, afterPose, afterExtras, widthOf, scaleOf, velocityScale, flagsAt, poseAt, spinAt, flaggedAt, extrasAt, movementAt, inReader, readMovement}
 use Rattle.geometry.specs.declared.Refusal as Geo
 use Rattle.geometry.specs.declared.Refusal.the-variants as G
 use Rattle.geometry.specs.declared.Vector.{Vector}
@@ -65,7 +64,7 @@ use Rattle.geometry.specs.declared.movements.ExtrasRead.{ExtrasRead}
 use Rattle.geometry.specs.declared.movements.ExtrasRead.the-variants as X
 use Rattle.bitio.specs.declared.Opened.{Opened}
 use Rattle.bitio.specs.declared.Opened.the-variants as O
-use Rattle.geometry.specs.Parts.{at, after, axisAfter, asBits, partAt, threeAt, together, componentsAt}
+use Rattle.geometry.specs.Parts.{at, afterRead, axisAfter, asBits, partAt, threeAt, together, componentsAt}
 use Rattle.geometry.specs.declared.parts.Part.{Part}
 use Rattle.geometry.specs.declared.parts.Part.the-variants.{Bits, Axis, Integer}
 use Rattle.geometry.specs.declared.parts.Three.{Three}
@@ -167,8 +166,8 @@ module _ (m : ℕ) where
   -- ---- three parts
 
   after-bits : {A : Type 0} (Q : A → Type 0) (refused : Refusal → A) (b : BitsRead) (next : ℕ → ℕ → A) → OnBits b
-      → ((r : Refusal) → Fits r → Q (refused r)) → ((x p : ℕ) → Q (next x p)) → Q (after refused b next)
-  unfolding after
+      → ((r : Refusal) → Fits r → Q (refused r)) → ((x p : ℕ) → Q (next x p)) → Q (afterRead refused b next)
+  unfolding afterRead
   after-bits Q refused (B.Value x p) next h k l = l x p
   after-bits Q refused (B.Refused r) next h k l = k r h
 
@@ -208,8 +207,8 @@ module _ (m : ℕ) where
   vector-of f (T.Value x y z p) h = either OnVector (finite (f x) && finite (f y) && finite (f z)) tt tt
   vector-of f (T.Refused r) h = h
 
-  behind-header : (s : List ℕ) (scale w e : ℕ) (c : Cursor) → OnVector (behind s scale w e c)
-  unfolding behind
+  behind-header : (s : List ℕ) (scale w e : ℕ) (c : Cursor) → OnVector (vectorBehind s scale w e c)
+  unfolding vectorBehind
   behind-header s scale w e c =
       either OnVector (eqb w 0)
       (either OnVector (eqb e 0) (vector-of (ofBits binary32) (threeAt s (Bits 32) c) (three s (Bits 32) c)) (vector-of (ofBits binary64) (threeAt s (Bits 64) c) (three s (Bits 64) c)))
@@ -294,8 +293,8 @@ module _ (m : ℕ) where
   spin s true c = then-vector OnSpin S.Refused (λ r h. h) (quantizedAt s velocityScale c) _ (vector s velocityScale c) (λ x p. tt)
   spin s false c = tt
 
-  counted : (s : List ℕ) (b : Bool) (c : Cursor) → c .len ≤ m → OnNumber (numberAt s b c)
-  unfolding numberAt
+  counted : (s : List ℕ) (b : Bool) (c : Cursor) → c .len ≤ m → OnNumber (flaggedAt s b c)
+  unfolding flaggedAt
   counted s true c l = then-packed OnNumber N.Refused (λ r h. h) (readIntPacked s c) _ (number s c l) (λ x p. tt)
   counted s false c l = tt
 
@@ -329,8 +328,8 @@ module _ (m : ℕ) where
   unfolding extrasAt
   extras s physics frame handle c l =
       then-spin OnExtras X.Refused (λ r h. h) (spinAt s physics c) _ (spin s physics c) (λ x p.
-      then-number OnExtras X.Refused (λ r h. h) (numberAt s frame (at c p)) _ (counted s frame (at c p) l) (λ y q.
-      then-number OnExtras X.Refused (λ r h. h) (numberAt s handle (at c q)) _ (counted s handle (at c q) l) (λ z o. tt)))
+      then-number OnExtras X.Refused (λ r h. h) (flaggedAt s frame (at c p)) _ (counted s frame (at c p) l) (λ y q.
+      then-number OnExtras X.Refused (λ r h. h) (flaggedAt s handle (at c q)) _ (counted s handle (at c q) l) (λ z o. tt)))
 
   movement : (s : List ℕ) (k : RotatorQuantization) (l : VectorQuantization) (c : Cursor) → c .len ≤ m → OnMovement (movementAt s k l c)
   unfolding movementAt

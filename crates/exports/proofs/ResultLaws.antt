@@ -37,7 +37,7 @@ use Rattle.exports.specs.declared.VrfRead.{VrfRead}
 pub by-form : {A B : Type 0} (f : A → B) {a k : A} {r : B} → a ≡ k → r ≡ f k → r ≡ f a
 by-form f e h = h ∙ sym (ap f e)
 
--- a refusal's form: its numbers, and a position that fits in 64 bits
+-- a refusal's form: its numbers, and its position taken in 64 bits
 pub refused-form : {R : Type 0} (said : R → Numbered) (stands : R → ℕ) {r k : R} {a : VrfRead} {p : ℕ} → r ≡ k
     → a ≡ refusedAt (said k .number) (said k .first) (said k .second) (said k .third) p → p ≡ stands k % 2 ^ 64
     → a ≡ refusedRead (said r) (stands r)

@@ -57,9 +57,9 @@ spinOf (spin.Present v) = record { present = true; velocity = xyzOf v }
 abbrev pub absentNumber : VrfNumber
 absentNumber = record { present = false; value = 0 }
 
-abbrev pub numberOf : Number → VrfNumber
-numberOf number.Absent = absentNumber
-numberOf (number.Present n) = record { present = true; value = n }
+abbrev pub presentOf : Number → VrfNumber
+presentOf number.Absent = absentNumber
+presentOf (number.Present n) = record { present = true; value = n }
 
 -- ---- vectors and rotations, read at a cursor that stood at `at`
 
@@ -106,8 +106,8 @@ movedResult m used =
       angular = spinOf (m .angular);
       sleep = m .sleep;
       physics = m .physics;
-      frame = numberOf (m .frame);
-      handle = numberOf (m .handle);
+      frame = presentOf (m .frame);
+      handle = presentOf (m .handle);
       position = used;
     }
 

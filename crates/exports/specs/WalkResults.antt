@@ -1,12 +1,15 @@
--- The answers of the walks, the merge, the verdict, the schema and the fast array as structs for C: the refusal's number, or 0; the values that
--- 01's table names, which an accepted call has too; then what only an accepted call gives, else 0.
+-- The answers of the walks, the merge, the schema and the fast array as structs for C: the refusal's number, or 0; the values that 01's table
+-- names, which an accepted call has too; then what only an accepted call gives, else 0. The verdict is a number of its own.
 use Prim.Native.Nat.{ℕ}
 use mathlib.Core.Path.{_≡_}
 use mathlib.Core.List.{List}
+use mathlib.Core.Option.{Option, none, some}
 use lib.Dec.{eqb}
 use lib.IntN.{pos}
 use Rattle.bits.specs.Choice.{if_then_else_}
+use Rattle.bits.specs.Refusals.{Numbered}
 use Rattle.schema.specs.TwelveLevels.{rowNumbers, nameBytes, levelCount}
+use Rattle.schema.specs.Refusals.{filledNumbered}
 use Rattle.schema.specs.declared.Filled.{Filled}
 use Rattle.schema.specs.declared.Filled.the-variants as Fill
 use Rattle.framing.specs.Counters.{Counters, counted}
@@ -14,13 +17,14 @@ use Rattle.framing.specs.Sinks.{Walk, object, Verdict, clean, partial, verdictO
 use Rattle.framing.specs.Refusing.{Room, Answer, refused, accepted}
 use Rattle.outputs.specs.Answers.{Call, Lent, answer, final, pairAnswer, finalPairs}
 use Rattle.array.specs.Calls.{verdictIs}
-use Rattle.array.specs.Refusals.{countersOf}
+use Rattle.array.specs.Refusals.{countersOf, answerOf, pairsOf}
 use Rattle.array.specs.Merges.{Sums, summed, overflowing}
 use Rattle.array.specs.declared.StructArray.{StructArray}
 use Rattle.array.specs.declared.StructArray.the-variants as structs
 use Rattle.array.specs.declared.ObjectArray.{ObjectArray}
 use Rattle.array.specs.declared.ObjectArray.the-variants as objects
 use Rattle.fastarray.specs.Answers as F
+use Rattle.fastarray.specs.Refusals.{numbered}
 use Rattle.fastarray.specs.declared.ChecksumMode.{ChecksumMode}
 use Rattle.fastarray.specs.declared.ChecksumMode.the-variants.{Absent, Present}
 use Rattle.fastarray.specs.declared.FastArray.{FastArray}
@@ -80,13 +84,18 @@ pub record Walks (c : Call) (b : Lent) (r : VrfWalk) (end : Lent) : Type 0 where
   pub says : r ≡ walkResult (c .how) (c .bits) (answer c b)
   pub buffers : end ≡ final c b
 
+-- the struct of a refusal, whose number and values an answer of `array` stands for
+abbrev pub notWalked : Answer Room → VrfWalk
+notWalked (refused n need) = refusedWalk n (need .leaves) (need .pathBytes) (need .payloadBytes)
+notWalked (accepted c need) = refusedWalk 0 0 0 0
+
 -- the same struct, from the answer of `array`
 abbrev pub walkOf : StructArray → VrfWalk
 walkOf (structs.Decoded s v e) = acceptedWalk (countersOf s) (verdictIs v) (e .leaves) (e .«path_bytes») (e .«payload_bytes»)
-walkOf structs.TooLong = refusedWalk 1 0 0 0
-walkOf structs.BrokenTables = refusedWalk 2 0 0 0
-walkOf structs.PathTooLong = refusedWalk 5 0 0 0
-walkOf (structs.Short e) = refusedWalk 3 (e .leaves) (e .«path_bytes») (e .«payload_bytes»)
+walkOf structs.TooLong = notWalked (answerOf structs.TooLong)
+walkOf structs.BrokenTables = notWalked (answerOf structs.BrokenTables)
+walkOf structs.PathTooLong = notWalked (answerOf structs.PathTooLong)
+walkOf (structs.Short e) = notWalked (answerOf (structs.Short e))
 
 -- ---- the object walk
 
@@ -104,10 +113,14 @@ pub record WalksPairs (bytes : List ℕ) (bits : ℕ) (b : List ℕ) (r : VrfObj
   pub says : r ≡ objectsResult bits (pairAnswer bytes bits b)
   pub buffer : end ≡ finalPairs bytes bits b
 
+abbrev pub noPairs : Answer ℕ → VrfObjects
+noPairs (refused n need) = refusedObjects n need
+noPairs (accepted c need) = refusedObjects 0 0
+
 abbrev pub objectsOf : ObjectArray → VrfObjects
 objectsOf (objects.Decoded s v n) = acceptedObjects (countersOf s) (verdictIs v) n
-objectsOf objects.TooLong = refusedObjects 1 0
-objectsOf (objects.Short n) = refusedObjects 3 n
+objectsOf objects.TooLong = noPairs (pairsOf objects.TooLong)
+objectsOf (objects.Short n) = noPairs (pairsOf (objects.Short n))
 
 -- ---- merges
 
@@ -117,9 +130,13 @@ mergeResult (overflowing n c) = record { refusal = n; counters = countersOut c }
 
 -- ---- the schema: what is filled, or needed, of both buffers, and the number of levels
 
+abbrev pub notFilled : Option Numbered → VrfSchema
+notFilled none = record { refusal = 0; rows = 0; names = 0; levels = 0 }
+notFilled (some n) = record { refusal = n .number; rows = n .first; names = n .second; levels = 0 }
+
 abbrev pub schemaResult : Filled → VrfSchema
 schemaResult Fill.Done = record { refusal = 0; rows = rowNumbers; names = nameBytes; levels = levelCount }
-schemaResult (Fill.Short r n) = record { refusal = 3; rows = r; names = n; levels = 0 }
+schemaResult (Fill.Short r n) = notFilled (filledNumbered (Fill.Short r n))
 
 -- ---- the fast array
 
@@ -130,12 +147,16 @@ modeOf n = if eqb n 0 then Absent else Present
 abbrev pub refusedBody : (number deletes items fields : ℕ) → VrfFastArray
 refusedBody n d i f = record { refusal = n; deletes = d; items = i; fields = f; key = pos 0; base = pos 0; used = 0 }
 
+abbrev pub noBody : Option Numbered → VrfFastArray
+noBody none = refusedBody 0 0 0 0
+noBody (some n) = refusedBody (n .number) (n .first) (n .second) (n .third)
+
 abbrev pub bodyResult : FastArray → VrfFastArray
 bodyResult (body.Decoded d) =
     record { refusal = 0; deletes = d .deletes; items = d .changes; fields = d .fields; key = d .key; base = d .base; used = d .used }
-bodyResult body.TooLong = refusedBody 1 0 0 0
-bodyResult body.NotFastArray = refusedBody 6 0 0 0
-bodyResult (body.Short d i f) = refusedBody 3 d i f
+bodyResult body.TooLong = noBody (numbered body.TooLong)
+bodyResult body.NotFastArray = noBody (numbered body.NotFastArray)
+bodyResult (body.Short d i f) = noBody (numbered (body.Short d i f))
 
 pub record DecodesBody (c : F.Call) (l : F.Lent) (r : VrfFastArray) (end : F.Lent) : Type 0 where
   pub says : r ≡ bodyResult (F.answer c l)

@@ -1,8 +1,9 @@
 // The calls of the base for C: one static library, whose header is host/c/vrf.h.
 //
 // A slice is a pointer and a length, a result a struct by value: the refusal's number first, 0 where the call is accepted,
-// then the values of document 01's table in its order, then what an accepted call gives; what isn't named is 0. Each function
-// takes the answer of one proved call apart, and its contract cites that call's definition.
+// then the values of document 01's table in its order, then what an accepted call gives; what isn't named is 0, but for the
+// position that a refused read leaves. Only `vrf_verdict`, which refuses nothing, gives a plain number. Each function takes
+// the answer of one proved call apart, and its contract cites that call's definition.
 mod cursors;
 mod moves;
 mod walks;
@@ -12,7 +13,7 @@ ghost use Rattle.bitio.specs.Reads.{readBits};
 ghost use Rattle.bitio.specs.Numbers.{readIntPacked, readSerializedInt};
 ghost use Rattle.bitio.specs.Copies.{copyAnswer, copyTarget};
 ghost use Rattle.schema.specs.Tables.{tables};
-ghost use Rattle.schema.specs.TwelveLevels.{filled, filledRows, filledNames};
+ghost use Rattle.schema.specs.TwelveLevels.{fillAnswer, filledRows, filledNames};
 ghost use Rattle.array.specs.Calls.{structCall, exactCall, lent};
 ghost use Rattle.array.specs.Merges.{merge};
 ghost use Rattle.fastarray.specs.Answers as F;
@@ -259,7 +260,7 @@ pub extern "C" fn vrf_verdict(counters: VrfCounters) -> u32
 
 #[no_mangle]
 pub extern "C" fn vrf_schema(rows: &mut [u32], names: &mut [u8]) -> VrfSchema
-    ensures answer { λ r. ⌜ r ≡ schemaResult (filled (now (rows .entry)) (now (names .entry))) ⌝ }
+    ensures answer { λ r. ⌜ r ≡ schemaResult (fillAnswer (now (rows .entry)) (now (names .entry))) ⌝ }
     ensures rows { λ r. ⌜ now (rows .exit) ≡ filledRows (now (rows .entry)) (now (names .entry)) ⌝ }
     ensures names { λ r. ⌜ now (names .exit) ≡ filledNames (now (rows .entry)) (now (names .entry)) ⌝ }
 {

@@ -2,7 +2,7 @@
 ghost use mathlib.Core.Path.{_≡_};
 ghost use Rattle.geometry.specs.Refusals.{numbered, standsAfter};
 ghost use Rattle.exports.specs.ReadResults.{refusedRead};
-ghost use Rattle.exports.specs.MoveResults.{xyzOf, anglesOf, noXyz, noAngles, spinOf, numberOf, absentSpin, absentNumber, vectorResult, rotationResult, movedResult, unmovedResult, movementResult, rotationKind, locationKind};
+ghost use Rattle.exports.specs.MoveResults.{xyzOf, anglesOf, noXyz, noAngles, spinOf, presentOf, absentSpin, absentNumber, vectorResult, rotationResult, movedResult, unmovedResult, movementResult, rotationKind, locationKind};
 use crate::VrfAngles;
 use crate::VrfMovement;
 use crate::VrfNumber;
@@ -101,7 +101,7 @@ fn absent_number() -> VrfNumber
 }
 
 fn number_of(a: Number) -> VrfNumber
-    ensures { λ r. ⌜ r ≡ numberOf a ⌝ }
+    ensures { λ r. ⌜ r ≡ presentOf a ⌝ }
 {
     match a {
         Number::Absent => absent_number(),

@@ -9,6 +9,7 @@ use lib.ListN.{length}
 use lib.Dec.{leb}
 use lib.IntN.{ℤ}
 use borrow.Author.Tests.{le-leb, lt-leb, lt-ltb, le-ltb, eq-eqb, ne-eqb, leb-true}
+use Rattle.bits.proofs.ChoiceLaws.{and-true}
 use Rattle.bits.specs.Choice.{if_then_else_}
 use Rattle.bits.specs.Runs.{bytesFor}
 use Rattle.bits.specs.Runs.{filled}
@@ -16,9 +17,9 @@ use Rattle.bits.proofs.Never.{never}
 use Rattle.fastarray.specs.Body.{window, flagBits, deletes, changes, deletedFrom, itemsFrom, Items, Body, bodyOf, fieldsOf}
 use Rattle.fastarray.specs.Records.{deletedRecord, itemRecord, fieldRecord, records, storeAll}
 use Rattle.fastarray.specs.Parts.{deltaOf, measuredOf, ItemsStored}
-use Rattle.fastarray.specs.Answers.{Call, Lent, lent, found, roomFor, fits, decided, answer, left, deletedIn, itemsIn, Answered}
+use Rattle.fastarray.specs.Answers.{Call, Lent, lent, found, roomFor, fitsIn, decided, answer, atExit, deletedIn, itemsIn, Answered}
 use Rattle.fastarray.proofs.StoreLaws.{stored-front, records-length}
-use Rattle.fastarray.proofs.HeaderLaws.{both, bodyWith, measured-as}
+use Rattle.fastarray.proofs.HeaderLaws.{bodyWith, measured-as}
 use Rattle.fastarray.specs.declared.ChecksumMode.{ChecksumMode}
 use Rattle.fastarray.specs.declared.ChecksumMode.the-variants.{Absent, Present}
 use Rattle.fastarray.specs.declared.Delta.{Delta}
@@ -44,8 +45,8 @@ module _ (d i f dl il fl : ℕ) where
   roomy : roomFor d i f dl il fl ≡ true → (d ≤ dl) × (2 * i ≤ il) × (3 * f ≤ fl)
   unfolding roomFor
   roomy e =
-      let a = both (leb d dl) (leb i (il / 2) && leb f (fl / 3)) e in
-      let b = both (leb i (il / 2)) (leb f (fl / 3)) (a .1) in
+      let a = and-true (leb d dl) (leb i (il / 2) && leb f (fl / 3)) e in
+      let b = and-true (leb i (il / 2)) (leb f (fl / 3)) (a .1) in
       let h₁ : d ≤ dl = leb-true _ _ (a .0) in
       let h₂ : i ≤ il / 2 = leb-true _ _ (b .0) in
       let h₃ : f ≤ fl / 3 = leb-true _ _ (b .1) in
@@ -74,8 +75,8 @@ pub data Refusal : FastArray → Type 0 where
   not-body : Refusal NotFastArray
   short : {d i f : ℕ} → Refusal (Short d i f)
 
-pub kept : {A : Type 0} {r : FastArray} → Refusal r → (new old : List A) → left r new old ≡ old
-unfolding left
+pub kept : {A : Type 0} {r : FastArray} → Refusal r → (new old : List A) → atExit r new old ≡ old
+unfolding atExit
 kept too-long new old = refl
 kept not-body new old = refl
 kept short new old = refl
@@ -83,7 +84,7 @@ kept short new old = refl
 module _ (c : Call) (l : Lent) where
   pub refused : (r : FastArray) → Refusal r → r ≡ answer c l → Answered c l r l
   refused r k e =
-      let q : left (answer c l) (deletedIn (found c)) (l .deleted) ≡ l .deleted = rw (← e) (kept k _ _) in
+      let q : atExit (answer c l) (deletedIn (found c)) (l .deleted) ≡ l .deleted = rw (← e) (kept k _ _) in
       record {
         says = e;
         deleted = sym q;
@@ -118,7 +119,7 @@ module _ (c : Call) (l : Lent) where
           refused NotFastArray not-body (sym (short-enough ∙ ap (λ (o : Option Body). decided o l) (found-is ∙ measured-none body m)))
 
       -- the answer where there is a body b
-      with-body : (b : Body) (t : Bool) → body ≡ some b → fits b l ≡ t
+      with-body : (b : Body) (t : Bool) → body ≡ some b → fitsIn b l ≡ t
           → answer c l ≡ (if t then Decoded (deltaOf b) else Short (length (b .deleted)) (length (b .items)) (length (fieldsOf (b .items))))
       unfolding decided
       with-body b t f h = short-enough ∙ ap (λ (o : Option Body). decided o l) (found-is ∙ f) ∙ simp h
@@ -141,7 +142,7 @@ module _ (c : Call) (l : Lent) where
             → d′ ≡ storeAll deletedRecord (l .deleted) 0 (deletedFrom (delta .deletes) (window (c .bytes) (c .bits)) 129)
             → ItemsStored (itemsFrom (delta .changes) flag (window (c .bytes) (c .bits)) (c .bits) (129 + 32 * delta .deletes)) 0 0 (l .items) (l .fields) i′ f′
             → Answered c l (Decoded delta) (lent d′ i′ f′)
-        unfolding ItemsStored left deletedIn itemsIn
+        unfolding ItemsStored atExit deletedIn itemsIn
         answer-written flag d′ i′ f′ ef h ed es =
             let a = measured-as _ _ _ delta m in
             let W = window (c .bytes) (c .bits) in
@@ -173,7 +174,7 @@ module _ (c : Call) (l : Lent) where
             let f-is : f′ ≡ filled (records fieldRecord (fieldsOf (b .items))) (l .fields) = stored .1 ∙ stored-front fieldRecord (fieldsOf (b .items)) (l .fields) (omega arith) in
             record {
               says = says;
-              deleted = d-is ∙ ap₂ (λ (r : FastArray) (o : Option Body). left r (deletedIn o) (l .deleted)) says (sym f);
-              items = i-is ∙ ap₂ (λ (r : FastArray) (o : Option Body). left r (records itemRecord (itemsIn o)) (l .items)) says (sym f);
-              fields = f-is ∙ ap₂ (λ (r : FastArray) (o : Option Body). left r (records fieldRecord (fieldsOf (itemsIn o))) (l .fields)) says (sym f);
+              deleted = d-is ∙ ap₂ (λ (r : FastArray) (o : Option Body). atExit r (deletedIn o) (l .deleted)) says (sym f);
+              items = i-is ∙ ap₂ (λ (r : FastArray) (o : Option Body). atExit r (records itemRecord (itemsIn o)) (l .items)) says (sym f);
+              fields = f-is ∙ ap₂ (λ (r : FastArray) (o : Option Body). atExit r (records fieldRecord (fieldsOf (itemsIn o))) (l .fields)) says (sym f);
             }

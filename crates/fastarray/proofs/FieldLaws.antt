@@ -12,7 +12,7 @@ use borrow.Author.Tests.{leb-true}
 use Rattle.bits.specs.Packed.{Number}
 use Rattle.bits.specs.Runs.{store}
 use Rattle.bits.proofs.Never.{never}
-use Rattle.fastarray.specs.Body.{behind, numberAt, Lead, breaks, closes, opens, leadWidth, leadHandle, leadAt, rawField, Stream, closing, before, withField, onLead, fieldsFrom, fieldsAt}
+use Rattle.fastarray.specs.Body.{numberEnd, packedAt, Lead, breaks, closes, opens, leadWidth, leadHandle, leadAt, rawField, Stream, closingStream, before, withField, onLead, fieldsFrom, fieldsAt}
 use Rattle.fastarray.specs.Records.{fieldRecord, storeAll}
 use Rattle.fastarray.specs.Parts.{headOf, fieldsReadOf, FieldsStored}
 use Rattle.fastarray.proofs.ReadLaws.{number-within}
@@ -23,32 +23,32 @@ use Rattle.fastarray.specs.declared.FieldsRead.the-variants as F
 
 abbrev Within : (len p : ℕ) → Lead → Type 0
 Within len p breaks = Unit
-Within len p (closes h) = (p + 8 ≤ behind h) × (behind h ≤ len)
-Within len p (opens h w) = (p + 16 ≤ behind w) × (behind w + w .value ≤ len)
+Within len p (closes h) = (p + 8 ≤ numberEnd h) × (numberEnd h ≤ len)
+Within len p (opens h w) = (p + 16 ≤ numberEnd w) × (numberEnd w + w .value ≤ len)
 
-width-within : (len p : ℕ) (h : Number) (o : Option Number) → ((w : Number) → o ≡ some w → p + 16 ≤ behind w) → Within len p (leadWidth len h o)
+width-within : (len p : ℕ) (h : Number) (o : Option Number) → ((w : Number) → o ≡ some w → p + 16 ≤ numberEnd w) → Within len p (leadWidth len h o)
 unfolding leadWidth
 width-within len p h none k = tt
-width-within len p h (some w) k = go (leb (behind w + w .value) len) refl
+width-within len p h (some w) k = go (leb (numberEnd w + w .value) len) refl
   where
-    go : (x : Bool) → leb (behind w + w .value) len ≡ x → Within len p (leadWidth len h (some w))
+    go : (x : Bool) → leb (numberEnd w + w .value) len ≡ x → Within len p (leadWidth len h (some w))
     go true e = rw e (k w refl, leb-true _ _ e)
     go false e = rw e tt
 
-handle-within : (W len p : ℕ) (o : Option Number) → ((h : Number) → o ≡ some h → (p + 8 ≤ behind h) × (behind h ≤ len)) → Within len p (leadHandle W len o)
+handle-within : (W len p : ℕ) (o : Option Number) → ((h : Number) → o ≡ some h → (p + 8 ≤ numberEnd h) × (numberEnd h ≤ len)) → Within len p (leadHandle W len o)
 unfolding leadHandle
 handle-within W len p none k = tt
 handle-within W len p (some h) k = go (eqb (h .value) 0) refl
   where
-    second : (w : Number) → numberAt W len (behind h) ≡ some w → p + 16 ≤ behind w
-    second w e = omega (arith, number-within W len (behind h) w e, k h refl)
+    second : (w : Number) → packedAt W len (numberEnd h) ≡ some w → p + 16 ≤ numberEnd w
+    second w e = omega (arith, number-within W len (numberEnd h) w e, k h refl)
 
     go : (x : Bool) → eqb (h .value) 0 ≡ x → Within len p (leadHandle W len (some h))
     go true e = rw e (k h refl)
-    go false e = rw e (width-within len p h (numberAt W len (behind h)) second)
+    go false e = rw e (width-within len p h (packedAt W len (numberEnd h)) second)
 
 pub lead-within : (W len p : ℕ) → Within len p (leadAt W len p)
-lead-within W len p = handle-within W len p (numberAt W len p) (λ h e. number-within W len p h e)
+lead-within W len p = handle-within W len p (packedAt W len p) (λ h e. number-within W len p h e)
 
 -- ---- what the code saw there
 
@@ -61,7 +61,7 @@ head-breaks (opens h w) e = let z : _≡_ {A = ℕ} 0 1 = cc in never z
 record ClosesAs (l : Lead) (q : ℕ) : Type 0 where
   pub handle : Number
   pub is : l ≡ closes handle
-  pub behind-is : behind handle ≡ q
+  pub behind-is : numberEnd handle ≡ q
 
 closes-as : (l : Lead) (q : ℕ) → headOf l ≡ H.Closes q → ClosesAs l q
 unfolding headOf
@@ -74,7 +74,7 @@ record OpensAs (l : Lead) (h o w : ℕ) : Type 0 where
   pub width : Number
   pub is : l ≡ opens handle width
   pub handle-is : handle .value - 1 ≡ h
-  pub offset-is : behind width ≡ o
+  pub offset-is : numberEnd width ≡ o
   pub width-is : width .value ≡ w
 
 opens-as : (l : Lead) (h o w : ℕ) → headOf l ≡ H.Opens h o w → OpensAs l h o w
@@ -106,11 +106,11 @@ pub record Lying (len p : ℕ) (r : Stream) : Type 0 where
   pub takes : p + 8 + 16 * length (r .fields) ≤ r .next
   pub within : r .next ≤ len
 
-one-more : (len p : ℕ) (h w : Number) (r : Stream) → p + 16 ≤ behind w → Lying len (behind w + w .value) r → Lying len p (before h w r)
+one-more : (len p : ℕ) (h w : Number) (r : Stream) → p + 16 ≤ numberEnd w → Lying len (numberEnd w + w .value) r → Lying len p (before h w r)
 one-more len p h w r k l = record { takes = omega (arith, l .takes); within = l .within }
 
-with-lies : (len p : ℕ) (h w : Number) (o : Option Stream) (r : Stream) → p + 16 ≤ behind w
-    → ((st : Stream) → o ≡ some st → Lying len (behind w + w .value) st) → withField h w o ≡ some r → Lying len p r
+with-lies : (len p : ℕ) (h w : Number) (o : Option Stream) (r : Stream) → p + 16 ≤ numberEnd w
+    → ((st : Stream) → o ≡ some st → Lying len (numberEnd w + w .value) st) → withField h w o ≡ some r → Lying len p r
 unfolding withField
 with-lies len p h w none r k f e = let z : _≡_ {A = ℕ} 0 1 = cc in never z
 with-lies len p h w (some st) r k f e =
@@ -122,10 +122,10 @@ on-lies : (len p : ℕ) (l : Lead) (rest : ℕ → Option Stream) (r : Stream) �
 unfolding onLead
 on-lies len p breaks rest r k f e = let z : _≡_ {A = ℕ} 0 1 = cc in never z
 on-lies len p (closes h) rest r k f e =
-    let q : closing h ≡ r = cc in
+    let q : closingStream h ≡ r = cc in
     subst (Lying len p) q (record { takes = omega (arith, k .0); within = k .1 })
 on-lies len p (opens h w) rest r k f e =
-    with-lies len p h w (rest (behind w + w .value)) r (k .0) (λ st s. f (behind w + w .value) st s) e
+    with-lies len p h w (rest (numberEnd w + w .value)) r (k .0) (λ st s. f (numberEnd w + w .value) st s) e
 
 pub fields-lie : (most W len p : ℕ) (r : Stream) → fieldsFrom most W len p ≡ some r → Lying len p r
 unfolding fieldsFrom
@@ -145,7 +145,7 @@ same-rest : (len p : ℕ) (rest rest′ : ℕ → Option Stream) (l : Lead) → 
 unfolding onLead
 same-rest len p rest rest′ breaks k f = refl
 same-rest len p rest rest′ (closes x) k f = refl
-same-rest len p rest rest′ (opens x y) k f = ap (withField x y) (f (behind y + y .value) (omega arith))
+same-rest len p rest rest′ (opens x y) k f = ap (withField x y) (f (numberEnd y + y .value) (omega arith))
 
 pub fields-enough : (most more W len p : ℕ) → len - p ≤ most → len - p ≤ more → fieldsFrom most W len p ≡ fieldsFrom more W len p
 unfolding fieldsFrom
@@ -224,7 +224,7 @@ module _ (W end at slot : ℕ) (d₀ : List ℕ) where
         let t = closes-as _ q e in
         let k = closes-within W end pos q e in
         let m : 0 < v .most = omega (arith, v .enough) in
-        let f : fieldsFrom (v .most) W end pos ≡ some (closing (t .handle)) = from-lead (v .most) W end pos (closes (t .handle)) m (t .is) in (
+        let f : fieldsFrom (v .most) W end pos ≡ some (closingStream (t .handle)) = from-lead (v .most) W end pos (closes (t .handle)) m (t .is) in (
           ap₂ F.Read (sym (add-zero n)) (sym (t .behind-is)) ∙ sym (ap (fieldsReadOf n) f) ∙ v .says,
           v .stores d (subst (λ (o : Option Stream). FieldsStored o d n d) (sym f) refl),
         )
@@ -237,7 +237,7 @@ module _ (W end at slot : ℕ) (d₀ : List ℕ) where
         let k = opens-within W end pos h o w e in
         let x = t .handle in
         let y = t .width in
-        let next : behind y + y .value ≡ o + w = ap₂ (λ (a b : ℕ). a + b) (t .offset-is) (t .width-is) in
+        let next : numberEnd y + y .value ≡ o + w = ap₂ (λ (a b : ℕ). a + b) (t .offset-is) (t .width-is) in
         let m : 0 < v .most = omega (arith, v .enough) in
         let f : fieldsFrom (v .most) W end pos ≡ withField x y (fieldsFrom (v .most - 1) W end (o + w))
         = from-lead (v .most) W end pos (opens x y) m (t .is) ∙ ap (λ (q : ℕ). withField x y (fieldsFrom (v .most - 1) W end q)) next in

@@ -9,6 +9,7 @@ use lib.ListN.{length}
 use lib.Dec.{leb, eqb}
 use lib.IntN.{ℤ}
 use borrow.Author.Tests.{le-leb, lt-leb, lt-ltb, le-ltb, eq-eqb, ne-eqb, leb-true, eqb-true, eqb-false}
+use Rattle.bits.proofs.ChoiceLaws.{and-true}
 use Rattle.bits.specs.Bits.{field}
 use Rattle.bits.proofs.Never.{never}
 use Rattle.fastarray.specs.Body.{signedAt, deletes, changes, notNegative, least, headed, Items, itemsFrom, deletedFrom, Body, ended, bodyOf, fieldsOf}
@@ -49,10 +50,6 @@ module _ (flag W len : ℕ) where
         unfolding headed
         headed-last l = simp (le-leb _ _ h, ← eb, eq-eqb _ _ one, ← ed, lt-ltb _ _ ld, ← ec, lt-ltb _ _ l)
 
-pub both : (a b : Bool) → a && b ≡ true → (a ≡ true) × (b ≡ true)
-both true b e = (refl, e)
-both false b e = let z : _≡_ {A = ℕ} 0 1 = cc in never z
-
 -- a header that is accepted leaves bits enough
 pub record Fitting (W len : ℕ) : Type 0 where
   pub header : 129 ≤ len
@@ -65,10 +62,10 @@ headed-fits flag W len e =
     let three : Bool = notNegative (changes W) && four in
     let two : Bool = notNegative (deletes W) && three in
     let one : Bool = eqb (field W 0 1) 1 && two in
-    let a = both (leb 129 len) one e in
-    let b = both (eqb (field W 0 1) 1) two (a .1) in
-    let c = both (notNegative (deletes W)) three (b .1) in
-    let d = both (notNegative (changes W)) four (c .1) in
+    let a = and-true (leb 129 len) one e in
+    let b = and-true (eqb (field W 0 1) 1) two (a .1) in
+    let c = and-true (notNegative (deletes W)) three (b .1) in
+    let d = and-true (notNegative (changes W)) four (c .1) in
     let h = leb-true 129 len (a .0) in
     let l : 129 + least flag W ≤ len = leb-true (129 + least flag W) len (d .1) in
     record { header = h; lists = omega (arith, least-above flag (changes W)) }

@@ -19,7 +19,7 @@ use Rattle.bits.specs.Refusals.{refusal, when, firstOf}
 use Rattle.bits.proofs.Never.{never}
 use Rattle.fastarray.specs.Body.{window, flagBits, deletes, changes, headed, Items, Body, ended, bodyOf, fieldsOf}
 use Rattle.fastarray.specs.Records.{itemRecord, fieldRecord, records}
-use Rattle.fastarray.specs.Answers.{Call, call, Lent, found, fits, decided, answer, left, deletedIn, itemsIn, finalDeleted, finalItems, finalFields, Answered}
+use Rattle.fastarray.specs.Answers.{Call, call, Lent, found, fitsIn, decided, answer, atExit, deletedIn, itemsIn, finalDeleted, finalItems, finalFields, Answered}
 use Rattle.fastarray.specs.Refusals.{numbered}
 use Rattle.fastarray.specs.Order.{isNone, shortOf, rules}
 use Rattle.fastarray.proofs.HeaderLaws.{headed-fits}
@@ -33,9 +33,9 @@ use Rattle.fastarray.specs.declared.FastArray.the-variants.{Decoded, Too
 decided-order : (o : Option Body) (l : Lent) → numbered (decided o l) ≡ firstOf (when (isNone o) (refusal 6 0 0 0) ∷ shortOf l o ∷ [])
 unfolding decided firstOf
 decided-order none l = refl
-decided-order (some b) l = go (fits b l) refl
+decided-order (some b) l = go (fitsIn b l) refl
   where
-    go : (t : Bool) → fits b l ≡ t → numbered (decided (some b) l) ≡ firstOf (when (isNone (some b)) (refusal 6 0 0 0) ∷ shortOf l (some b) ∷ [])
+    go : (t : Bool) → fitsIn b l ≡ t → numbered (decided (some b) l) ≡ firstOf (when (isNone (some b)) (refusal 6 0 0 0) ∷ shortOf l (some b) ∷ [])
     go true e = simp e
     go false e = simp e
 
@@ -96,9 +96,9 @@ module _ (s t : List ℕ) (n : ℕ) (m : ChecksumMode) (same : length s ≡ leng
       → (finalDeleted (call s n m) l ≡ finalDeleted (call t n m) l) × (finalItems (call s n m) l ≡ finalItems (call t n m) l)
       × (finalFields (call s n m) l ≡ finalFields (call t n m) l)
   outside-buffers l = (
-    ap₂ (λ (r : FastArray) (o : Option Body). left r (deletedIn o) (l .deleted)) (outside-answer l) outside-found,
-    ap₂ (λ (r : FastArray) (o : Option Body). left r (records itemRecord (itemsIn o)) (l .items)) (outside-answer l) outside-found,
-    ap₂ (λ (r : FastArray) (o : Option Body). left r (records fieldRecord (fieldsOf (itemsIn o))) (l .fields)) (outside-answer l) outside-found,
+    ap₂ (λ (r : FastArray) (o : Option Body). atExit r (deletedIn o) (l .deleted)) (outside-answer l) outside-found,
+    ap₂ (λ (r : FastArray) (o : Option Body). atExit r (records itemRecord (itemsIn o)) (l .items)) (outside-answer l) outside-found,
+    ap₂ (λ (r : FastArray) (o : Option Body). atExit r (records fieldRecord (fieldsOf (itemsIn o))) (l .fields)) (outside-answer l) outside-found,
   )
 
 -- ---- what a body is

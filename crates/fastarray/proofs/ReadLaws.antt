@@ -19,7 +19,7 @@ use Rattle.bits.proofs.PackedWindows.{Lies, whole, cut, goes-on, overflows, pac
 use Rattle.bits.specs.declared.Packed.{Packed}
 use Rattle.bits.specs.Packed.{Number}
 use Rattle.bits.proofs.Never.{never}
-use Rattle.fastarray.specs.Body.{window, signedAt, behind, asNumber, numberAt, leadWidth, leadHandle, leadAt}
+use Rattle.fastarray.specs.Body.{window, signedAt, numberEnd, asNumber, packedAt, leadWidth, leadHandle, leadAt}
 use Rattle.fastarray.specs.Parts.{takenOf, headOf}
 use Rattle.fastarray.specs.declared.Taken.the-variants as T
 use Rattle.fastarray.specs.declared.FieldHead.the-variants as H
@@ -38,17 +38,17 @@ read-back W p z e = rw e (toZ-ofZ (twos-fits w32 32 (field W p 32) (omega arith)
 
 -- ---- a packed number takes a byte at least and lies in the window
 
-lies-number : (len p : ℕ) (x : Number) (r : Packed) → Lies len p r → asNumber p r ≡ some x → (p + 8 ≤ behind x) × (behind x ≤ len)
+lies-number : (len p : ℕ) (x : Number) (r : Packed) → Lies len p r → asNumber p r ≡ some x → (p + 8 ≤ numberEnd x) × (numberEnd x ≤ len)
 unfolding asNumber
 lies-number len p x _ (whole {v = v} {n = n} h k) e =
     let q : _≡_ {A = Number} (record { start = p; bytes = n; value = v }) x = cc in
     let l : p + 8 ≤ p + 8 * n = omega arith in
-    subst (λ (y : Number). (p + 8 ≤ behind y) × (behind y ≤ len)) q (l, h)
+    subst (λ (y : Number). (p + 8 ≤ numberEnd y) × (numberEnd y ≤ len)) q (l, h)
 lies-number len p x _ cut e = let z : _≡_ {A = ℕ} 0 1 = cc in never z
 lies-number len p x _ goes-on e = let z : _≡_ {A = ℕ} 0 1 = cc in never z
 lies-number len p x _ overflows e = let z : _≡_ {A = ℕ} 0 1 = cc in never z
 
-pub number-within : (W len p : ℕ) (x : Number) → numberAt W len p ≡ some x → (p + 8 ≤ behind x) × (behind x ≤ len)
+pub number-within : (W len p : ℕ) (x : Number) → packedAt W len p ≡ some x → (p + 8 ≤ numberEnd x) × (numberEnd x ≤ len)
 number-within W len p x e = lies-number len p x (packed W len p) (packed-lies W len p) e
 
 -- a number that the code took
@@ -56,7 +56,7 @@ pub record TakenAs (o : Option Number) (v q : ℕ) : Type 0 where
   pub number : Number
   pub is : o ≡ some number
   pub value-is : number .value ≡ v
-  pub behind-is : behind number ≡ q
+  pub behind-is : numberEnd number ≡ q
 
 pub taken-as : (o : Option Number) (v q : ℕ) → takenOf o ≡ T.Value v q → TakenAs o v q
 unfolding takenOf
@@ -68,7 +68,7 @@ unfolding takenOf
 taken-none none e = refl
 taken-none (some x) e = let z : _≡_ {A = ℕ} 0 1 = cc in never z
 
-pub taken-within : (W len p v q : ℕ) → takenOf (numberAt W len p) ≡ T.Value v q → (p + 8 ≤ q) × (q ≤ len)
+pub taken-within : (W len p v q : ℕ) → takenOf (packedAt W len p) ≡ T.Value v q → (p + 8 ≤ q) × (q ≤ len)
 taken-within W len p v q e =
     let t = taken-as _ v q e in
     subst (λ (k : ℕ). (p + 8 ≤ k) × (k ≤ len)) (t .behind-is) (number-within W len p (t .number) (t .is))
@@ -76,11 +76,11 @@ taken-within W len p v q e =
 -- ---- what stands where a handle number is due
 
 module _ (W len p : ℕ) where
-  pub head-broken : takenOf (numberAt W len p) ≡ T.Broken → headOf (leadAt W len p) ≡ H.Broken
+  pub head-broken : takenOf (packedAt W len p) ≡ T.Broken → headOf (leadAt W len p) ≡ H.Broken
   unfolding headOf leadHandle
   head-broken e = ap (λ (o : Option Number). headOf (leadHandle W len o)) (taken-none _ e)
 
-  module _ (v q : ℕ) (e : takenOf (numberAt W len p) ≡ T.Value v q) where
+  module _ (v q : ℕ) (e : takenOf (packedAt W len p) ≡ T.Value v q) where
     pub head-closes : v ≡ 0 → headOf (leadAt W len p) ≡ H.Closes q
     unfolding headOf leadHandle
     head-closes z =
@@ -88,20 +88,20 @@ module _ (W len p : ℕ) where
         ap (λ (o : Option Number). headOf (leadHandle W len o)) (t .is) ∙ simp (eq-eqb _ _ (t .value-is ∙ z)) (ap H.Closes (t .behind-is))
 
     -- a handle
-    handled : (v ≡ 0 → ⊥) → headOf (leadAt W len p) ≡ headOf (leadWidth len (taken-as _ v q e .number) (numberAt W len q))
+    handled : (v ≡ 0 → ⊥) → headOf (leadAt W len p) ≡ headOf (leadWidth len (taken-as _ v q e .number) (packedAt W len q))
     unfolding leadHandle
     handled n =
         let t = taken-as _ v q e in
         ap (λ (o : Option Number). headOf (leadHandle W len o)) (t .is)
         ∙ simp (ne-eqb (t .number .value) 0 (λ z. n (sym (t .value-is) ∙ z)))
-        (ap (λ (k : ℕ). headOf (leadWidth len (t .number) (numberAt W len k))) (t .behind-is))
+        (ap (λ (k : ℕ). headOf (leadWidth len (t .number) (packedAt W len k))) (t .behind-is))
 
-    pub head-no-width : (v ≡ 0 → ⊥) → takenOf (numberAt W len q) ≡ T.Broken → headOf (leadAt W len p) ≡ H.Broken
+    pub head-no-width : (v ≡ 0 → ⊥) → takenOf (packedAt W len q) ≡ T.Broken → headOf (leadAt W len p) ≡ H.Broken
     unfolding headOf leadWidth
     head-no-width n b = handled n ∙ ap (λ (o : Option Number). headOf (leadWidth len (taken-as _ v q e .number) o)) (taken-none _ b)
 
-    module _ (w o : ℕ) (n : v ≡ 0 → ⊥) (f : takenOf (numberAt W len q) ≡ T.Value w o) where
-      ends : behind (taken-as _ w o f .number) + taken-as _ w o f .number .value ≡ o + w
+    module _ (w o : ℕ) (n : v ≡ 0 → ⊥) (f : takenOf (packedAt W len q) ≡ T.Value w o) where
+      ends : numberEnd (taken-as _ w o f .number) + taken-as _ w o f .number .value ≡ o + w
       ends = ap₂ (λ (a b : ℕ). a + b) (taken-as _ w o f .behind-is) (taken-as _ w o f .value-is)
 
       widths : headOf (leadAt W len p) ≡ headOf (leadWidth len (taken-as _ v q e .number) (some (taken-as _ w o f .number)))

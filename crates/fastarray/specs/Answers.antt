@@ -8,8 +8,7 @@ use lib.ListN.{length}
 use lib.Dec.{leb, ltb, eqb}
 use lib.IntN.{ℤ}
 use Rattle.bits.specs.Choice.{if_then_else_}
-use Rattle.bits.specs.Runs.{bytesFor}
-use Rattle.bits.specs.Runs.{filled}
+use Rattle.bits.specs.Runs.{bytesFor, filled}
 use Rattle.bitio.specs.Cursors.{longestWindow}
 use Rattle.fastarray.specs.Body.{window, flagBits, Item, Body, bodyOf, fieldsOf}
 use Rattle.fastarray.specs.Records.{itemWords, itemRecord, fieldWords, fieldRecord, records}
@@ -42,26 +41,26 @@ found c = if eqb (length (c .bytes)) (bytesFor (c .bits)) then bodyOf (flagBits 
 unfoldable pub roomFor : (deletes items fields : ℕ) → (deletedLen itemsLen fieldsLen : ℕ) → Bool
 roomFor d i f dl il fl = leb d dl && (leb i (il / itemWords) && leb f (fl / fieldWords))
 
-abbrev pub fits : Body → Lent → Bool
-fits b l =
+abbrev pub fitsIn : Body → Lent → Bool
+fitsIn b l =
     roomFor (length (b .deleted)) (length (b .items)) (length (fieldsOf (b .items))) (length (l .deleted)) (length (l .items)) (length (l .fields))
 
 -- refusals 6 and 3
 unfoldable pub decided : Option Body → Lent → FastArray
 decided none l = NotFastArray
 decided (some b) l =
-    if fits b l then Decoded (deltaOf b) else Short (length (b .deleted)) (length (b .items)) (length (fieldsOf (b .items)))
+    if fitsIn b l then Decoded (deltaOf b) else Short (length (b .deleted)) (length (b .items)) (length (fieldsOf (b .items)))
 
 -- refusal 1 comes before them
 unfoldable pub answer : Call → Lent → FastArray
 answer c l = if ltb longestWindow (c .bits) then TooLong else decided (found c) l
 
 -- a buffer at the end: the new contents and behind them what was lent; if the call is refused, what was lent
-unfoldable pub left : {A : Type 0} → FastArray → (new lent : List A) → List A
-left (Decoded d) new lent = filled new lent
-left TooLong new lent = lent
-left NotFastArray new lent = lent
-left (Short d i f) new lent = lent
+unfoldable pub atExit : {A : Type 0} → FastArray → (new lent : List A) → List A
+atExit (Decoded d) new lent = filled new lent
+atExit TooLong new lent = lent
+atExit NotFastArray new lent = lent
+atExit (Short d i f) new lent = lent
 
 unfoldable pub deletedIn : Option Body → List ℤ
 deletedIn none = []
@@ -72,13 +71,13 @@ itemsIn none = []
 itemsIn (some b) = b .items
 
 abbrev pub finalDeleted : Call → Lent → List ℤ
-finalDeleted c l = left (answer c l) (deletedIn (found c)) (l .deleted)
+finalDeleted c l = atExit (answer c l) (deletedIn (found c)) (l .deleted)
 
 abbrev pub finalItems : Call → Lent → List ℕ
-finalItems c l = left (answer c l) (records itemRecord (itemsIn (found c))) (l .items)
+finalItems c l = atExit (answer c l) (records itemRecord (itemsIn (found c))) (l .items)
 
 abbrev pub finalFields : Call → Lent → List ℕ
-finalFields c l = left (answer c l) (records fieldRecord (fieldsOf (itemsIn (found c)))) (l .fields)
+finalFields c l = atExit (answer c l) (records fieldRecord (fieldsOf (itemsIn (found c)))) (l .fields)
 
 -- the contract: r is the answer, and `end` what the buffers hold at the exit
 pub record Answered (c : Call) (l : Lent) (r : FastArray) (end : Lent) : Type 0 where

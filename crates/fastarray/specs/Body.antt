@@ -27,8 +27,8 @@ window s bits = field (num s) 0 bits
 -- ---- numbers
 
 -- the bit behind it
-abbrev pub behind : Number → ℕ
-behind x = x .start + 8 * x .bytes
+abbrev pub numberEnd : Number → ℕ
+numberEnd x = x .start + 8 * x .bytes
 
 unfoldable pub asNumber : (p : ℕ) → Packed → Option Number
 asNumber p (Whole v n) = some (record { start = p; bytes = n; value = v })
@@ -37,8 +37,8 @@ asNumber p GoesOn = none
 asNumber p Overflows = none
 
 -- the packed number at bit p, if one can be read
-abbrev pub numberAt : (W len p : ℕ) → Option Number
-numberAt W len p = asNumber p (packed W len p)
+abbrev pub packedAt : (W len p : ℕ) → Option Number
+packedAt W len p = asNumber p (packed W len p)
 
 -- ---- fields
 
@@ -57,17 +57,17 @@ pub data Lead : Type 0 where
 
 unfoldable pub leadWidth : (len : ℕ) (handle : Number) → Option Number → Lead
 leadWidth len h none = breaks
-leadWidth len h (some w) = if leb (behind w + w .value) len then opens h w else breaks
+leadWidth len h (some w) = if leb (numberEnd w + w .value) len then opens h w else breaks
 
 unfoldable pub leadHandle : (W len : ℕ) → Option Number → Lead
 leadHandle W len none = breaks
-leadHandle W len (some h) = if eqb (h .value) 0 then closes h else leadWidth len h (numberAt W len (behind h))
+leadHandle W len (some h) = if eqb (h .value) 0 then closes h else leadWidth len h (packedAt W len (numberEnd h))
 
 abbrev pub leadAt : (W len p : ℕ) → Lead
-leadAt W len p = leadHandle W len (numberAt W len p)
+leadAt W len p = leadHandle W len (packedAt W len p)
 
 abbrev pub rawField : (handle width : Number) → RawField
-rawField h w = record { handle = h .value - 1; offset = behind w; width = w .value }
+rawField h w = record { handle = h .value - 1; offset = numberEnd w; width = w .value }
 
 -- an item's fields, the numbers that were read (for a later count; no answer shows them), and the bit behind the closing zero
 pub record Stream : Type 0 where
@@ -75,8 +75,8 @@ pub record Stream : Type 0 where
   pub numbers : List Number
   pub next : ℕ
 
-abbrev pub closing : (handle : Number) → Stream
-closing h = record { fields = []; numbers = h ∷ []; next = behind h }
+abbrev pub closingStream : (handle : Number) → Stream
+closingStream h = record { fields = []; numbers = h ∷ []; next = numberEnd h }
 
 abbrev pub before : (handle width : Number) → Stream → Stream
 before h w r = record { fields = rawField h w ∷ r .fields; numbers = h ∷ w ∷ r .numbers; next = r .next }
@@ -87,8 +87,8 @@ withField h w (some r) = some (before h w r)
 
 unfoldable pub onLead : Lead → (rest : (p : ℕ) → Option Stream) → Option Stream
 onLead breaks rest = none
-onLead (closes h) rest = some (closing h)
-onLead (opens h w) rest = withField h w (rest (behind w + w .value))
+onLead (closes h) rest = some (closingStream h)
+onLead (opens h w) rest = withField h w (rest (numberEnd w + w .value))
 
 -- The fields from bit p on, of which there are fewer than `most`: a bound for the recursion, no limit of the format.
 unfoldable pub fieldsFrom : (most W len p : ℕ) → Option Stream

@@ -7,7 +7,7 @@ use lib.Dec.{ltb}
 use Rattle.bitio.specs.Cursors.{longestWindow}
 use Rattle.bits.specs.Refusals.{Numbered, refusal, Rule, when}
 use Rattle.fastarray.specs.Body.{Body, fieldsOf}
-use Rattle.fastarray.specs.Answers.{Call, Lent, found, fits}
+use Rattle.fastarray.specs.Answers.{Call, Lent, found, fitsIn}
 
 abbrev pub isNone : Option Body → Bool
 isNone none = true
@@ -16,7 +16,7 @@ isNone (some b) = false
 -- refusal 3: the needs, whichever buffer is short; no rule where there is no body
 abbrev pub shortOf : Lent → Option Body → Rule Numbered
 shortOf l none = when false (refusal 0 0 0 0)
-shortOf l (some b) = when (not (fits b l)) (refusal 3 (length (b .deleted)) (length (b .items)) (length (fieldsOf (b .items))))
+shortOf l (some b) = when (not (fitsIn b l)) (refusal 3 (length (b .deleted)) (length (b .items)) (length (fieldsOf (b .items))))
 
 abbrev pub rules : Call → Lent → List (Rule Numbered)
 rules c l = when (ltb longestWindow (c .bits)) (refusal 1 0 0 0) ∷ when (isNone (found c)) (refusal 6 0 0 0) ∷ shortOf l (found c) ∷ []

@@ -5,7 +5,7 @@ use mathlib.Core.List.{List}
 use mathlib.Core.Option.{Option, none, some}
 use lib.ListN.{length}
 use Rattle.bits.specs.Packed.{Number}
-use Rattle.fastarray.specs.Body.{behind, Lead, breaks, closes, opens, Stream, Items, Body, fieldsOf}
+use Rattle.fastarray.specs.Body.{numberEnd, Lead, breaks, closes, opens, Stream, Items, Body, fieldsOf}
 use Rattle.fastarray.specs.Records.{itemWords, itemRecord, fieldWords, fieldRecord, storeAll}
 use Rattle.fastarray.specs.declared.Delta.{Delta}
 use Rattle.fastarray.specs.declared.Taken.{Taken}
@@ -21,12 +21,12 @@ use Rattle.fastarray.specs.declared.Measured.the-variants as M
 
 unfoldable pub takenOf : Option Number → Taken
 takenOf none = T.Broken
-takenOf (some x) = T.Value (x .value) (behind x)
+takenOf (some x) = T.Value (x .value) (numberEnd x)
 
 unfoldable pub headOf : Lead → FieldHead
 headOf breaks = H.Broken
-headOf (closes h) = H.Closes (behind h)
-headOf (opens h w) = H.Opens (h .value - 1) (behind w) (w .value)
+headOf (closes h) = H.Closes (numberEnd h)
+headOf (opens h w) = H.Opens (h .value - 1) (numberEnd w) (w .value)
 
 -- slot: the fields before these
 unfoldable pub fieldsReadOf : (slot : ℕ) → Option Stream → FieldsRead

@@ -1,13 +1,12 @@
 -- The seven counters of a walk of n bits, and the paths that would be too long, add up to at most n + 1: no counter of a walk overflows.
-use mathlib.Core.Path.{_≡_, refl, sym, ap, _∙_}
+use mathlib.Core.Path.{_≡_, refl}
 use mathlib.Core.Bool.{Bool, true, false, _&&_}
 use mathlib.Core.List.{List, [], _∷_, _++_}
-use Prim.Native.Nat.{ℕ, zero, suc, _+_, _-_, _*_, _≤_, _<_}
+use Prim.Native.Nat.{ℕ, zero, suc, _+_, _-_, _*_, _≤_}
 use native.Mathlib.Omega.{arith}
 use lib.ListN.{length}
 use lib.Dec.{eqb, ltb, leb}
-use borrow.Author.Tests.{ltb-true, eqb-true}
-use Rattle.bits.specs.Choice.{if_then_else_}
+use borrow.Author.Tests.{ltb-true}
 use Rattle.bits.specs.Packed.{Number}
 use Rattle.schema.specs.Tables.{Tables, absent, child}
 use Rattle.schema.specs.Labels.{atIndex}
@@ -15,14 +14,14 @@ use Rattle.schema.specs.declared.Child.{Child}
 use Rattle.schema.specs.declared.Child.the-variants.{Array, Leaf}
 use Rattle.framing.specs.Windows.{Window, windowOf, part, Reading, got, failed, reading}
 use Rattle.framing.specs.Events as Ev
-use Rattle.framing.specs.Events.{Event, number, element, pair, truncation, error, implicit, nested, root, over, overs, Trace}
-use Rattle.framing.specs.Counters.{Counters, counters, sums, tally}
+use Rattle.framing.specs.Events.{Event, number, nested, root, overs, Trace}
+use Rattle.framing.specs.Counters.{Counters, counters}
 use Rattle.framing.specs.Paths.{longestPath, grown, noted, given}
-use Rattle.framing.specs.Walk.{Sink, numberAt, rawLeaf, tail, inItem, entering, level}
-use Rattle.framing.specs.Sinks.{maxNesting, leafOf, onChild, structSinkOver, structSink, tooDeep, guidOf, objectField, objectSink, Walk, struct, exact, object, declaredOnly, sinkOf, silent, walkWindow, walk}
+use Rattle.framing.specs.Walk.{Sink, rawLeaf, tail, inItem, entering, level}
+use Rattle.framing.specs.Sinks.{leafOf, onChild, structSink, tooDeep, guidOf, objectField, objectSink, Walk, struct, exact, object, declaredOnly, sinkOf, silent, walkWindow, walk}
 use Rattle.framing.proofs.TraceLaws.{counters-append, overs-append}
-use Rattle.framing.proofs.Demand3.{and-true}
-use Rattle.framing.proofs.Induct.{Read, Here, Scheme, level-holds}
+use Rattle.bits.proofs.ChoiceLaws.{and-true}
+use Rattle.framing.proofs.Induct.{Read, Scheme, level-holds}
 
 abbrev pub total : Counters → ℕ
 total c = c .elements + c .fields + c .truncations + c .errors + c .nestedBits + c .rootBits + c .implicits

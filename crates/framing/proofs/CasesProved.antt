@@ -11,7 +11,7 @@ use Rattle.framing.specs.Windows.{reading}
 use Rattle.framing.specs.Paths.{grown, noted, given}
 use Rattle.framing.specs.Walk.{lead, fieldAt, tail, fields, closing, inItem, entering, elements, level}
 use Rattle.framing.specs.Sinks.{structSink, objectSink, sinkOf, walkWindow, walk}
-use Rattle.framing.specs.Cases.{Answer, Case, cases, found}
+use Rattle.framing.specs.Cases.{CaseAnswer, Case, cases, found}
 
 pub cases-hold : map found cases ≡ map (λ c. c .answer) cases
 unfolding ascii schemaRows schemaNames num field after earlierByte fifthByte packedFrom packed cell fits firstRow rowOf child schemaName declaredName digits decimal bySchema containerLabel byDeclaration leafLabel labelBytes atIndex dot reading grown noted given lead fieldAt tail fields closing inItem entering elements level structSink objectSink sinkOf walkWindow walk

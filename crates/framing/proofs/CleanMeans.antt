@@ -16,11 +16,11 @@ use Rattle.framing.specs.Windows.{Window, windowOf}
 use Rattle.framing.specs.Events.{Leaf, Pair, root, leaves, pairs, overs, Trace}
 use Rattle.framing.specs.Counters.{counters, faults, isClean}
 use Rattle.framing.specs.Walk.{level}
-use Rattle.framing.specs.Sinks.{structSink, objectSink, Walk, struct, exact, object, Leafy, declaredOnly, sinkOf, silent, walkWindow, walk}
+use Rattle.framing.specs.Sinks.{levelsBelow, structSink, objectSink, Walk, struct, exact, object, Leafy, declaredOnly, sinkOf, silent, walkWindow, walk}
 use Rattle.framing.specs.Grammar.{arrayBits}
 use Rattle.framing.specs.GrammarRules.{contentBits, referenceBits}
 use Rattle.framing.specs.GrammarGives.{structLeaves}
-use Rattle.framing.specs.InGrammar.{levelsBelow, StructWindow, ObjectWindow, InGrammar, treeLeaves, treePairs, treeElements}
+use Rattle.framing.specs.InGrammar.{StructWindow, ObjectWindow, InGrammar, treeLeaves, treePairs, treeElements}
 use Rattle.framing.proofs.Demand3.{walk-inside}
 use Rattle.framing.proofs.GrammarBits.{Span}
 use Rattle.framing.proofs.GrammarFound.{Fine}

@@ -1,27 +1,25 @@
 -- Demand 3, of the definitions.
-use mathlib.Core.Path.{_≡_, refl, sym, ap, _∙_, subst}
+use mathlib.Core.Path.{_≡_, refl, sym, ap, _∙_}
 use mathlib.Core.Bool.{Bool, true, false, _&&_}
-use mathlib.Core.List.{List, [], _∷_, _++_}
-use Prim.Native.Nat.{ℕ, zero, suc, _+_, _-_, _*_, _/_, _%_, _^_, _≤_, _<_}
+use mathlib.Core.List.{List, [], _∷_}
+use Prim.Native.Nat.{ℕ, _+_, _-_, _*_, _%_, _^_, _≤_, _<_}
 use native.Mathlib.Omega.{arith}
-use lib.Dec.{ltb, leb, eqb}
+use lib.Dec.{eqb}
 use lib.ListN.{length}
-use lib.Pow as Pow
-use borrow.Author.Tests.{ltb-true, ltb-false, lt-ltb, le-ltb, eqb-true, eqb-false, eq-eqb, ne-eqb}
-use Rattle.bits.specs.Choice.{if_then_else_}
+use borrow.Author.Tests.{le-ltb, eqb-true, eqb-false, eq-eqb, ne-eqb}
+use Rattle.bits.proofs.ChoiceLaws.{and-true}
 use Rattle.bits.specs.Bits.{num, field}
 use Rattle.bits.specs.Packed.{packed}
 use Rattle.bits.proofs.FieldLaws.{field-low, field-same}
 use Rattle.bits.proofs.PackedWindows as PW
 use Rattle.bits.specs.declared.Packed.{Packed}
 use Rattle.bits.specs.declared.Packed.the-variants.{Whole, Cut, GoesOn, Overflows}
-use Rattle.bits.specs.Packed.{Number}
-use Rattle.framing.specs.Windows.{Window, windowOf, part, opening, Reading, got, failed, readingOf, reading}
-use Rattle.framing.specs.Events.{Leaf, rawHandle, Pair, numbers, Event, number, element, leaf, pair, truncation, error, implicit, nested, root, over, leaves, pairs, Trace}
-use Rattle.framing.specs.Counters.{Counters, counters, tally, faults, isClean}
-use Rattle.framing.specs.Walk.{Sink, trailerBits, trailerOf, closing, level}
+use Rattle.framing.specs.Windows.{Window, windowOf, opening, Reading, got, failed, readingOf, reading}
+use Rattle.framing.specs.Events.{Leaf, rawHandle, Event, number, element, leaf, pair, truncation, error, implicit, nested, root, over, leaves, pairs, Trace}
+use Rattle.framing.specs.Counters.{counters, faults, isClean}
+use Rattle.framing.specs.Walk.{Sink, trailerOf, closing}
 use Rattle.framing.specs.Sinks.{structSink, objectSink, Walk, struct, exact, object, sinkOf, silent, walkWindow, walk}
-use Rattle.framing.specs.Demand.{dropTail, Opens, Excused, nothing-sent, lacks-trailer, CutOf}
+use Rattle.framing.specs.Demand.{dropTail, Opens, nothing-sent, lacks-trailer, CutOf}
 use Rattle.framing.proofs.Shorter.{Reads, agree, short, reads}
 use Rattle.framing.proofs.Cut as Cuts
 use Rattle.framing.proofs.Cut.{Tail, skipped, kept, too-long, Broken, read, at-implicit, at-error, at-truncation, breaks, ending, same, level-cut}
@@ -79,10 +77,6 @@ root-clean : (n : ℕ) → isClean (counters (root n ∷ [])) ≡ true → n ≡
 root-clean n c = let f = eqb-true (faults (counters (root n ∷ []))) 0 c in omega arith
 
 -- ---- behind both terminators
-
-pub and-true : (a b : Bool) → a && b ≡ true → (a ≡ true) × (b ≡ true)
-and-true true b e = (refl, e)
-and-true false b e = (e, cc)
 
 record Ends (s : Sink) (w : Window) (m : ℕ) (a b : Trace) : Type 0 where
   no-leaves : leaves a ≡ []

@@ -1,7 +1,7 @@
 -- A level that is walked clean is the bits of an array of the grammar. Stated once for every sink: `find` turns a payload whose field the sink took
 -- without fault into what the grammar has there.
 use Prim.Native.Nat.{ℕ, zero, suc, _+_, _-_, _*_, _^_, _≤_, _<_}
-use mathlib.Core.Path.{_≡_, refl, sym, ap, ap₂, _∙_, subst}
+use mathlib.Core.Path.{_≡_, refl, sym, ap, _∙_, subst}
 use mathlib.Core.Bool.{Bool, true, false, _&&_}
 use mathlib.Core.List.{List, [], _∷_, _++_}
 use native.Mathlib.Nat.{zero-add}
@@ -17,11 +17,12 @@ use Rattle.framing.specs.Windows.{Window, part, Reading, got, failed, re
 use Rattle.framing.specs.Events.{numbers, Event, number, element, truncation, error, implicit, Trace}
 use Rattle.framing.specs.Counters.{counters, faults}
 use Rattle.framing.specs.Walk.{maxElements, maxFields, trailerBits, Sink, numberAt, Lead, ends, fails, closes, opens, lead, Due, cut, broken, closed, present, fieldAt, tail, Run, done, stopped, prepend, onField, onLastField, fields, trailerOf, closing, inItem, entering, behind, onIndex, onLastIndex, elements, onCount, level}
-use Rattle.framing.specs.Grammar.{Bits, noBits, _then_, Num, numBits, IsNum, Field, Element, Array, fieldBits, fieldsBits, elementBits, elementsBits, trailing, arrayBits}
-use Rattle.framing.specs.GrammarRules.{Each, FieldOk, FieldsOk, ElementOk, ArrayOk}
+use Rattle.framing.specs.Grammar.{Bits, noBits, numBits, Field, Element, Array, fieldBits, fieldsBits, elementBits, elementsBits, trailing, arrayBits}
+use Rattle.framing.specs.GrammarRules.{Each, FieldsOk, ElementOk, ArrayOk}
 use Rattle.framing.proofs.TraceLaws.{counters-append}
-use Rattle.framing.proofs.Demand3.{and-true, zero-byte}
-use Rattle.framing.proofs.GrammarBits.{Span, Below, span-none, span-join, read-num}
+use Rattle.bits.proofs.ChoiceLaws.{and-true}
+use Rattle.framing.proofs.Demand3.{zero-byte}
+use Rattle.framing.proofs.GrammarBits.{Span, span-none, span-join, read-num}
 use Rattle.framing.proofs.GrammarLeads.{Stands, Opens, Present, closes-stands, opens-stands, present-stands, closed-stands}
 
 -- a trace without fault

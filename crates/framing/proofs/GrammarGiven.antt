@@ -20,7 +20,7 @@ use Rattle.framing.specs.Paths.{longestPath, grown, noted, given}
 use Rattle.framing.specs.Walk.{Sink, inItem, entering, level}
 use Rattle.framing.specs.Sinks.{leafOf, onChild, structSink, tooDeep, objectSink}
 use Rattle.framing.specs.Grammar.{Bits, Num, numBits, IsNum, Field, Element, Array, fieldBits, fieldsBits, elementBits, elementsBits, arrayBits}
-use Rattle.framing.specs.GrammarRules.{Each, FieldOk, FieldsOk, ElementOk, ArrayOk, plain, contentBits, PlainOk, NestedOk, array, allowedIn, StructArray, Reference, absent, guid, referenceBits, referenceIn, ObjectArray}
+use Rattle.framing.specs.GrammarRules.{Each, FieldOk, FieldsOk, ElementOk, ArrayOk, plain, contentBits, PlainOk, NestedOk, array, allowedIn, StructArray, Reference, noGuid, guid, referenceBits, referenceIn, ObjectArray}
 use Rattle.framing.specs.GrammarRules as G
 use Rattle.framing.specs.GrammarGives.{fieldsLeaves, elementsLeaves, arrayLeaves, plainLeaves, nestedLeaves, contentLeaves, structLeaves, referencePairs, fieldsPairs, elementsPairs, objectPairs, fieldsCount, elementsCount, arrayCount, contentCount}
 use Rattle.framing.proofs.TraceLaws.{leaves-append, pairs-append, overs-append, counters-append}
@@ -342,13 +342,13 @@ struct-elements (suc deeper) t takes leftover lvl rest a ok w sp path =
 
 reference-pairs : (i : ℕ) (path : List ℕ) (first : Bool) (h : ℕ) (x : Reference) → referenceIn first h x → (o p : ℕ)
     → pairs (objectSink .field i path first h (windowAt o p (referenceBits x))) ≡ referencePairs i x
-reference-pairs i path first h absent ok o p = ap pairs (absent-field i h path first o p)
+reference-pairs i path first h noGuid ok o p = ap pairs (absent-field i h path first o p)
 reference-pairs i path first h (guid n) ok o p =
     ap (λ (f : Bool). pairs (objectSink .field i path f h (windowAt o p (numBits n)))) (ok .0) ∙ ap pairs (guid-field i h path n (ok .1) o p)
 
 reference-enters : (i : ℕ) (path : List ℕ) (first : Bool) (h : ℕ) (x : Reference) → referenceIn first h x → (o p : ℕ)
     → entered (objectSink .field i path first h (windowAt o p (referenceBits x))) ≡ 0
-reference-enters i path first h absent ok o p = ap entered (absent-field i h path first o p)
+reference-enters i path first h noGuid ok o p = ap entered (absent-field i h path first o p)
 reference-enters i path first h (guid n) ok o p =
     ap (λ (f : Bool). entered (objectSink .field i path f h (windowAt o p (numBits n)))) (ok .0) ∙ ap entered (guid-field i h path n (ok .1) o p)
 

@@ -9,7 +9,7 @@ use borrow.Author.Tests.{lt-leb, le-ltb, eq-eqb, ne-eqb, eqb-true, eqb-false, lt
 use Rattle.bits.specs.Packed.{Number}
 use Rattle.bits.proofs.Never.{never}
 use Rattle.framing.specs.Windows.{Window, Reading, got, failed, reading}
-use Rattle.framing.specs.Walk.{numberAt, Lead, ends, fails, closes, opens, leadOf, lead, Due, cut, broken, closed, present, widthOf, fieldOf, fieldAt}
+use Rattle.framing.specs.Walk.{numberAt, Lead, ends, fails, closes, opens, leadOf, lead, Due, cut, broken, closed, present, withWidth, fieldOf, fieldAt}
 use Rattle.framing.specs.Grammar.{Bits, _then_, Num, numBits, IsNum}
 use Rattle.framing.proofs.GrammarBits.{Span, read-num, num-read}
 
@@ -81,7 +81,7 @@ pub record Present (w : Window) (p h q k : ℕ) : Type 0 where
   pub within : q + k ≤ w .size
 
 width-of : (w : Window) (p : ℕ) (x : Number) (h₀ m : ℕ) (r : Reading) → reading w m ≡ r → Opens w p m h₀ → (ns : List Number) (h q k : ℕ)
-    → widthOf w x h₀ m r ≡ present ns h q k → Present w p h q k
+    → withWidth w x h₀ m r ≡ present ns h q k → Present w p h q k
 width-of w p x h₀ m failed e o ns h q k f = never (cc)
 width-of w p x h₀ m (got v b) e o ns h q k f = go (ltb (w .size) (m + 8 * b + v)) refl
   where
@@ -116,7 +116,7 @@ closed-of w p fails e x q f = never (cc)
 closed-of w p (closes y m) e x q f = let eq : m ≡ q = cc in subst (λ (n : ℕ). Stands w p n 0) eq (closes-stands w p y m e)
 closed-of w p (opens y h m) e x q f = go (reading w m) f
   where
-    go : (r : Reading) → widthOf w y h m r ≡ closed x q → Stands w p q 0
+    go : (r : Reading) → withWidth w y h m r ≡ closed x q → Stands w p q 0
     go failed g = never (cc)
     go (got v b) g = try (ltb (w .size) (m + 8 * b + v)) refl
       where

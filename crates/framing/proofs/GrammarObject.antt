@@ -12,7 +12,7 @@ use Rattle.framing.specs.Events.{number, pair, error, nested, root, Trac
 use Rattle.framing.specs.Walk.{Sink, numberAt, level}
 use Rattle.framing.specs.Sinks.{guidOf, objectField, objectSink}
 use Rattle.framing.specs.Grammar.{Bits, noBits, Num, numBits, IsNum, Array, arrayBits}
-use Rattle.framing.specs.GrammarRules.{ArrayOk, Reference, absent, guid, referenceBits, referenceIn, ObjectArray}
+use Rattle.framing.specs.GrammarRules.{ArrayOk, Reference, noGuid, guid, referenceBits, referenceIn, ObjectArray}
 use Rattle.framing.proofs.GrammarBits.{Span, Below, read-num, num-read}
 use Rattle.framing.proofs.GrammarFound.{Fine, fine-number, bitsIn, Content, Found, level-found}
 use Rattle.framing.proofs.GrammarWalked.{windowAt, num-below, arrayTrace, level-walked}
@@ -31,7 +31,7 @@ no-bits v b e = let c : v .bits < 2 ^ 0 = subst (λ (k : ℕ). v .bits < 2 ^ k) 
 empty-found : (first : Bool) (h : ℕ) (v : Window) → v .bits < 2 ^ v .size → v .size ≡ 0 → Content Reference referenceBits referenceIn first h v
 empty-found first h v b e =
     let n : 0 ≡ v .bits = sym (no-bits v b e) in
-    record { it = absent; same = λ i. record { number = n i; size = sym e i }; ok = tt }
+    record { it = noGuid; same = λ i. record { number = n i; size = sym e i }; ok = tt }
 
 guid-found : (i h : ℕ) (v : Window) → v .bits < 2 ^ v .size → (r : Reading) → reading v 0 ≡ r → Fine (guidOf i v r) → Content Reference referenceBits referenceIn true h v
 guid-found i h v b failed e g = absurd (let z : Fine (error ∷ []) = g in omega arith)
@@ -71,7 +71,7 @@ found-object w path g =
 -- ---- in the grammar, so clean
 
 pub reference-below : (first : Bool) (h : ℕ) (x : Reference) → referenceIn first h x → Below (referenceBits x)
-reference-below first h absent ok = omega arith
+reference-below first h noGuid ok = omega arith
 reference-below first h (guid n) ok = num-below n (ok .1)
 
 -- the number that fills a payload is read
@@ -94,7 +94,7 @@ absent-field i h path first o p = refl
 
 always : (i : ℕ) (path : List ℕ) (first : Bool) (h : ℕ) (x : Reference) → referenceIn first h x → (o p : ℕ)
     → Fine (objectSink .field i path first h (windowAt o p (referenceBits x)))
-always i path first h absent ok o p = subst Fine (sym (absent-field i h path first o p)) refl
+always i path first h noGuid ok o p = subst Fine (sym (absent-field i h path first o p)) refl
 always i path first h (guid n) ok o p =
     subst (λ (f : Bool). Fine (objectSink .field i path f h (windowAt o p (numBits n)))) (sym (ok .0)) (subst Fine (sym (guid-field i h path n (ok .1) o p)) refl)
 

@@ -1,20 +1,21 @@
 -- The bits of an array of the grammar are walked as its parts say: the walk's trace, read off the array. Stated once for every sink.
-use Prim.Native.Nat.{ℕ, zero, suc, _+_, _-_, _*_, _/_, _%_, _^_, _≤_, _<_}
+use Prim.Native.Nat.{ℕ, zero, suc, _+_, _-_, _*_, _/_, _^_, _≤_, _<_}
 use mathlib.Core.Path.{_≡_, refl, sym, ap, ap₂, _∙_, subst}
 use mathlib.Core.Bool.{Bool, true, false, _&&_}
 use mathlib.Core.List.{List, [], _∷_, _++_, append-assoc}
 use native.Mathlib.Nat.{zero-add, mul-le-mul-left, mul-add, mul-one}
 use native.Mathlib.Omega.{arith}
-use lib.Dec.{leb, ltb, eqb}
+use lib.Dec.{eqb}
 use lib.ListN.{length}
-use lib.Pow.{pow-add, pow-pos}
-use borrow.Author.Tests.{le-ltb, lt-leb, eq-eqb, ne-eqb}
+use lib.Pow.{pow-add}
+use borrow.Author.Tests.{le-ltb, lt-leb, eq-eqb}
+use Rattle.bits.proofs.ChoiceLaws.{and-false}
 use Rattle.bits.specs.Bits.{field}
 use Rattle.bits.specs.Packed.{Number}
-use Rattle.framing.specs.Windows.{Window, part, Reading, got, failed, reading}
-use Rattle.framing.specs.Events.{numbers, Event, number, element, Trace}
-use Rattle.framing.specs.Walk.{maxElements, maxFields, trailerBits, Sink, numberAt, Lead, closes, opens, lead, fieldAt, present, closed, Run, done, stopped, prepend, onField, onLastField, fields, trailerOf, closing, inItem, entering, behind, onIndex, onLastIndex, elements, onCount, level}
-use Rattle.framing.specs.Grammar.{Bits, noBits, _then_, Num, packedBits, numBits, IsNum, Field, Element, Array, fieldBits, fieldsBits, elementBits, elementsBits, trailing, arrayBits}
+use Rattle.framing.specs.Windows.{Window, part, got, reading}
+use Rattle.framing.specs.Events.{number, element, Trace}
+use Rattle.framing.specs.Walk.{maxElements, maxFields, trailerBits, Sink, numberAt, closes, opens, closed, done, prepend, onField, onLastField, fields, closing, inItem, entering, behind, onIndex, onLastIndex, elements, onCount, level}
+use Rattle.framing.specs.Grammar.{Bits, _then_, Num, packedBits, numBits, IsNum, Field, Element, Array, fieldBits, fieldsBits, elementBits, elementsBits, trailing, arrayBits}
 use Rattle.framing.specs.GrammarRules.{Each, FieldOk, FieldsOk, ElementOk, ArrayOk}
 use Rattle.framing.proofs.StepLaws.{fields-last, fields-step, fields-present, elements-last, elements-step, level-count}
 use Rattle.framing.proofs.GrammarBits.{Span, Below, span-first, span-second, num-read}
@@ -94,10 +95,6 @@ module _ (s : Sink) {P : Type 0} (bitsOf : P → Bits) (o : ℕ) where
       ∷ (elementsTrace path p (a .elements) ++ (number (numAt o q (a .close)) ∷ endTrace (a .trailer) (q + 8 * a .close .bytes)))
 
 -- ---- the walk is that trace
-
-and-false : (b : Bool) → b && false ≡ false
-and-false true = refl
-and-false false = refl
 
 module _ {P : Type 0} (bitsOf : P → Bits) (allowed : Bool → ℕ → P → Type 0)
     (bounded : (first : Bool) (h : ℕ) (x : P) → allowed first h x → Below (bitsOf x)) where

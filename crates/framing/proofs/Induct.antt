@@ -6,15 +6,14 @@ use Prim.Native.Nat.{ℕ, zero, suc, _+_, _-_, _*_, _≤_, _<_}
 use native.Mathlib.Omega.{arith}
 use lib.Dec.{ltb, leb, eqb}
 use borrow.Author.Tests.{ltb-false, leb-true, leb-false, eqb-true}
-use Rattle.bits.specs.Choice.{if_then_else_}
 use Rattle.bits.specs.declared.Packed.{Packed}
 use Rattle.bits.proofs.PackedWindows as PW
 use Rattle.bits.proofs.PackedWindows.{Lies, packed-lies}
 use Rattle.bits.specs.Packed.{Number}
 use Rattle.framing.specs.Windows.{Window, part, Reading, got, failed, readingOf, reading}
 use Rattle.framing.specs.Events.{number, element, truncation, error, implicit, Trace}
-use Rattle.framing.specs.Walk.{Sink, numberAt, Lead, ends, fails, closes, opens, leadOf, lead, Due, cut, broken, closed, present, widthOf, fieldOf, fieldAt, tail, Run, done, stopped, prepend, onField, onLastField, fields, trailerBits, trailerOf, closing, inItem, entering, behind, onIndex, onLastIndex, elements, onCount, level, maxFields, maxElements}
-use Rattle.framing.proofs.Demand3.{and-true}
+use Rattle.framing.specs.Walk.{Sink, numberAt, Lead, ends, fails, closes, opens, leadOf, lead, Due, cut, broken, closed, present, withWidth, fieldOf, fieldAt, tail, Run, done, stopped, prepend, onField, onLastField, fields, trailerOf, closing, inItem, entering, behind, onIndex, onLastIndex, elements, onCount, level, maxFields, maxElements}
+use Rattle.bits.proofs.ChoiceLaws.{and-true}
 
 -- ---- numbers lie in the window and take at least a byte
 
@@ -72,14 +71,14 @@ pub data DueIn (w : Window) (p : ℕ) : Due → Type 0 where
   in-zero : {x : Number} {q : ℕ} → Read w x p q → DueIn w p (closed x q)
   in-field : {x y : Number} {h q r k : ℕ} → Read w x p q → Read w y q r → r + k ≤ w .size → DueIn w p (present (x ∷ y ∷ []) h r k)
 
-width-in : (w : Window) (p : ℕ) (x : Number) (h q : ℕ) → Read w x p q → {r : Reading} → Inside (w .size) q r → DueIn w p (widthOf w x h q r)
+width-in : (w : Window) (p : ℕ) (x : Number) (h q : ℕ) → Read w x p q → {r : Reading} → Inside (w .size) q r → DueIn w p (withWidth w x h q r)
 width-in w p x h q took nothing = in-fail₁ took
 width-in w p x h q took (inside {v = k} {b = b} l pos) = go (ltb (w .size) (q + 8 * b + k)) refl
   where
     next : Read w (numberAt w q b k) q (q + 8 * b)
     next = record { starts = refl; runs = refl; some = pos; fits = l }
 
-    go : (z : Bool) → ltb (w .size) (q + 8 * b + k) ≡ z → DueIn w p (widthOf w x h q (got k b))
+    go : (z : Bool) → ltb (w .size) (q + 8 * b + k) ≡ z → DueIn w p (withWidth w x h q (got k b))
     go true t = rw t (in-fail₂ took next)
     go false t = rw t (in-field took next (ltb-false (w .size) (q + 8 * b + k) t))
 

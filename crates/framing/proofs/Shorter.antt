@@ -12,7 +12,7 @@ use Rattle.bits.proofs.PackedWindows.{Shortened, packed-shortened}
 use Rattle.bits.proofs.PackedWindows as PW
 use Rattle.bits.specs.Packed.{Number}
 use Rattle.framing.specs.Windows.{Window, part, opening, Reading, got, failed, readingOf, reading}
-use Rattle.framing.specs.Walk.{Lead, ends, fails, closes, opens, leadOf, lead, Due, cut, broken, closed, present, widthOf, fieldOf, fieldAt}
+use Rattle.framing.specs.Walk.{Lead, ends, fails, closes, opens, leadOf, lead, Due, cut, broken, closed, present, withWidth, fieldOf, fieldAt}
 
 -- a payload inside the first m bits
 pub part-opening : (w : Window) (m p k : ℕ) → p + k ≤ m → part (opening m w) p k ≡ part w p k
@@ -65,11 +65,11 @@ pub data Dues (m : ℕ) : Due → Due → Type 0 where
   at-field : {t : List Number} {h q k : ℕ} → q + k ≤ m → Dues m (present t h q k) (present t h q k)
 
 dues-width : (w : Window) (m : ℕ) → m ≤ w .size → (e : Number) (h q : ℕ) {r s : Reading} → Reads m q r s
-    → Dues m (widthOf (opening m w) e h q r) (widthOf w e h q s)
+    → Dues m (withWidth (opening m w) e h q r) (withWidth w e h q s)
 dues-width w m mn e h q short = unread
 dues-width w m mn e h q (agree {v = k} {b = b} l) = go (ltb m (q + 8 * b + k)) refl
   where
-    go : (x : Bool) → ltb m (q + 8 * b + k) ≡ x → Dues m (widthOf (opening m w) e h q (got k b)) (widthOf w e h q (got k b))
+    go : (x : Bool) → ltb m (q + 8 * b + k) ≡ x → Dues m (withWidth (opening m w) e h q (got k b)) (withWidth w e h q (got k b))
     go true t = rw t unread
     go false t =
         let f = ltb-false m (q + 8 * b + k) t in

@@ -7,7 +7,7 @@ use Rattle.framing.specs.Events.{Leaf, Pair, leaves, pairs, rawHandle, T
 use Rattle.framing.specs.Counters.{Counters, counted, counters}
 use Rattle.framing.specs.Sinks.{Walk, struct, exact, object, walk}
 
-pub record Answer : Type 0 where
+pub record CaseAnswer : Type 0 where
   pub leaves : List Leaf
   pub pairs : List Pair
   pub counters : Counters
@@ -16,13 +16,13 @@ pub record Case : Type 0 where
   pub how : Walk
   pub bytes : List ℕ
   pub bits : ℕ
-  pub answer : Answer
+  pub answer : CaseAnswer
 
-abbrev pub answerOf : Trace → Answer
-answerOf t = record { leaves = leaves t; pairs = pairs t; counters = counters t }
+abbrev pub caseAnswerOf : Trace → CaseAnswer
+caseAnswerOf t = record { leaves = leaves t; pairs = pairs t; counters = counters t }
 
-abbrev pub found : Case → Answer
-found c = answerOf (walk (c .how) (c .bytes) (c .bits))
+abbrev pub found : Case → CaseAnswer
+found c = caseAnswerOf (walk (c .how) (c .bytes) (c .bits))
 
 abbrev pub row : Walk → List ℕ → ℕ → List Leaf → List Pair → Counters → Case
 row k bytes n ls ps c = record { how = k; bytes = bytes; bits = n; answer = record { leaves = ls; pairs = ps; counters = c } }

@@ -1,10 +1,10 @@
--- What a walk gives: a list of events, in reading order. No answer of today shows the numbers taken or an element's index; a number that was
--- looked at and put back is no event.
+-- What a walk gives: a list of events, in reading order. The events of numbers taken show in no answer of today, and neither does the index that
+-- an element's event carries (paths and pairs carry it besides). A number that was looked at and put back is no event.
 use Prim.Native.Nat.{ℕ, suc}
 use mathlib.Core.List.{List, [], _∷_}
 use Rattle.bits.specs.Packed.{Number}
 
--- path: bytes. start: the payload's first bit, counted from the root window's first. payload: its bits as a number
+-- path: bytes. start: where the payload begins, in bits of the root window. payload: its bits as a number
 pub record Leaf : Type 0 where
   pub path : List ℕ
   pub handle : ℕ
@@ -17,7 +17,7 @@ pub record Pair : Type 0 where
   pub guid : ℕ
 
 pub data Event : Type 0 where
-  number : Number → Event  -- a packed number was taken, also where a rule then turned its value away
+  number : Number → Event  -- a packed number was taken, allowed or not
   element : (index : ℕ) → Event  -- an element was entered
   leaf : Leaf → Event
   pair : Pair → Event

@@ -1,10 +1,9 @@
--- The format of an array as a grammar, from the header of array.rs and 01's sizes, with what 01's rule 3 adds to the header: the trailer. No
--- step of a walker is mentioned.
+-- The format of an array as a grammar: what array.rs says of it in its header, 01's sizes, and the trailer of 01's rule 3. No step of a walker is
+-- mentioned.
 --
---   elementCount = IntPacked
---   loop: encodedIndex = IntPacked       0 ends the array; index = encoded - 1
---     loop: encodedHandle = IntPacked    0 ends the element; handle = encoded - 1
---           payloadBits = IntPacked, then that many bits (a nested array when the schema says so)
+-- An array is a packed number, its count; then elements; then a zero, behind which a trailer may stand. An element is a packed number, its index
+-- and one; then fields; then a zero. A field is a packed number, its handle and one; a packed number, the width of its payload in bits; and the
+-- payload, which the schema may call an array.
 use Prim.Native.Nat.{ℕ, zero, suc, _+_, _*_, _/_, _%_, _^_, _≤_, _<_}
 use mathlib.Core.Bool.{Bool, true, false}
 use mathlib.Core.List.{List, [], _∷_}
@@ -24,7 +23,7 @@ infixr 5 _then_
 abbrev pub _then_ : Bits → Bits → Bits
 a then b = record { number = a .number + 2 ^ a .size * b .number; size = a .size + b .size }
 
--- ---- IntPacked: a value, in one of its accepted lengths
+-- ---- packed numbers: a value, in one of its accepted lengths
 
 pub record Num : Type 0 where
   pub value : ℕ

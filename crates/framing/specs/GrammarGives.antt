@@ -8,7 +8,7 @@ use Rattle.schema.specs.declared.Child.{Child}
 use Rattle.schema.specs.declared.Child.the-variants as Child
 use Rattle.framing.specs.Events.{Leaf, Pair}
 use Rattle.framing.specs.Grammar.{Bits, Field, fieldBits, Element, elementBits, Array}
-use Rattle.framing.specs.GrammarRules.{Content, plain, nested, contentBits, Reference, absent, guid}
+use Rattle.framing.specs.GrammarRules.{Content, plain, nested, contentBits, Reference, noGuid, guid}
 
 -- ---- leaves, over what a payload's are
 
@@ -52,7 +52,7 @@ structLeaves deeper t lvl o path a = arrayLeaves (contentBits deeper) (λ q k n 
 -- ---- pairs of an object array
 
 abbrev pub referencePairs : (index : ℕ) → Reference → List Pair
-referencePairs i absent = []
+referencePairs i noGuid = []
 referencePairs i (guid n) = record { index = i; guid = n .value } ∷ []
 
 unfoldable pub fieldsPairs : (index : ℕ) → List (Field Reference) → List Pair

@@ -92,15 +92,15 @@ StructArray deeper rows takes lvl a = ArrayOk (contentBits deeper) (λ f k x. al
 -- ---- in an object walk: a field is empty, or one packed number that fills its payload; at most one of an element is not empty
 
 pub data Reference : Type 0 where
-  absent : Reference
+  noGuid : Reference
   guid : Num → Reference
 
 abbrev pub referenceBits : Reference → Bits
-referenceBits absent = noBits
+referenceBits noGuid = noBits
 referenceBits (guid n) = numBits n
 
 abbrev pub referenceIn : (first : Bool) (handle : ℕ) → Reference → Type 0
-referenceIn first h absent = Unit
+referenceIn first h noGuid = Unit
 referenceIn first h (guid n) = (first ≡ true) × IsNum n
 
 abbrev pub ObjectArray : Array Reference → Type 0

@@ -7,17 +7,13 @@ use mathlib.Core.List.{List, []}
 use Rattle.schema.specs.Tables.{Tables, absent}
 use Rattle.framing.specs.Windows.{Window}
 use Rattle.framing.specs.Events.{Leaf, Pair}
-use Rattle.framing.specs.Sinks.{maxNesting, Walk, struct, exact, object, declaredOnly}
+use Rattle.framing.specs.Sinks.{levelsBelow, Walk, struct, exact, object, declaredOnly}
 use Rattle.framing.specs.Grammar.{Bits, Array, arrayBits}
 use Rattle.framing.specs.GrammarRules.{Content, contentBits, StructArray, Reference, referenceBits, ObjectArray}
 use Rattle.framing.specs.GrammarGives.{structLeaves, objectPairs, arrayCount, contentCount}
 
 abbrev pub windowBits : Window → Bits
 windowBits w = record { number = w .bits; size = w .size }
-
--- levels that may stand below the root
-abbrev pub levelsBelow : ℕ
-levelsBelow = maxNesting - 1
 
 -- takes: whether a trailer may end an array; lvl: the level of the root's elements
 pub record StructWindow (t : Tables) (takes : Bool) (lvl : ℕ) (w : Window) : Type 0 where

@@ -31,7 +31,7 @@ unfoldable pub payloadBytes : List Leaf → List ℕ
 payloadBytes [] = []
 payloadBytes (x ∷ l) = payloadOf x ++ payloadBytes l
 
--- paths and payloads follow one another without gaps
+-- each path starts where the one before it ends, and each payload too
 unfoldable pub leafRecords : (pathAt payloadAt : ℕ) → List Leaf → List ℕ
 leafRecords a b [] = []
 leafRecords a b (x ∷ l) = leafRecord a b x ++ leafRecords (a + length (x .path)) (b + length (payloadOf x)) l

@@ -5,7 +5,7 @@ use mathlib.Core.List.{List, [], _∷_, _++_}
 use lib.ListN.{length}
 use lib.Dec.{ltb, eqb}
 use Rattle.bits.specs.Choice.{if_then_else_}
-use Rattle.schema.specs.Tables.{Tables, absent, child}
+use Rattle.schema.specs.Tables.{Tables, tables, absent, child}
 use Rattle.schema.specs.Labels.{containerLabel, leafLabel, labelBytes, dot}
 use Rattle.schema.specs.declared.Child.{Child}
 use Rattle.schema.specs.declared.Child.the-variants.{Array, Leaf}
@@ -19,6 +19,10 @@ use Rattle.framing.specs.Walk.{Sink, numberAt, level}
 -- 01, Sizes: levels of nesting, of depths 0 to 11
 abbrev pub maxNesting : ℕ
 maxNesting = 12
+
+-- levels that may stand below the root's
+abbrev pub levelsBelow : ℕ
+levelsBelow = maxNesting - 1
 
 -- ---- the struct walk
 
@@ -68,8 +72,11 @@ abbrev pub objectField : (index : ℕ) (first : Bool) → Window → Trace
 objectField index first w =
     if eqb (w .size) 0 then [] else (if first then guidOf index w (reading w 0) else nested (w .size) ∷ [])
 
+abbrev pub objectSinkOver : (leftover : ℕ → Event) → Sink
+objectSinkOver leftover = record { trailer = true; flattens = false; leftover = leftover; field = λ i path first handle w. objectField i first w }
+
 unfoldable pub objectSink : Sink
-objectSink = record { trailer = true; flattens = false; leftover = root; field = λ i path first handle w. objectField i first w }
+objectSink = objectSinkOver root
 
 -- ---- the three walks of a window
 
@@ -85,12 +92,12 @@ Leafy (exact d n) = Unit
 Leafy object = ⊥
 
 abbrev pub declaredOnly : (declared declaredNames : List ℕ) → Tables
-declaredOnly d n = record { rows = []; names = []; declared = d; declaredNames = n }
+declaredOnly d n = tables [] [] d n
 
 -- the exact walk has no schema and takes no trailer
 unfoldable pub sinkOf : Walk → Sink
-sinkOf (struct t lvl) = structSink (maxNesting - 1) t true root lvl
-sinkOf (exact d n) = structSink (maxNesting - 1) (declaredOnly d n) false root absent
+sinkOf (struct t lvl) = structSink levelsBelow t true root lvl
+sinkOf (exact d n) = structSink levelsBelow (declaredOnly d n) false root absent
 sinkOf object = objectSink
 
 -- Rule 9: a struct or exact walk of no bits counts nothing

@@ -59,9 +59,9 @@ pub data Due : Type 0 where
   closed : Number → (next : ℕ) → Due
   present : List Number → (handle start width : ℕ) → Due
 
-abbrev pub widthOf : Window → Number → (handle q : ℕ) → Reading → Due
-widthOf w e h q failed = broken (e ∷ [])
-widthOf w e h q (got width b) =
+abbrev pub withWidth : Window → Number → (handle q : ℕ) → Reading → Due
+withWidth w e h q failed = broken (e ∷ [])
+withWidth w e h q (got width b) =
     if ltb (w .size) (q + 8 * b + width) then broken (e ∷ numberAt w q b width ∷ []) else
     present (e ∷ numberAt w q b width ∷ []) h (q + 8 * b) width
 
@@ -69,7 +69,7 @@ abbrev pub fieldOf : Window → Lead → Due
 fieldOf w ends = cut
 fieldOf w fails = broken []
 fieldOf w (closes e q) = closed e q
-fieldOf w (opens e h q) = widthOf w e h q (reading w q)
+fieldOf w (opens e h q) = withWidth w e h q (reading w q)
 
 unfoldable pub fieldAt : Window → (p : ℕ) → Due
 fieldAt w p = fieldOf w (lead w p)

@@ -7,10 +7,10 @@ use Rattle.bitio.specs.Cursors.{good, window, atCursor, asking, opened}
 use Rattle.bitio.specs.Reads.{seen, asBit, readBits}
 use Rattle.bitio.specs.Numbers.{halvings, log2, serializedTop, serializedAt}
 use Rattle.bitio.specs.declared.Refusal.the-variants.{TooFew}
-use Rattle.geometry.specs.Parts.{after, axisAfter, asBits, partAt, threeAt, together, componentsAt}
-use Rattle.geometry.specs.Vectors.{checked, vectorOf, divisor, behind, quantizedAt}
+use Rattle.geometry.specs.Parts.{afterRead, axisAfter, asBits, partAt, threeAt, together, componentsAt}
+use Rattle.geometry.specs.Vectors.{checked, vectorOf, divisor, vectorBehind, quantizedAt}
 use Rattle.geometry.specs.Rotations.{rotationOf}
-use Rattle.geometry.specs.Movements.{afterBit, afterVector, afterRotation, afterSpin, afterNumber, afterFlags, afterPose, afterExtras, widthOf, scaleOf, flagsAt, poseAt, spinAt, numberAt, extrasAt, movementAt, inReader, readMovement}
+use Rattle.geometry.specs.Movements.{afterBit, afterVector, afterRotation, afterSpin, afterNumber, afterFlags, afterPose, afterExtras, widthOf, scaleOf, flagsAt, poseAt, spinAt, flaggedAt, extrasAt, movementAt, inReader, readMovement}
 use Rattle.geometry.specs.Cases.{bytes, moved}
 use Rattle.geometry.specs.declared.MovementRead.the-variants.{Value, Refused}
 use Rattle.geometry.specs.declared.Refusal.the-variants.{Unread}
@@ -21,5 +21,5 @@ use Rattle.geometry.specs.declared.VectorQuantization.the-variants.{Roun
 pub case-14 :
     (readMovement bytes 27 ByteComponents RoundWholeNumber ≡ Value moved 27)
     × (readMovement bytes 26 ByteComponents RoundWholeNumber ≡ Refused (Unread (TooFew 24 26 3)))
-unfolding num field twos good window atCursor asking opened seen asBit readBits halvings log2 serializedTop serializedAt after axisAfter asBits partAt threeAt together componentsAt checked vectorOf divisor behind quantizedAt rotationOf afterBit afterVector afterRotation afterSpin afterNumber afterFlags afterPose afterExtras widthOf scaleOf flagsAt poseAt spinAt numberAt extrasAt movementAt inReader ofInt round div
+unfolding num field twos good window atCursor asking opened seen asBit readBits halvings log2 serializedTop serializedAt afterRead axisAfter asBits partAt threeAt together componentsAt checked vectorOf divisor vectorBehind quantizedAt rotationOf afterBit afterVector afterRotation afterSpin afterNumber afterFlags afterPose afterExtras widthOf scaleOf flagsAt poseAt spinAt flaggedAt extrasAt movementAt inReader ofInt round div
 case-14 = (refl, refl)

@@ -1,4 +1,5 @@
 pub mod PartLaws
+pub mod RoomLaws
 pub mod VectorLaws
 pub mod RotationLaws
 pub mod MovementLaws

@@ -1,9 +1,13 @@
 -- The laws of movements: what each stage gives, by how far its reads came.
-use Prim.Native.Nat.{ℕ, _<_}
-use mathlib.Core.Path.{_≡_, sym, ap, _∙_}
+use Prim.Native.Nat.{ℕ, _+_, _/_, _%_, _^_, _≤_, _<_}
+use mathlib.Core.Path.{_≡_, refl, sym, ap, _∙_}
 use mathlib.Core.Bool.{Bool, true, false}
 use mathlib.Core.List.{List}
 use native.Mathlib.Omega.{arith}
+use lib.Dec.{eqb}
+use Rattle.bits.specs.Bits.{num, field}
+use Rattle.bits.proofs.FieldLaws.{field-low, inside}
+use Rattle.bitio.specs.Cursors.{good}
 use Rattle.bitio.specs.Reads.{readBit}
 use Rattle.bitio.specs.Numbers.{readIntPacked}
 use Rattle.bitio.specs.declared.Cursor.{Cursor}
@@ -15,8 +19,9 @@ use Rattle.bitio.specs.declared.PackedRead.the-variants as P
 use Rattle.geometry.specs.Parts.{at}
 use Rattle.geometry.specs.Vectors.{quantizedAt}
 use Rattle.geometry.specs.Rotations.{rotationAt}
-use Rattle.geometry.specs.Movements.{afterBit, afterVector, afterRotation, afterPacked, afterSpin, afterNumber, afterFlags, afterPose, afterExtras, widthOf, scaleOf, velocityScale, flags, flagsAt, pose, poseAt, spinAt, numberAt, extras, extrasAt, movement, movementAt}
+use Rattle.geometry.specs.Movements.{afterBit, afterVector, afterRotation, afterPacked, afterSpin, afterNumber, afterFlags, afterPose, afterExtras, widthOf, scaleOf, velocityScale, flags, flagsAt, pose, poseAt, spinAt, flaggedAt, extras, extrasAt, movement, movementAt}
 use Rattle.geometry.proofs.PartLaws.{come}
+use Rattle.geometry.proofs.RoomLaws.{bit-there}
 use Rattle.geometry.specs.declared.Vector.{Vector}
 use Rattle.geometry.specs.declared.Rotation.{Rotation}
 use Rattle.geometry.specs.declared.Spin.{Spin}
@@ -72,16 +77,16 @@ module _ (s : List ℕ) (b : Bool) (c : Cursor) where
   unfolding spinAt afterVector
   spin-refused h e g = let k = sym e ∙ g in rw (h, k)
 
-  pub number-absent : b ≡ false → N.Value number.Absent (c .pos) ≡ numberAt s b c
-  unfolding numberAt
+  pub number-absent : b ≡ false → N.Value number.Absent (c .pos) ≡ flaggedAt s b c
+  unfolding flaggedAt
   number-absent h = rw h
 
-  pub number-present : {k : PackedRead} {n p : ℕ} → b ≡ true → k ≡ readIntPacked s c → k ≡ P.Value n p → N.Value (number.Present n) p ≡ numberAt s b c
-  unfolding numberAt afterPacked
+  pub number-present : {k : PackedRead} {n p : ℕ} → b ≡ true → k ≡ readIntPacked s c → k ≡ P.Value n p → N.Value (number.Present n) p ≡ flaggedAt s b c
+  unfolding flaggedAt afterPacked
   number-present h e g = let k = sym e ∙ g in rw (h, k)
 
-  pub number-refused : {k : PackedRead} {r : bitio.Refusal} → b ≡ true → k ≡ readIntPacked s c → k ≡ P.Refused r → N.Refused (Unread r) ≡ numberAt s b c
-  unfolding numberAt afterPacked
+  pub number-refused : {k : PackedRead} {r : bitio.Refusal} → b ≡ true → k ≡ readIntPacked s c → k ≡ P.Refused r → N.Refused (Unread r) ≡ flaggedAt s b c
+  unfolding flaggedAt afterPacked
   number-refused h e g = let k = sym e ∙ g in rw (h, k)
 
 -- ---- the four flags
@@ -109,6 +114,21 @@ module _ (s : List ℕ) (c : Cursor) where
           pub flags-read : {x₄ : Bool} {p₄ : ℕ} → b₄ ≡ B1.Value x₄ p₄ → F.Value (flags x₁ x₂ x₃ x₄) p₄ ≡ flagsAt s c
           unfolding flagsAt afterBit
           flags-read g₄ = let h₁ = sym e₁ ∙ g₁ in let h₂ = come (readBit s) m₁ e₂ g₂ in let h₃ = come (readBit s) m₂ e₃ g₃ in let h₄ = come (readBit s) m₃ e₄ g₄ in rw (h₁, h₂, h₃, h₄)
+
+  -- four bits that are there, in one field
+  pub flags-there : {a four q : ℕ} → good s c ≡ true → c .pos + 4 ≤ c .len → a ≡ c .start + c .pos → q ≡ c .pos + 4 → four ≡ field (num s) a 4
+      → F.Value (flags (eqb (four % 2) 1) (eqb (four / 2 % 2) 1) (eqb (four / 4 % 2) 1) (eqb (four / 8 % 2) 1)) q ≡ flagsAt s c
+  flags-there {a} {four} {q} g h ea eq e =
+      let p = c .pos in
+      let f₁ : four % 2 ≡ field (num s) a 1 = ap (λ (x : ℕ). x % 2 ^ 1) e ∙ field-low (num s) a 1 4 (omega arith) in
+      let f₂ : four / 2 % 2 ≡ field (num s) (a + 1) 1 = inside (num s) a 4 1 1 (a + 1) four refl (omega arith) e in
+      let f₃ : four / 4 % 2 ≡ field (num s) (a + 2) 1 = inside (num s) a 4 2 1 (a + 2) four refl (omega arith) e in
+      let f₄ : four / 8 % 2 ≡ field (num s) (a + 3) 1 = inside (num s) a 4 3 1 (a + 3) four refl (omega arith) e in
+      flags-read
+      (bit-there s c g p a (omega arith) ea refl f₁) refl refl
+      (bit-there s c g (p + 1) (a + 1) (omega arith) (omega arith) refl f₂) refl refl
+      (bit-there s c g (p + 1 + 1) (a + 2) (omega arith) (omega arith) refl f₃) refl refl
+      (bit-there s c g (p + 1 + 1 + 1) (a + 3) (omega arith) (omega arith) (omega arith) f₄) refl
 
 -- ---- location, rotation and linear velocity
 module _ (s : List ℕ) (rotation : RotatorQuantization) (location : VectorQuantization) (c : Cursor) where
@@ -138,19 +158,19 @@ module _ (s : List ℕ) (physics frame handle : Bool) (c : Cursor) where
     unfolding extrasAt afterSpin afterNumber
     extras-first-refused g₁ = let h₁ = sym e₁ ∙ g₁ in rw (h₁)
 
-    module _ {b₂ : NumberRead} {c₁ : Cursor} {x₁ : Spin} {p₁ : ℕ} (g₁ : b₁ ≡ S.Value x₁ p₁) (m₁ : c₁ ≡ at c p₁) (e₂ : b₂ ≡ numberAt s frame c₁) where
+    module _ {b₂ : NumberRead} {c₁ : Cursor} {x₁ : Spin} {p₁ : ℕ} (g₁ : b₁ ≡ S.Value x₁ p₁) (m₁ : c₁ ≡ at c p₁) (e₂ : b₂ ≡ flaggedAt s frame c₁) where
       pub extras-second-refused : {r : Refusal} → b₂ ≡ N.Refused r → X.Refused r ≡ extrasAt s physics frame handle c
       unfolding extrasAt afterSpin afterNumber
-      extras-second-refused g₂ = let h₁ = sym e₁ ∙ g₁ in let h₂ = come (numberAt s frame) m₁ e₂ g₂ in rw (h₁, h₂)
+      extras-second-refused g₂ = let h₁ = sym e₁ ∙ g₁ in let h₂ = come (flaggedAt s frame) m₁ e₂ g₂ in rw (h₁, h₂)
 
-      module _ {b₃ : NumberRead} {c₂ : Cursor} {x₂ : Number} {p₂ : ℕ} (g₂ : b₂ ≡ N.Value x₂ p₂) (m₂ : c₂ ≡ at c p₂) (e₃ : b₃ ≡ numberAt s handle c₂) where
+      module _ {b₃ : NumberRead} {c₂ : Cursor} {x₂ : Number} {p₂ : ℕ} (g₂ : b₂ ≡ N.Value x₂ p₂) (m₂ : c₂ ≡ at c p₂) (e₃ : b₃ ≡ flaggedAt s handle c₂) where
         pub extras-third-refused : {r : Refusal} → b₃ ≡ N.Refused r → X.Refused r ≡ extrasAt s physics frame handle c
         unfolding extrasAt afterSpin afterNumber
-        extras-third-refused g₃ = let h₁ = sym e₁ ∙ g₁ in let h₂ = come (numberAt s frame) m₁ e₂ g₂ in let h₃ = come (numberAt s handle) m₂ e₃ g₃ in rw (h₁, h₂, h₃)
+        extras-third-refused g₃ = let h₁ = sym e₁ ∙ g₁ in let h₂ = come (flaggedAt s frame) m₁ e₂ g₂ in let h₃ = come (flaggedAt s handle) m₂ e₃ g₃ in rw (h₁, h₂, h₃)
 
         pub extras-read : {x₃ : Number} {p₃ : ℕ} → b₃ ≡ N.Value x₃ p₃ → X.Value (extras x₁ x₂ x₃) p₃ ≡ extrasAt s physics frame handle c
         unfolding extrasAt afterSpin afterNumber
-        extras-read g₃ = let h₁ = sym e₁ ∙ g₁ in let h₂ = come (numberAt s frame) m₁ e₂ g₂ in let h₃ = come (numberAt s handle) m₂ e₃ g₃ in rw (h₁, h₂, h₃)
+        extras-read g₃ = let h₁ = sym e₁ ∙ g₁ in let h₂ = come (flaggedAt s frame) m₁ e₂ g₂ in let h₃ = come (flaggedAt s handle) m₂ e₃ g₃ in rw (h₁, h₂, h₃)
 
 -- ---- the record
 module _ (s : List ℕ) (rotation : RotatorQuantization) (location : VectorQuantization) (c : Cursor) where

@@ -18,10 +18,10 @@ use Rattle.bitio.specs.declared.Refusal.the-variants.{TooLong, Past}
 use Rattle.bitio.specs.declared.Opened.the-variants as O
 use Rattle.bitio.specs.declared.BitRead.{BitRead}
 use Rattle.bitio.specs.declared.BitRead.the-variants as B1
-use Rattle.geometry.specs.Parts.{at, after, axisAfter, asBits, partAt, threeAt, together, componentsAt}
-use Rattle.geometry.specs.Vectors.{vectorOf, divisor, behind, headerMaximum, quantizedAt, readVector, normalMaximum, normalOf, readNormal}
+use Rattle.geometry.specs.Parts.{at, afterRead, axisAfter, asBits, partAt, threeAt, together, componentsAt}
+use Rattle.geometry.specs.Vectors.{vectorOf, divisor, vectorBehind, headerMaximum, quantizedAt, readVector, normalMaximum, normalOf, readNormal}
 use Rattle.geometry.specs.Rotations.{rotationOf, rotationAt, readRotation}
-use Rattle.geometry.specs.Movements.{afterBit, afterVector, afterRotation, afterPacked, afterSpin, afterNumber, afterFlags, afterPose, afterExtras, widthOf, scaleOf, velocityScale, flags, flagsAt, pose, poseAt, spinAt, numberAt, extras, extrasAt, movement, movementAt, inReader, readMovement}
+use Rattle.geometry.specs.Movements.{afterBit, afterVector, afterRotation, afterPacked, afterSpin, afterNumber, afterFlags, afterPose, afterExtras, widthOf, scaleOf, velocityScale, flags, flagsAt, pose, poseAt, spinAt, flaggedAt, extras, extrasAt, movement, movementAt, inReader, readMovement}
 use Rattle.geometry.specs.declared.Spin.the-variants as spin
 use Rattle.geometry.specs.declared.Number.the-variants as number
 use Rattle.geometry.specs.declared.Refusal.the-variants.{Unread, NoScale, NoSuchWidth}
@@ -66,17 +66,17 @@ module _ (s t : List ℕ) (c : Cursor) (l : length s ≡ length t) (w : window s
   three-same : (part : Part) (p : ℕ) → threeAt s part (at c p) ≡ threeAt t part (at c p)
   unfolding threeAt
   three-same part p = λ i.
-      after T.Refused (part-same part p i) (λ x p₁.
-      after T.Refused (part-same part p₁ i) (λ y p₂.
-      after T.Refused (part-same part p₂ i) (λ z p₃.
+      afterRead T.Refused (part-same part p i) (λ x p₁.
+      afterRead T.Refused (part-same part p₁ i) (λ y p₂.
+      afterRead T.Refused (part-same part p₂ i) (λ z p₃.
       T.Value x y z p₃)))
 
   components-same : (n p : ℕ) → componentsAt s n (at c p) ≡ componentsAt t n (at c p)
   unfolding componentsAt
   components-same n p = λ i. if leb (3 * n) widestRead then together n (bits p (3 * n) i) else three-same (Bits n) p i
 
-  behind-same : (scale n e p : ℕ) → behind s scale n e (at c p) ≡ behind t scale n e (at c p)
-  unfolding behind
+  behind-same : (scale n e p : ℕ) → vectorBehind s scale n e (at c p) ≡ vectorBehind t scale n e (at c p)
+  unfolding vectorBehind
   behind-same scale n e p = λ i.
       if eqb n 0 then
       (if eqb e 0 then vectorOf (ofBits binary32) (three-same (Bits 32) p i) else vectorOf (ofBits binary64) (three-same (Bits 64) p i)) else
@@ -85,7 +85,7 @@ module _ (s t : List ℕ) (c : Cursor) (l : length s ≡ length t) (w : window s
   vector-same : (scale p : ℕ) → quantizedAt s scale (at c p) ≡ quantizedAt t scale (at c p)
   unfolding quantizedAt
   vector-same scale p = λ i.
-      after (λ r. Vec.Refused (Unread r)) (asBits (outside-serialized s t (at c p) l (there p) headerMaximum i)) (λ h q.
+      afterRead (λ r. Vec.Refused (Unread r)) (asBits (outside-serialized s t (at c p) l (there p) headerMaximum i)) (λ h q.
       behind-same scale (h % 64) (h / 64) q i)
 
   rotation-same : (n p : ℕ) → rotationAt s n (at c p) ≡ rotationAt t n (at c p)
@@ -128,8 +128,8 @@ module _ (s t : List ℕ) (c : Cursor) (l : length s ≡ length t) (w : window s
   spin-same true p = λ i. afterVector S.Refused (vector-same velocityScale p i) (λ v q. S.Value (spin.Present v) q)
   spin-same false p = refl
 
-  number-same : (b : Bool) (p : ℕ) → numberAt s b (at c p) ≡ numberAt t b (at c p)
-  unfolding numberAt
+  number-same : (b : Bool) (p : ℕ) → flaggedAt s b (at c p) ≡ flaggedAt t b (at c p)
+  unfolding flaggedAt
   number-same true p = λ i. afterPacked N.Refused (outside-packed s t (at c p) l (there p) i) (λ n q. N.Value (number.Present n) q)
   number-same false p = refl
 

@@ -15,7 +15,7 @@ use Rattle.bitio.specs.Cursors.{good, window, badCursor, atCursor, asking, posi
 use Rattle.bitio.specs.Reads.{readBit, readBits, widestRead}
 use Rattle.bitio.specs.Numbers.{log2, serializedTop, serializedAt, readSerializedInt}
 use Rattle.bitio.proofs.CursorLaws.{at-bad, at-good}
-use Rattle.bitio.proofs.ReadLaws.{by-cases}
+use Rattle.bits.proofs.ChoiceLaws.{by-cases}
 use Rattle.bitio.proofs.NumberLaws.{log2-zeros}
 use Rattle.bitio.specs.declared.Cursor.{Cursor}
 use Rattle.bitio.specs.declared.Refusal.{Refusal}
@@ -28,7 +28,7 @@ use Rattle.bitio.specs.declared.BitsRead.{BitsRead}
 use Rattle.bitio.specs.declared.BitsRead.the-variants as B
 use Rattle.bitio.specs.declared.SerializedRead.{SerializedRead}
 use Rattle.bitio.specs.declared.SerializedRead.the-variants as Ser
-use Rattle.geometry.specs.Parts.{at, after, axisAfter, axisAt, asBits, partAt, threeAt, together, componentsAt, Below}
+use Rattle.geometry.specs.Parts.{at, afterRead, axisAfter, axisAt, asBits, partAt, threeAt, together, componentsAt, Below}
 use Rattle.geometry.specs.declared.parts.Part.{Part}
 use Rattle.geometry.specs.declared.parts.Part.the-variants.{Bits, Axis, Integer}
 use Rattle.geometry.specs.declared.parts.Three.{Three}
@@ -55,17 +55,17 @@ axis-refused s c w e = sym (ap (axisAfter s w c) e)
 -- ---- three parts: the first, the second or the third is refused, or none is
 module _ (s : List ℕ) (part : Part) (c : Cursor) where
   pub first-refused : {b : BitsRead} {r : Refusal} → b ≡ partAt s part c → b ≡ B.Refused r → T.Refused r ≡ threeAt s part c
-  unfolding threeAt after
+  unfolding threeAt afterRead
   first-refused e₁ g₁ = let h₁ = sym e₁ ∙ g₁ in rw h₁
 
   module _ {b₁ b₂ : BitsRead} {c₁ : Cursor} {x p : ℕ} (e₁ : b₁ ≡ partAt s part c) (g₁ : b₁ ≡ B.Value x p) (m₁ : c₁ ≡ at c p) (e₂ : b₂ ≡ partAt s part c₁) where
     pub second-refused : {r : Refusal} → b₂ ≡ B.Refused r → T.Refused r ≡ threeAt s part c
-    unfolding threeAt after
+    unfolding threeAt afterRead
     second-refused g₂ = let h₁ = sym e₁ ∙ g₁ in let h₂ = come (partAt s part) m₁ e₂ g₂ in rw (h₁, h₂)
 
     module _ {b₃ : BitsRead} {c₂ : Cursor} {y q : ℕ} (g₂ : b₂ ≡ B.Value y q) (m₂ : c₂ ≡ at c q) (e₃ : b₃ ≡ partAt s part c₂) where
       pub third-refused : {r : Refusal} → b₃ ≡ B.Refused r → T.Refused r ≡ threeAt s part c
-      unfolding threeAt after
+      unfolding threeAt afterRead
       third-refused g₃ =
           let h₁ = sym e₁ ∙ g₁ in
           let h₂ = come (partAt s part) m₁ e₂ g₂ in
@@ -73,7 +73,7 @@ module _ (s : List ℕ) (part : Part) (c : Cursor) where
           rw (h₁, h₂, h₃)
 
       pub three-read : {z r : ℕ} → b₃ ≡ B.Value z r → T.Value x y z r ≡ threeAt s part c
-      unfolding threeAt after
+      unfolding threeAt afterRead
       three-read g₃ =
           let h₁ = sym e₁ ∙ g₁ in
           let h₂ = come (partAt s part) m₁ e₂ g₂ in
@@ -145,20 +145,20 @@ module _ (s : List ℕ) (part : Part) (m : ℕ) (h : (d : Cursor) (x p : ℕ) �
   Small : BitsRead → Type 0
   Small b = (z p : ℕ) → b ≡ B.Value z p → z < m
 
-  third-below : (x y : ℕ) → x < m → y < m → (b : BitsRead) → Small b → Below m (after T.Refused b (λ z r. T.Value x y z r))
-  unfolding Below after Small
+  third-below : (x y : ℕ) → x < m → y < m → (b : BitsRead) → Small b → Below m (afterRead T.Refused b (λ z r. T.Value x y z r))
+  unfolding Below afterRead Small
   third-below x y hx hy (B.Value z r) k = (hx, hy, k z r refl)
   third-below x y hx hy (B.Refused r) k = tt
 
   second-below : (x : ℕ) → x < m → (b : BitsRead) → Small b
-      → Below m (after T.Refused b (λ y q. after T.Refused (partAt s part (at c q)) (λ z r. T.Value x y z r)))
-  unfolding Below after Small
+      → Below m (afterRead T.Refused b (λ y q. afterRead T.Refused (partAt s part (at c q)) (λ z r. T.Value x y z r)))
+  unfolding Below afterRead Small
   second-below x hx (B.Value y q) k = third-below x y hx (k y q refl) (partAt s part (at c q)) (h (at c q))
   second-below x hx (B.Refused r) k = tt
 
   first-below : (b : BitsRead) → Small b
-      → Below m (after T.Refused b (λ x p. after T.Refused (partAt s part (at c p)) (λ y q. after T.Refused (partAt s part (at c q)) (λ z r. T.Value x y z r))))
-  unfolding Below after Small
+      → Below m (afterRead T.Refused b (λ x p. afterRead T.Refused (partAt s part (at c p)) (λ y q. afterRead T.Refused (partAt s part (at c q)) (λ z r. T.Value x y z r))))
+  unfolding Below afterRead Small
   first-below (B.Value x p) k = second-below x (k x p refl) (partAt s part (at c p)) (h (at c p))
   first-below (B.Refused r) k = tt
 
@@ -210,7 +210,7 @@ module _ (s : List ℕ) (w : ℕ) (c : Cursor) {t : Three} where
   three-reads h e = e ∙ sym (simp (lt-leb _ _ h))
 
 -- three numbers of one read, as the code takes them apart: 2 ^ w by a shift
-size-is : (w : ℕ) → w ≤ 21 → (1 * 2 ^ w) % 18446744073709551616 ≡ 2 ^ w
+pub size-is : (w : ℕ) → w ≤ 21 → (1 * 2 ^ w) % 18446744073709551616 ≡ 2 ^ w
 size-is w h = shl-exact 1 w 64 (omega arith) (omega arith) ∙ one-mul (2 ^ w)
 
 pub size-pos : (w : ℕ) → w ≤ 21 → 0 < (1 * 2 ^ w) % 18446744073709551616

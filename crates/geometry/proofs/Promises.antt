@@ -17,8 +17,8 @@ use Rattle.bitio.specs.Numbers.{readSerializedInt}
 use Rattle.bitio.specs.declared.Cursor.{Cursor}
 use Rattle.bitio.specs.declared.BitsRead.{BitsRead}
 use Rattle.bitio.specs.declared.BitsRead.the-variants as B
-use Rattle.geometry.specs.Parts.{at, after, asBits, threeAt, componentsAt, Below}
-use Rattle.geometry.specs.Vectors.{vector, checked, vectorOf, divisor, behind, headerMaximum, quantizedAt, readVector}
+use Rattle.geometry.specs.Parts.{at, afterRead, asBits, threeAt, componentsAt, Below}
+use Rattle.geometry.specs.Vectors.{vector, checked, vectorOf, divisor, vectorBehind, headerMaximum, quantizedAt, readVector}
 use Rattle.geometry.specs.Rotations.{rotation, rotationOf, rotationAt, readRotation}
 use Rattle.geometry.proofs.PartLaws.{below-axes}
 use Rattle.geometry.specs.declared.Vector.{Vector}
@@ -104,8 +104,8 @@ module _ (v : Vector) (p : ℕ) where
   three-finite f (T.Refused r) e = let z : _≡_ {A = ℕ} 0 1 = cc in absurd (omega arith)
 
   module _ (s : List ℕ) (scale : ℕ) where
-    behind-finite : (w e : ℕ) (c : Cursor) → behind s scale w e c ≡ Vec.Value v p → FiniteVector v
-    unfolding behind
+    behind-finite : (w e : ℕ) (c : Cursor) → vectorBehind s scale w e c ≡ Vec.Value v p → FiniteVector v
+    unfolding vectorBehind
     behind-finite w e c g = go (eqb w 0) (eqb e 0) g
       where
         go : (a b : Bool)
@@ -117,8 +117,8 @@ module _ (v : Vector) (p : ℕ) where
         go true false g = three-finite _ _ g
         go false b g = three-finite _ _ g
 
-    header-finite : (c : Cursor) (b : BitsRead) → after (λ r. Vec.Refused (Unread r)) b (λ h q. behind s scale (h % 64) (h / 64) (at c q)) ≡ Vec.Value v p → FiniteVector v
-    unfolding after
+    header-finite : (c : Cursor) (b : BitsRead) → afterRead (λ r. Vec.Refused (Unread r)) b (λ h q. vectorBehind s scale (h % 64) (h / 64) (at c q)) ≡ Vec.Value v p → FiniteVector v
+    unfolding afterRead
     header-finite c (B.Value h q) g = behind-finite (h % 64) (h / 64) (at c q) g
     header-finite c (B.Refused r) g = let z : _≡_ {A = ℕ} 0 1 = cc in absurd (omega arith)
 
@@ -129,7 +129,7 @@ module _ (v : Vector) (p : ℕ) where
       where
         go : (a b : Bool)
             → (if a then
-            (if b then Vec.Refused NoScale else after (λ r. Vec.Refused (Unread r)) (asBits (readSerializedInt s c headerMaximum)) (λ h q. behind s scale (h % 64) (h / 64) (at c q))) else
+            (if b then Vec.Refused NoScale else afterRead (λ r. Vec.Refused (Unread r)) (asBits (readSerializedInt s c headerMaximum)) (λ h q. vectorBehind s scale (h % 64) (h / 64) (at c q))) else
             Vec.Refused (Unread (badCursor s c))) ≡ Vec.Value v p
             → FiniteVector v
         go true true g = let z : _≡_ {A = ℕ} 0 1 = cc in absurd (omega arith)

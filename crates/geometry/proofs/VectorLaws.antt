@@ -13,13 +13,15 @@ use Rattle.bits.specs.TwosComplement.{twos}
 use Rattle.bits.proofs.TwosLaws.{twos-bound}
 use Rattle.floats.specs.Numbers.{quotient, normalAxis}
 use Rattle.floats.proofs.Finite.{quotient-finite}
+use Rattle.bitio.specs.Reads.{readBits}
 use Rattle.bitio.specs.Numbers.{readSerializedInt}
 use Rattle.bitio.specs.declared.Cursor.{Cursor}
 use Rattle.bitio.specs.declared.Refusal as bitio
-use Rattle.bitio.specs.declared.SerializedRead.the-variants as Ser
-use Rattle.geometry.specs.Parts.{at, after, asBits, threeAt, componentsAt, Below}
-use Rattle.geometry.specs.Vectors.{vector, checked, vectorOf, divisor, behind, headerMaximum, quantizedAt, normalOf}
+use Rattle.bitio.specs.declared.BitsRead.the-variants as B
+use Rattle.geometry.specs.Parts.{at, afterRead, asBits, threeAt, componentsAt, Below}
+use Rattle.geometry.specs.Vectors.{vector, checked, vectorOf, divisor, vectorBehind, headerMaximum, quantizedAt, normalOf}
 use Rattle.geometry.proofs.PartLaws.{below-at}
+use Rattle.geometry.proofs.RoomLaws.{power-maximum}
 use Rattle.geometry.specs.declared.VectorRead.{VectorRead}
 use Rattle.geometry.specs.declared.VectorRead.the-variants as Vec
 use Rattle.geometry.specs.declared.Refusal.the-variants.{Unread, NoScale, NotFinite}
@@ -87,32 +89,35 @@ divisor-pos e d h g = rw g (go (eqb e 0))
 
 -- ---- behind a header
 module _ (s : List ℕ) (scale w e : ℕ) (c : Cursor) {t : Three} {v : VectorRead} where
-  pub singles-behind : w ≡ 0 → e ≡ 0 → t ≡ threeAt s (Bits 32) c → v ≡ vectorOf (ofBits binary32) t → v ≡ behind s scale w e c
-  unfolding behind
+  pub singles-behind : w ≡ 0 → e ≡ 0 → t ≡ threeAt s (Bits 32) c → v ≡ vectorOf (ofBits binary32) t → v ≡ vectorBehind s scale w e c
+  unfolding vectorBehind
   singles-behind hw he et ev = ev ∙ ap (vectorOf (ofBits binary32)) et ∙ sym (simp (eq-eqb w 0 hw, eq-eqb e 0 he))
 
-  pub doubles-behind : w ≡ 0 → (e ≡ 0 → ⊥) → t ≡ threeAt s (Bits 64) c → v ≡ vectorOf (ofBits binary64) t → v ≡ behind s scale w e c
-  unfolding behind
+  pub doubles-behind : w ≡ 0 → (e ≡ 0 → ⊥) → t ≡ threeAt s (Bits 64) c → v ≡ vectorOf (ofBits binary64) t → v ≡ vectorBehind s scale w e c
+  unfolding vectorBehind
   doubles-behind hw he et ev = ev ∙ ap (vectorOf (ofBits binary64)) et ∙ sym (simp (eq-eqb w 0 hw, ne-eqb e 0 he))
 
   pub integers-behind : {d : ℕ} → (w ≡ 0 → ⊥) → d ≡ divisor e scale → t ≡ componentsAt s w c → v ≡ vectorOf (λ x. quotient (twos w x) d) t
-      → v ≡ behind s scale w e c
-  unfolding behind
+      → v ≡ vectorBehind s scale w e c
+  unfolding vectorBehind
   integers-behind hw ed et ev =
       ev ∙ ap (λ (k : ℕ). vectorOf (λ x. quotient (twos w x) k) t) ed
       ∙ ap (vectorOf (λ x. quotient (twos w x) (divisor e scale))) et
       ∙ sym (simp (ne-eqb w 0 hw))
 
 -- ---- a header, and what is behind it
+header-bits : (s : List ℕ) (c : Cursor) → asBits (readSerializedInt s c headerMaximum) ≡ readBits s c 7
+header-bits s c = power-maximum s c 7 (omega arith)
+
 module _ (s : List ℕ) (scale : ℕ) (c : Cursor) where
-  pub header-refused : {r : bitio.Refusal} → readSerializedInt s c headerMaximum ≡ Ser.Refused r → Vec.Refused (Unread r) ≡ quantizedAt s scale c
-  unfolding quantizedAt after asBits
-  header-refused g = rw g
+  pub header-refused : {r : bitio.Refusal} → readBits s c 7 ≡ B.Refused r → Vec.Refused (Unread r) ≡ quantizedAt s scale c
+  unfolding quantizedAt afterRead
+  header-refused g = let e = header-bits s c ∙ g in rw e
 
   pub header-read : {h p : ℕ} {d : Cursor} {v : VectorRead}
-      → readSerializedInt s c headerMaximum ≡ Ser.Value h p → d ≡ at c p → v ≡ behind s scale (h % 64) (h / 64) d → v ≡ quantizedAt s scale c
-  unfolding quantizedAt after asBits
-  header-read {h} g m ev = ev ∙ ap (behind s scale (h % 64) (h / 64)) m ∙ sym (rw g)
+      → readBits s c 7 ≡ B.Value h p → d ≡ at c p → v ≡ vectorBehind s scale (h % 64) (h / 64) d → v ≡ quantizedAt s scale c
+  unfolding quantizedAt afterRead
+  header-read {h} g m ev = let e = header-bits s c ∙ g in ev ∙ ap (vectorBehind s scale (h % 64) (h / 64)) m ∙ sym (rw e)
 
 -- ---- a normal
 pub normal-read : {t : Three} {a b e p : ℕ} {x y z : Float} {v : VectorRead}

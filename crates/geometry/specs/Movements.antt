@@ -128,9 +128,9 @@ unfoldable pub spinAt : List ℕ → Bool → Cursor → SpinRead
 spinAt s true c = afterVector S.Refused (quantizedAt s velocityScale c) (λ v p. S.Value (spin.Present v) p)
 spinAt s false c = S.Value spin.Absent (c .pos)
 
-unfoldable pub numberAt : List ℕ → Bool → Cursor → NumberRead
-numberAt s true c = afterPacked N.Refused (readIntPacked s c) (λ n p. N.Value (number.Present n) p)
-numberAt s false c = N.Value number.Absent (c .pos)
+unfoldable pub flaggedAt : List ℕ → Bool → Cursor → NumberRead
+flaggedAt s true c = afterPacked N.Refused (readIntPacked s c) (λ n p. N.Value (number.Present n) p)
+flaggedAt s false c = N.Value number.Absent (c .pos)
 
 abbrev pub extras : (angular : Spin) (frame handle : Number) → Extras
 extras a f h = record { angular = a; frame = f; handle = h }
@@ -138,8 +138,8 @@ extras a f h = record { angular = a; frame = f; handle = h }
 unfoldable pub extrasAt : List ℕ → (physics frame handle : Bool) → Cursor → ExtrasRead
 extrasAt s physics frame handle c =
     afterSpin X.Refused (spinAt s physics c) (λ a p₁.
-    afterNumber X.Refused (numberAt s frame (at c p₁)) (λ f p₂.
-    afterNumber X.Refused (numberAt s handle (at c p₂)) (λ h p₃.
+    afterNumber X.Refused (flaggedAt s frame (at c p₁)) (λ f p₂.
+    afterNumber X.Refused (flaggedAt s handle (at c p₂)) (λ h p₃.
     X.Value (extras a f h) p₃)))
 
 -- ---- the record

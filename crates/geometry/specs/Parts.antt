@@ -25,9 +25,9 @@ abbrev pub at : Cursor → (p : ℕ) → Cursor
 at c p = record { start = c .start; pos = p; len = c .len }
 
 -- what comes after a number that was read, up to bit p; a refusal passes
-unfoldable pub after : {A : Type 0} → (refused : bitio.Refusal → A) → BitsRead → (next : (x p : ℕ) → A) → A
-after refused (B.Value x p) next = next x p
-after refused (B.Refused r) next = refused r
+unfoldable pub afterRead : {A : Type 0} → (refused : bitio.Refusal → A) → BitsRead → (next : (x p : ℕ) → A) → A
+afterRead refused (B.Value x p) next = next x p
+afterRead refused (B.Refused r) next = refused r
 
 -- a rotation's axis behind its bit: k of w bits if the bit is set, else 0
 unfoldable pub axisAfter : List ℕ → (w : ℕ) → Cursor → BitRead → BitsRead
@@ -52,9 +52,9 @@ partAt s (Integer m) c = asBits (readSerializedInt s c m)
 -- three of them
 unfoldable pub threeAt : List ℕ → Part → Cursor → Three
 threeAt s part c =
-    after T.Refused (partAt s part c) (λ x p.
-    after T.Refused (partAt s part (at c p)) (λ y q.
-    after T.Refused (partAt s part (at c q)) (λ z r.
+    afterRead T.Refused (partAt s part c) (λ x p.
+    afterRead T.Refused (partAt s part (at c p)) (λ y q.
+    afterRead T.Refused (partAt s part (at c q)) (λ z r.
     T.Value x y z r)))
 
 -- three numbers of w bits that were read as one, the first lowest

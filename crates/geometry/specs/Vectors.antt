@@ -11,7 +11,7 @@ use Rattle.floats.specs.Numbers.{quotient, normalAxis}
 use Rattle.bitio.specs.Cursors.{atCursor}
 use Rattle.bitio.specs.Numbers.{readSerializedInt}
 use Rattle.bitio.specs.declared.Cursor.{Cursor}
-use Rattle.geometry.specs.Parts.{at, after, asBits, threeAt, componentsAt}
+use Rattle.geometry.specs.Parts.{at, afterRead, asBits, threeAt, componentsAt}
 use Rattle.geometry.specs.declared.Vector.{Vector}
 use Rattle.geometry.specs.declared.VectorRead.{VectorRead}
 use Rattle.geometry.specs.declared.VectorRead.the-variants as Vec
@@ -37,8 +37,8 @@ unfoldable pub divisor : (e scale : ℕ) → ℕ
 divisor e scale = if eqb e 0 then 1 else scale
 
 -- the components behind a header of width w and rest e: floats of 32 or 64 bits where w is 0, else integers of w bits
-unfoldable pub behind : List ℕ → (scale w e : ℕ) → Cursor → VectorRead
-behind s scale w e c =
+unfoldable pub vectorBehind : List ℕ → (scale w e : ℕ) → Cursor → VectorRead
+vectorBehind s scale w e c =
     if eqb w 0 then
     (if eqb e 0 then vectorOf (ofBits binary32) (threeAt s (Bits 32) c) else vectorOf (ofBits binary64) (threeAt s (Bits 64) c)) else
     vectorOf (λ x. quotient (twos w x) (divisor e scale)) (componentsAt s w c)
@@ -50,8 +50,8 @@ headerMaximum = 128
 -- a quantized vector at a cursor: the low six bits of its header are the width w, the rest is e
 unfoldable pub quantizedAt : List ℕ → (scale : ℕ) → Cursor → VectorRead
 quantizedAt s scale c =
-    after (λ r. Vec.Refused (Unread r)) (asBits (readSerializedInt s c headerMaximum)) (λ h p.
-    behind s scale (h % 64) (h / 64) (at c p))
+    afterRead (λ r. Vec.Refused (Unread r)) (asBits (readSerializedInt s c headerMaximum)) (λ h p.
+    vectorBehind s scale (h % 64) (h / 64) (at c p))
 
 -- `read_vector_net_quantize`: 14 for a bad cursor, then 11, before any read
 abbrev pub readVector : List ℕ → Cursor → (scale : ℕ) → VectorRead

@@ -1,10 +1,10 @@
 // Vectors, normals, rotations and movement records (vrf-bitio/src/lib.rs, decode/geometry.rs, types.rs).
 //
-//     vector   = header (a serialized integer with maximum 128: six bits of width w, then e) three components
-//                w > 0: w bits each, two's complement, over the scale if e = 1; 3w <= 64 are one read, else three
-//                w = 0: three binary32 (e = 0) or binary64 (e = 1) values
-//     normal   = three serialized integers k with maximum 65,536: (k - 32768) / 32767
-//     rotation = per axis a bit, and where it is set k of 8 or 16 bits: k * 360 / 2^width degrees, else 0
+//     vector   = header of 7 bits (six of width w, then e) and three components
+//                w > 0: signed, w bits each, over the scale where e is set; one read where 64 bits hold all three
+//                w = 0: floats, of 64 bits where e is set, else of 32
+//     normal   = three times 16 bits k, as (k - 32768) / 32767
+//     rotation = for each axis a bit, and behind a set one k of 8 or 16 bits, as k turns of 360 / 2^width degrees
 //     movement = four bits (sleep, physics, frame, handle), vector, rotation, vector,
 //                [physics] vector, [frame] packed number, [handle] packed number
 //
@@ -22,7 +22,6 @@ ghost use Rattle.geometry.specs.Movements.{readMovement};
 use bitio::Cursor;
 use bitio::Measured;
 use bitio::Opened;
-use parts::Part;
 
 // ---- values
 
@@ -128,7 +127,7 @@ pub fn read_vector_net_quantize(bytes: &[u8], c: Cursor, scale: u32) -> VectorRe
 pub fn read_fixed_vector_normal(bytes: &[u8], c: Cursor) -> VectorRead
     ensures { λ r. ⌜ r ≡ readNormal (now (bytes .entry)) c ⌝ }
 {
-    let axes = parts::read_three(bytes, c, Part::Integer(65536));
+    let axes = parts::three_shorts(bytes, c);
     vectors::normal_of(axes)
 }
 

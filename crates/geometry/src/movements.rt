@@ -2,7 +2,7 @@
 ghost use mathlib.Core.Path.{_≡_};
 ghost use Rattle.geometry.specs.Rotations.{rotationAt};
 ghost use Rattle.geometry.specs.declared.MovementRead.the-variants as Read;
-ghost use Rattle.geometry.specs.Movements.{widthOf, scaleOf, flagsAt, poseAt, spinAt, numberAt, extrasAt, movement, movementAt};
+ghost use Rattle.geometry.specs.Movements.{widthOf, scaleOf, flagsAt, poseAt, spinAt, flaggedAt, extrasAt, movement, movementAt};
 use crate::Movement;
 use crate::MovementRead;
 use crate::Number;
@@ -20,6 +20,7 @@ use crate::vectors;
 use bitio::BitRead;
 use bitio::Cursor;
 use bitio::PackedRead;
+use bitio::Skipped;
 
 // The four bits that a record starts with.
 pub struct Flags {
@@ -68,7 +69,8 @@ pub enum ExtrasRead {
     Refused(Refusal),
 }
 
-fn read_flags(bytes: &[u8], c: Cursor) -> FlagsRead
+// One after another: where there are fewer than four, this says which is refused.
+fn single_flags(bytes: &[u8], c: Cursor) -> FlagsRead
     ensures { λ r. ⌜ r ≡ flagsAt (now (bytes .entry)) c ⌝ }
 {
     let first = bitio::read_bit(bytes, c);
@@ -104,6 +106,30 @@ fn read_flags(bytes: &[u8], c: Cursor) -> FlagsRead
             }
         }
         BitRead::Refused(r) => FlagsRead::Refused(Refusal::Unread(r)),
+    }
+}
+
+fn read_flags(bytes: &[u8], c: Cursor) -> FlagsRead
+    ensures { λ r. ⌜ r ≡ flagsAt (now (bytes .entry)) c ⌝ }
+{
+    let room = bitio::skip_bits(bytes, c, 4);
+    match room {
+        Skipped::Done(next) => {
+            let first = c.start + c.pos;
+            let four = bits::field::field_at(bytes, first, 4);
+            let sleep = four % 2 == 1;
+            let physics = four / 2 % 2 == 1;
+            let frame = four / 4 % 2 == 1;
+            let handle = four / 8 % 2 == 1;
+            let f = Flags {
+                sleep,
+                physics,
+                frame,
+                handle,
+            };
+            FlagsRead::Value(f, next)
+        }
+        Skipped::Refused(_) => single_flags(bytes, c),
     }
 }
 
@@ -183,7 +209,7 @@ fn read_spin(bytes: &[u8], c: Cursor, physics: bool) -> SpinRead
 
 // A packed number, if there is one.
 fn read_number(bytes: &[u8], c: Cursor, there: bool) -> NumberRead
-    ensures { λ r. ⌜ r ≡ numberAt (now (bytes .entry)) there c ⌝ }
+    ensures { λ r. ⌜ r ≡ flaggedAt (now (bytes .entry)) there c ⌝ }
 {
     if !there {
         let pos = c.pos;

@@ -1,13 +1,18 @@
 // Three parts of one kind, one after another: a vector's components, a normal's axes, a rotation's angles.
 ghost use mathlib.Core.Path.{_≡_};
 ghost use Rattle.geometry.specs.Parts.{at, asBits, axisAt, partAt, threeAt, together, componentsAt};
-ghost use Prim.Native.Nat.{_*_, _≤_};
+ghost use Prim.Native.Nat.{_+_, _*_, _/_, _%_, _^_, _≤_, _<_, min};
+ghost use Rattle.geometry.specs.declared.parts.Part.the-variants.{Bits, Axis, Integer};
+ghost use Rattle.bitio.specs.declared.BitsRead.the-variants as BitsRead;
+ghost use Rattle.bits.specs.Bits.{field};
 ghost use Rattle.bitio.specs.Reads.{readBits};
 ghost use Rattle.bitio.specs.Numbers.{readSerializedInt};
 use bitio::BitRead;
 use bitio::BitsRead;
 use bitio::Cursor;
+use bitio::Measured;
 use bitio::SerializedRead;
+use bitio::Skipped;
 
 pub enum Part {
     // So many bits.
@@ -96,22 +101,173 @@ pub fn read_three(bytes: &[u8], c: Cursor, p: Part) -> Three
     }
 }
 
+// Three numbers of n bits each. Their room is tested once; where it is short, the single reads find which part is refused.
+pub fn three_bits(bytes: &[u8], c: Cursor, n: u64) -> Three
+    requires { ⌜ n ≤ 64 ⌝ }
+    ensures { λ r. ⌜ r ≡ threeAt (now (bytes .entry)) (Bits n) c ⌝ }
+{
+    let room = bitio::skip_bits(bytes, c, 3 * n);
+    match room {
+        Skipped::Done(next) => {
+            let first = c.start + c.pos;
+            let second = first + n;
+            let third = second + n;
+            let x = bits::field::field_of(bytes, first, n);
+            let y = bits::field::field_of(bytes, second, n);
+            let z = bits::field::field_of(bytes, third, n);
+            Three::Value(x, y, z, next)
+        }
+        Skipped::Refused(_) => read_three(bytes, c, Part::Bits(n)),
+    }
+}
+
+// Three numbers of 32 bits each, the first two as one word.
+pub fn three_singles(bytes: &[u8], c: Cursor) -> Three
+    ensures { λ r. ⌜ r ≡ threeAt (now (bytes .entry)) (Bits 32) c ⌝ }
+{
+    let room = bitio::skip_bits(bytes, c, 96);
+    match room {
+        Skipped::Done(next) => {
+            let first = c.start + c.pos;
+            let two = bits::field::word_at(bytes, first);
+            let x = two % 0x1_0000_0000;
+            let y = two / 0x1_0000_0000;
+            let third = first + 64;
+            let z = bits::field::field_at(bytes, third, 32);
+            Three::Value(x, y, z, next)
+        }
+        Skipped::Refused(_) => read_three(bytes, c, Part::Bits(32)),
+    }
+}
+
+// The number of an axis whose bit is the lowest of `all`.
+fn axis_in(all: u64, width: u64) -> u64
+    requires { ⌜ width ≤ 20 ⌝ }
+    ensures { λ r. ⌜ r ≡ field all 1 (all % 2 * width) ⌝ }
+{
+    let size = 1u64 << width;
+    let k = (all >> 1) % size;
+    all % 2 * k
+}
+
+// The bits that this axis takes.
+fn axis_bits(all: u64, width: u64) -> u64
+    requires { ⌜ width ≤ 20 ⌝ }
+    ensures { λ r. ⌜ r ≡ 1 + all % 2 * width ⌝ }
+{
+    1 + all % 2 * width
+}
+
+// The three axes that stand one behind another from the lowest bit of `all` on; that bit is bit `pos` of the window.
+fn cut_axes(all: u64, width: u64, pos: u64) -> Three
+    requires { ⌜ (width ≤ 20) × (pos + 3 * (width + 1) < 2 ^ 64) ⌝ }
+    ensures { λ r. ⌜ (let a = 1 + all % 2 * width in let behind = all / 2 ^ a in let b = 1 + behind % 2 * width in let last = behind / 2 ^ b in r ≡ Three.Value (field all 1 (all % 2 * width)) (field behind 1 (behind % 2 * width)) (field last 1 (last % 2 * width)) (pos + a + b + (1 + last % 2 * width))) ⌝ }
+{
+    let x = axis_in(all, width);
+    let a = axis_bits(all, width);
+    let behind = all >> a;
+    let y = axis_in(behind, width);
+    let b = axis_bits(behind, width);
+    let last = behind >> b;
+    let z = axis_in(last, width);
+    let d = axis_bits(last, width);
+    let next = pos + a + b + d;
+    Three::Value(x, y, z, next)
+}
+
+fn least(a: u64, b: u64) -> u64
+    ensures { λ r. ⌜ r ≡ min a b ⌝ }
+{
+    if a < b { a } else { b }
+}
+
+// Three axes near the window's end: they may take fewer bits than they could.
+fn last_axes(bytes: &[u8], c: Cursor, width: u64) -> Three
+    requires { ⌜ width ≤ 20 ⌝ }
+    ensures { λ r. ⌜ r ≡ threeAt (now (bytes .entry)) (Axis width) c ⌝ }
+{
+    let found = bitio::bits_remaining(bytes, c);
+    match found {
+        Measured::Value(left) => {
+            let n = least(left, 3 * (width + 1));
+            let pos = c.pos;
+            let first = c.start + pos;
+            let all = bits::field::field_of(bytes, first, n);
+            let three = cut_axes(all, width, 0);
+            match three {
+                Three::Value(x, y, z, used) => {
+                    if n < used {
+                        return read_three(bytes, c, Part::Axis(width));
+                    }
+                    let next = pos + used;
+                    Three::Value(x, y, z, next)
+                }
+                Three::Refused(_) => three,
+            }
+        }
+        Measured::Refused(_) => read_three(bytes, c, Part::Axis(width)),
+    }
+}
+
+// Three axes, cut out of one field that holds them whatever their bits say.
+pub fn three_axes(bytes: &[u8], c: Cursor, width: u64) -> Three
+    requires { ⌜ width ≤ 20 ⌝ }
+    ensures { λ r. ⌜ r ≡ threeAt (now (bytes .entry)) (Axis width) c ⌝ }
+{
+    let most = 3 * (width + 1);
+    let room = bitio::skip_bits(bytes, c, most);
+    match room {
+        Skipped::Done(_end) => {
+            let pos = c.pos;
+            let first = c.start + pos;
+            let all = bits::field::field_at(bytes, first, most);
+            cut_axes(all, width, pos)
+        }
+        Skipped::Refused(_) => last_axes(bytes, c, width),
+    }
+}
+
+// Three numbers of w bits each that were read as one, up to bit `next`.
+fn cut_apart(all: u64, w: u32, next: u64) -> Three
+    requires { ⌜ w ≤ 21 ⌝ }
+    ensures { λ r. ⌜ r ≡ together w (BitsRead.Value all next) ⌝ }
+{
+    let size = 1u64 << w;
+    let x = all % size;
+    let y = (all >> w) % size;
+    let z = (all >> (2 * w)) % size;
+    Three::Value(x, y, z, next)
+}
+
+// Three serialized integers with maximum 65,536: 16 bits each.
+pub fn three_shorts(bytes: &[u8], c: Cursor) -> Three
+    ensures { λ r. ⌜ r ≡ threeAt (now (bytes .entry)) (Integer 65536) c ⌝ }
+{
+    let room = bitio::skip_bits(bytes, c, 48);
+    match room {
+        Skipped::Done(next) => {
+            let first = c.start + c.pos;
+            let all = bits::field::field_at(bytes, first, 48);
+            cut_apart(all, 16, next)
+        }
+        Skipped::Refused(_) => read_three(bytes, c, Part::Integer(65536)),
+    }
+}
+
 // Three numbers of w bits each in one read.
 fn read_together(bytes: &[u8], c: Cursor, w: u32) -> Three
     requires { ⌜ w ≤ 21 ⌝ }
     ensures { λ r. ⌜ r ≡ together w (readBits (now (bytes .entry)) c (3 * w)) ⌝ }
 {
     let count = (3 * w) as u64;
-    let read = bitio::read_bits(bytes, c, count);
-    match read {
-        BitsRead::Value(all, next) => {
-            let size = 1u64 << w;
-            let x = all % size;
-            let y = (all >> w) % size;
-            let z = (all >> (2 * w)) % size;
-            Three::Value(x, y, z, next)
+    let room = bitio::skip_bits(bytes, c, count);
+    match room {
+        Skipped::Done(next) => {
+            let first = c.start + c.pos;
+            let all = bits::field::field_of(bytes, first, count);
+            cut_apart(all, w, next)
         }
-        BitsRead::Refused(r) => Three::Refused(r),
+        Skipped::Refused(r) => Three::Refused(r),
     }
 }
 
@@ -124,5 +280,5 @@ pub fn read_components(bytes: &[u8], c: Cursor, w: u32) -> Three
         return read_together(bytes, c, w);
     }
     let n = w as u64;
-    read_three(bytes, c, Part::Bits(n))
+    three_bits(bytes, c, n)
 }

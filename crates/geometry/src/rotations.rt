@@ -6,7 +6,6 @@ use crate::Refusal;
 use crate::Rotation;
 use crate::RotationRead;
 use crate::parts;
-use crate::parts::Part;
 use crate::parts::Three;
 use bitio::Cursor;
 
@@ -51,7 +50,7 @@ fn of_shorts(t: Three) -> RotationRead
 pub fn byte_rotation(bytes: &[u8], c: Cursor) -> RotationRead
     ensures { λ r. ⌜ r ≡ rotationAt (now (bytes .entry)) 8 c ⌝ }
 {
-    let axes = parts::read_three(bytes, c, Part::Axis(8));
+    let axes = parts::three_axes(bytes, c, 8);
     of_bytes(axes)
 }
 
@@ -59,6 +58,6 @@ pub fn byte_rotation(bytes: &[u8], c: Cursor) -> RotationRead
 pub fn short_rotation(bytes: &[u8], c: Cursor) -> RotationRead
     ensures { λ r. ⌜ r ≡ rotationAt (now (bytes .entry)) 16 c ⌝ }
 {
-    let axes = parts::read_three(bytes, c, Part::Axis(16));
+    let axes = parts::three_axes(bytes, c, 16);
     of_shorts(axes)
 }

@@ -6,15 +6,14 @@ ghost use Rattle.bits.specs.TwosComplement.{twos};
 ghost use Rattle.floats.specs.Numbers.{quotient};
 ghost use Rattle.geometry.specs.Parts.{Below};
 ghost use Rattle.geometry.specs.declared.Refusal.the-variants.{NotFinite};
-ghost use Rattle.geometry.specs.Vectors.{vector, checked, vectorOf, divisor, behind, quantizedAt, normalOf};
+ghost use Rattle.geometry.specs.Vectors.{vector, checked, vectorOf, divisor, vectorBehind, quantizedAt, normalOf};
 use crate::Refusal;
 use crate::Vector;
 use crate::VectorRead;
 use crate::parts;
-use crate::parts::Part;
 use crate::parts::Three;
+use bitio::BitsRead;
 use bitio::Cursor;
-use bitio::SerializedRead;
 
 fn made(x: f64, y: f64, z: f64, next: u64) -> VectorRead
     ensures { λ r. ⌜ r ≡ VectorRead.Value (vector x y z) next ⌝ }
@@ -117,14 +116,14 @@ fn divisor_of(e: u32, scale: u32) -> u32
 // The components behind a header of width w and rest e.
 fn components_behind(bytes: &[u8], c: Cursor, scale: u32, w: u32, e: u32) -> VectorRead
     requires { ⌜ (w ≤ 63) × (0 < scale) ⌝ }
-    ensures { λ r. ⌜ r ≡ behind (now (bytes .entry)) scale w e c ⌝ }
+    ensures { λ r. ⌜ r ≡ vectorBehind (now (bytes .entry)) scale w e c ⌝ }
 {
     if w == 0 {
         if e == 0 {
-            let three = parts::read_three(bytes, c, Part::Bits(32));
+            let three = parts::three_singles(bytes, c);
             return singles(three);
         }
-        let three = parts::read_three(bytes, c, Part::Bits(64));
+        let three = parts::three_bits(bytes, c, 64);
         return doubles(three);
     }
     let by = divisor_of(e, scale);
@@ -132,19 +131,21 @@ fn components_behind(bytes: &[u8], c: Cursor, scale: u32, w: u32, e: u32) -> Vec
     integers(three, w, by)
 }
 
+// A serialized integer with maximum 128 is seven bits.
 pub fn quantized(bytes: &[u8], c: Cursor, scale: u32) -> VectorRead
     requires { ⌜ 0 < scale ⌝ }
     ensures { λ r. ⌜ r ≡ quantizedAt (now (bytes .entry)) scale c ⌝ }
 {
-    let header = bitio::read_serialized_int(bytes, c, 128);
+    let header = bitio::read_bits(bytes, c, 7);
     match header {
-        SerializedRead::Value(h, next) => {
+        BitsRead::Value(seven, next) => {
             let here = parts::moved(c, next);
+            let h = seven as u32;
             let w = h % 64;
             let e = h / 64;
             components_behind(bytes, here, scale, w, e)
         }
-        SerializedRead::Refused(r) => VectorRead::Refused(Refusal::Unread(r)),
+        BitsRead::Refused(r) => VectorRead::Refused(Refusal::Unread(r)),
     }
 }
 

@@ -1,19 +1,19 @@
 -- What the code's proofs and the public contracts cite of the paste law: counters, positions, lengths, contents.
-use mathlib.Core.Path.{_≡_, refl, sym, ap, _∙_}
+use mathlib.Core.Path.{_≡_, refl, ap, _∙_}
 use mathlib.Core.List.{List, [], _∷_, _++_}
 use Prim.Native.Nat.{ℕ, _+_, _*_, _≤_}
 use native.Mathlib.Nat.{zero-add}
 use native.Mathlib.Omega.{arith}
 use lib.ListN.{length, drop}
 use Rattle.bits.specs.Runs.{put}
-use Rattle.bits.specs.Packed.{Number}
 use Rattle.bits.specs.Runs.{filled}
-use Rattle.framing.specs.Events.{Leaf, Pair, Event, number, element, leaf, pair, truncation, error, implicit, nested, root, over, leaves, pairs, overs, Trace}
-use Rattle.framing.specs.Counters.{Counters, counted, counters, sums}
+use Rattle.framing.specs.Events.{Event, number, element, leaf, pair, truncation, error, implicit, nested, root, over, leaves, pairs, overs, Trace}
+use Rattle.framing.specs.Counters.{counters, sums}
 use Rattle.framing.specs.Records.{leafWords, pairWords, leafRecord, pairRecord, payloadOf, pathBytes, payloadBytes, leafRecords, pairRecords}
 use Rattle.framing.proofs.TraceLaws.{sums-zero}
-use Rattle.outputs.specs.World.{Adding, plain, World, onEvent, apply, fresh, records, Tally, tallyOf, tallied}
-use Rattle.outputs.proofs.Paste.{length-store, tally-law, words-over, text-over, load-over}
+use Rattle.outputs.specs.World.{Adding, plain, World, onEvent, apply, fresh, traceRecords, Tally}
+use Rattle.bits.proofs.RunLaws.{length-store}
+use Rattle.outputs.proofs.Paste.{tally-law, words-over, text-over, load-over}
 
 -- ---- counters
 
@@ -31,7 +31,7 @@ overs-after t w = ap (λ (s : Tally). s .overs) (tally-law t w)
 
 -- ---- positions: what they were and what the trace needs, whatever the buffers hold
 
-pub words-at : (t : Trace) (w : World) → (apply plain t w) .words .at ≡ w .words .at + length (records (w .text .at) (w .load .at) t)
+pub words-at : (t : Trace) (w : World) → (apply plain t w) .words .at ≡ w .words .at + length (traceRecords (w .text .at) (w .load .at) t)
 words-at t w = ap (λ (s : Tally). s .words) (tally-law t w)
 
 pub text-at : (t : Trace) (w : World) → (apply plain t w) .text .at ≡ w .text .at + length (pathBytes (leaves t))
@@ -40,8 +40,8 @@ text-at t w = ap (λ (s : Tally). s .text) (tally-law t w)
 pub load-at : (t : Trace) (w : World) → (apply plain t w) .load .at ≡ w .load .at + length (payloadBytes (leaves t))
 load-at t w = ap (λ (s : Tally). s .load) (tally-law t w)
 
-pub records-length : (a b : ℕ) (t : Trace) → length (records a b t) ≡ leafWords * length (leaves t) + pairWords * length (pairs t)
-unfolding records
+pub records-length : (a b : ℕ) (t : Trace) → length (traceRecords a b t) ≡ leafWords * length (leaves t) + pairWords * length (pairs t)
+unfolding traceRecords
 records-length a b [] = refl
 records-length a b (leaf x ∷ t) = let z = records-length (a + length (x .path)) (b + length (payloadOf x)) t in omega arith
 records-length a b (pair x ∷ t) = let z = records-length a b t in omega arith
@@ -109,8 +109,8 @@ unfolding put
 over-filled run l = ap (λ (k : ℕ). run ++ drop k l) (zero-add (length run))
 
 module _ (t : Trace) (l p y : List ℕ) where
-  pub words-filled : length (records 0 0 t) ≤ length l → (apply plain t (fresh l p y)) .words .held ≡ filled (records 0 0 t) l
-  words-filled h = words-over t (fresh l p y) (omega arith) ∙ over-filled (records 0 0 t) l
+  pub words-filled : length (traceRecords 0 0 t) ≤ length l → (apply plain t (fresh l p y)) .words .held ≡ filled (traceRecords 0 0 t) l
+  words-filled h = words-over t (fresh l p y) (omega arith) ∙ over-filled (traceRecords 0 0 t) l
 
   pub text-filled : length (pathBytes (leaves t)) ≤ length p → (apply plain t (fresh l p y)) .text .held ≡ filled (pathBytes (leaves t)) p
   text-filled h = text-over t (fresh l p y) (omega arith) ∙ over-filled (pathBytes (leaves t)) p
@@ -120,8 +120,8 @@ module _ (t : Trace) (l p y : List ℕ) where
 
 -- ---- records of a walk that gives leaves only, or pairs only
 
-pub records-leaves : (a b : ℕ) (t : Trace) → pairs t ≡ [] → records a b t ≡ leafRecords a b (leaves t)
-unfolding records leafRecords
+pub records-leaves : (a b : ℕ) (t : Trace) → pairs t ≡ [] → traceRecords a b t ≡ leafRecords a b (leaves t)
+unfolding traceRecords leafRecords
 records-leaves a b [] e = refl
 records-leaves a b (leaf x ∷ t) e =
     ap (λ (r : List ℕ). leafRecord a b x ++ r)
@@ -136,8 +136,8 @@ records-leaves a b (nested n ∷ t) e = records-leaves a b t e
 records-leaves a b (root n ∷ t) e = records-leaves a b t e
 records-leaves a b (over ∷ t) e = records-leaves a b t e
 
-pub records-pairs : (a b : ℕ) (t : Trace) → leaves t ≡ [] → records a b t ≡ pairRecords (pairs t)
-unfolding records pairRecords
+pub records-pairs : (a b : ℕ) (t : Trace) → leaves t ≡ [] → traceRecords a b t ≡ pairRecords (pairs t)
+unfolding traceRecords pairRecords
 records-pairs a b [] e = refl
 records-pairs a b (leaf x ∷ t) e = let z : _≡_ {A = ℕ} 0 1 = cc in absurd (omega arith)
 records-pairs a b (pair x ∷ t) e = ap (λ (r : List ℕ). pairRecord x ++ r) (records-pairs a b t e)

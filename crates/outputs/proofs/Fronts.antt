@@ -16,7 +16,7 @@ use Rattle.framing.specs.Refusing.{Answer, refused, accepted}
 use Rattle.framing.specs.Demand.{dropTail, Opens}
 use Rattle.framing.proofs.RecordLaws.{path-append, payload-append, records-append}
 use Rattle.framing.proofs.Demand3.{demand3}
-use Rattle.outputs.specs.Answers.{left, Call, Lent, traceOf, answer, finalLeaves, finalPaths, finalPayloads, final, pairTrace, pairAnswer, finalPairs, wasAccepted, shared, Front}
+use Rattle.outputs.specs.Answers.{atExit, Call, Lent, traceOf, answer, finalLeaves, finalPaths, finalPayloads, final, pairTrace, pairAnswer, finalPairs, wasAccepted, shared, Front}
 
 -- ---- how a list begins
 
@@ -60,7 +60,7 @@ drop-tail-opens (x ∷ y ∷ l) = let f = drop-tail-opens (y ∷ l) in record { 
 
 -- ---- an accepted call's buffers begin with what any leaves do that its leaves begin with
 
-left-opens : {N : Type 0} (a : Answer N) → wasAccepted a → {xs : List ℕ} (new old : List ℕ) → Opens xs new → Opens xs (left a new old)
+left-opens : {N : Type 0} (a : Answer N) → wasAccepted a → {xs : List ℕ} (new old : List ℕ) → Opens xs new → Opens xs (atExit a new old)
 left-opens (accepted k n) yes′ new old f = opens-trans f (opens-filled new old)
 left-opens (refused k n) yes′ new old f = absurd yes′
 

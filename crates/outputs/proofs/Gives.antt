@@ -3,30 +3,28 @@
 use mathlib.Core.Path.{_≡_, refl, ap, _∙_}
 use mathlib.Core.Bool.{Bool, true, false, _&&_}
 use mathlib.Core.List.{List, [], _∷_, _++_}
-use Prim.Native.Nat.{ℕ, zero, suc, _+_, _-_, _*_, _/_, _≤_, _<_}
+use Prim.Native.Nat.{ℕ, zero, suc, _+_, _-_, _*_, _/_, _≤_}
 use native.Mathlib.Omega.{arith}
 use lib.Dec.{eqb, ltb, leb}
 use lib.ListN.{length, length-append}
 use borrow.Author.Tests.{ltb-true}
-use Rattle.bits.specs.Choice.{if_then_else_}
 use Rattle.bits.specs.Runs.{bytesOf, bytesFor}
 use Rattle.bits.proofs.RunLaws.{length-bytesOf}
-use Rattle.bits.specs.Packed.{Number}
 use Rattle.schema.specs.Tables.{Tables, absent, child}
 use Rattle.schema.specs.Labels.{atIndex}
 use Rattle.schema.specs.declared.Child.{Child}
 use Rattle.schema.specs.declared.Child.the-variants.{Array, Leaf}
 use Rattle.framing.specs.Windows.{Window, windowOf, part, Reading, got, failed, reading}
 use Rattle.framing.specs.Events as Ev
-use Rattle.framing.specs.Events.{Event, number, element, leaf, pair, truncation, error, implicit, nested, root, over, leaves, pairs, overs, Trace}
+use Rattle.framing.specs.Events.{Event, leaf, error, nested, root, over, leaves, pairs, overs, Trace}
 use Rattle.framing.specs.Paths.{longestPath, grown, noted, given}
-use Rattle.framing.specs.Walk.{Sink, numberAt, tail, rawLeaf, inItem, entering, level}
-use Rattle.framing.specs.Sinks.{leafOf, onChild, structSinkOver, structSink, tooDeep, guidOf, objectField, objectSink, Walk, struct, exact, object, Leafy, declaredOnly, sinkOf, silent, walkWindow, walk}
+use Rattle.framing.specs.Walk.{Sink, tail, rawLeaf, inItem, entering, level}
+use Rattle.framing.specs.Sinks.{leafOf, onChild, structSink, tooDeep, guidOf, objectField, objectSink, Walk, struct, exact, object, Leafy, declaredOnly, sinkOf, silent, walkWindow, walk}
 use Rattle.framing.specs.Records.{payloadBytes}
 use Rattle.framing.proofs.TraceLaws.{leaves-append, pairs-append, overs-append}
 use Rattle.framing.proofs.RecordLaws.{payload-append}
-use Rattle.framing.proofs.Demand3.{and-true}
-use Rattle.framing.proofs.Induct.{Read, Here, Scheme, level-holds}
+use Rattle.bits.proofs.ChoiceLaws.{and-true}
+use Rattle.framing.proofs.Induct.{level-holds}
 
 -- ---- a property of traces that holds of [] and of every event, joined
 

@@ -11,7 +11,7 @@ use Rattle.framing.specs.Counters.{Counters, counted, counters, sums}
 use Rattle.framing.specs.Sinks.{Walk, walk}
 use Rattle.framing.specs.Records.{leafRecord, pairRecord, payloadOf}
 use Rattle.framing.proofs.Bounded.{total, walk-cost}
-use Rattle.outputs.specs.World.{plain, wrapping, Out, put, World, count, counting, onEvent, apply, fresh}
+use Rattle.outputs.specs.World.{plain, wrapping, Out, putNext, World, count, counting, onEvent, apply, fresh}
 use Rattle.outputs.proofs.After.{counters-after, counters-fresh, overs-after, words-at, text-at, load-at, records-length}
 use Rattle.outputs.proofs.Gives.{payload-bound}
 use Rattle.outputs.proofs.ShortPaths.{walk-short, path-bound}
@@ -35,8 +35,8 @@ fits-before m t w h =
       load = let e = load-at t w in let f = h .load in omega arith;
     }
 
-put-fits : (m : ℕ) (run : List ℕ) (o : Out) → o .at + length run < m → put (wrapping m) run o ≡ put plain run o
-put-fits m run o h = let e : (o .at + length run) % m ≡ o .at + length run = mod-eq-of-lt h in λ i. record { at = e i; held = (put plain run o) .held }
+put-fits : (m : ℕ) (run : List ℕ) (o : Out) → o .at + length run < m → putNext (wrapping m) run o ≡ putNext plain run o
+put-fits m run o h = let e : (o .at + length run) % m ≡ o .at + length run = mod-eq-of-lt h in λ i. record { at = e i; held = (putNext plain run o) .held }
 
 count-fits : (m : ℕ) (e : Event) (c : Counters) → total (count plain e c) < m → count (wrapping m) e c ≡ count plain e c
 count-fits m (number x) c h = refl

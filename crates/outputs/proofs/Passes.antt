@@ -1,6 +1,6 @@
 -- Two passes over the same walk give the public answer and the final buffers: one law for each exit of the code.
 use mathlib.Core.Path.{_≡_, refl, sym, ap, ap₂, _∙_, subst}
-use mathlib.Core.Bool.{Bool, true, false, _&&_}
+use mathlib.Core.Bool.{true, false, _&&_}
 use mathlib.Core.List.{List, []}
 use Prim.Native.Nat.{ℕ, _+_, _*_, _/_, _≤_, _<_}
 use native.Mathlib.Nat.{zero-add}
@@ -13,12 +13,12 @@ use Rattle.bitio.specs.Cursors.{longestWindow}
 use Rattle.framing.specs.Events.{leaves, pairs, overs}
 use Rattle.framing.specs.Counters.{Counters, counters}
 use Rattle.framing.specs.Sinks.{Walk, object, Leafy, walk}
-use Rattle.framing.specs.Records.{leafWords, pairWords, pathBytes, payloadBytes, leafRecords, pairRecords}
+use Rattle.framing.specs.Records.{leafWords, pairWords, pathBytes, payloadBytes, leafRecords}
 use Rattle.framing.specs.Refusing.{Room, noRoom, needed, within, Answer, refused, accepted}
-use Rattle.framing.proofs.Demand3.{and-true}
+use Rattle.bits.proofs.ChoiceLaws.{and-true}
 use Rattle.framing.proofs.RefusingLaws.{decided-long, decided-broken, decided-over, decided-short, decided-fine}
-use Rattle.outputs.specs.World.{wrapping, plain, World, apply, fresh, records}
-use Rattle.outputs.specs.Answers.{left, Call, Lent, laid, traceOf, roomOf, answer, finalLeaves, finalPaths, finalPayloads, Answered, measured, final, pairTrace, pairAnswer, finalPairs, PairsAnswered}
+use Rattle.outputs.specs.World.{wrapping, plain, World, apply, fresh, traceRecords}
+use Rattle.outputs.specs.Answers.{Call, Lent, laid, traceOf, roomOf, answer, finalLeaves, finalPaths, finalPayloads, Answered, measured, final, pairTrace, pairAnswer, finalPairs, PairsAnswered}
 use Rattle.outputs.proofs.After.{counters-fresh, overs-after, words-at, text-at, load-at, records-length, words-filled, text-filled, load-filled, records-leaves, records-pairs}
 use Rattle.outputs.proofs.Gives.{no-pairs, no-leaves, no-overs}
 use Rattle.outputs.proofs.NoWrap.{word, walk-exact}
@@ -41,7 +41,7 @@ module _ (m : ℕ) (wide : word ≤ m) (k : Walk) (bytes : List ℕ) (n : ℕ) (
 
   pub walked-words : v .words .at ≡ leafWords * length (leaves (walk k bytes n)) + pairWords * length (pairs (walk k bytes n))
   walked-words =
-      ap (λ (w : World). w .words .at) walked ∙ words-at (walk k bytes n) (fresh l p y) ∙ zero-add (length (records 0 0 (walk k bytes n))) ∙ records-length 0 0 (walk k bytes n)
+      ap (λ (w : World). w .words .at) walked ∙ words-at (walk k bytes n) (fresh l p y) ∙ zero-add (length (traceRecords 0 0 (walk k bytes n))) ∙ records-length 0 0 (walk k bytes n)
 
   pub walked-text : v .text .at ≡ length (pathBytes (leaves (walk k bytes n)))
   walked-text = ap (λ (w : World). w .text .at) walked ∙ text-at (walk k bytes n) (fresh l p y) ∙ zero-add (length (pathBytes (leaves (walk k bytes n))))
@@ -62,7 +62,7 @@ module _ (m : ℕ) (wide : word ≤ m) (k : Walk) (bytes : List ℕ) (n : ℕ) (
 
   -- the pass that writes
   pub wrote-words : leafWords * length (leaves (walk k bytes n)) + pairWords * length (pairs (walk k bytes n)) ≤ length l
-      → v .words .held ≡ filled (records 0 0 (walk k bytes n)) l
+      → v .words .held ≡ filled (traceRecords 0 0 (walk k bytes n)) l
   wrote-words h =
       let z = records-length 0 0 (walk k bytes n) in
       ap (λ (w : World). w .words .held) walked ∙ words-filled (walk k bytes n) l p y (omega arith)

@@ -1,75 +1,18 @@
 -- What `apply` leaves: counters and positions whatever the buffers hold, and the paste law.
-use mathlib.Core.Path.{_≡_, refl, sym, ap, ap₂, _∙_, subst}
-use mathlib.Core.Bool.{Bool, true, false}
-use mathlib.Core.List.{List, [], _∷_, _++_, append-assoc, append-nil}
-use Prim.Native.Nat.{ℕ, zero, suc, _+_, _-_, _*_, _%_, _≤_, _<_}
-use native.Mathlib.Nat.{zero-add, add-zero}
+use mathlib.Core.Path.{_≡_, refl, sym, ap, _∙_}
+use mathlib.Core.List.{List, [], _∷_, _++_}
+use Prim.Native.Nat.{ℕ, suc, _+_, _≤_}
+use native.Mathlib.Nat.{add-zero}
 use native.Mathlib.Omega.{arith}
-use lib.Dec.{leb}
-use lib.ListN.{length, take, drop, set, length-append, take-append-drop}
-use lib.Seq.{sets, length-sets, sets-eq, set-out, drop-drop}
-use borrow.Author.Tests.{leb-true}
+use lib.ListN.{length, length-append}
 use Rattle.bits.specs.Runs.{put, store}
-use Rattle.bits.proofs.RunLaws.{store-fits}
+use Rattle.bits.proofs.RunLaws.{put-put, put-none, store-fits, length-store}
 use Rattle.bits.specs.Packed.{Number}
-use Rattle.framing.specs.Events.{Leaf, Pair, numbers, Event, number, element, leaf, pair, truncation, error, implicit, nested, root, over, leaves, overs, Trace}
+use Rattle.framing.specs.Events.{numbers, Event, number, element, leaf, pair, truncation, error, implicit, nested, root, over, leaves, overs, Trace}
 use Rattle.framing.specs.Counters.{Counters, counted, counters, sums, tally}
 use Rattle.framing.specs.Records.{leafRecord, pairRecord, payloadOf, pathBytes, payloadBytes}
 use Rattle.framing.proofs.TraceLaws.{sums-assoc}
-use Rattle.outputs.specs.World.{Adding, plain, World, count, onEvent, apply, records, Tally, tallyOf, tallied}
-
--- ---- runs of writes
-
-pub sets-append : (l : List ℕ) (i : ℕ) (xs ys : List ℕ) → sets l i (xs ++ ys) ≡ sets (sets l i xs) (i + length xs) ys
-sets-append l i [] ys = rw (add-zero i)
-sets-append l i (x ∷ xs) ys =
-    let e : suc i + length xs ≡ i + suc (length xs) = omega arith in
-    sets-append (set l i x) (suc i) xs ys ∙ ap (λ (k : ℕ). sets (sets (set l i x) (suc i) xs) k ys) e
-
--- a run that starts at or past the end changes nothing
-pub sets-out : (l : List ℕ) (i : ℕ) (xs : List ℕ) → length l ≤ i → sets l i xs ≡ l
-sets-out l i [] h = refl
-sets-out l i (x ∷ xs) h =
-    ap (λ (r : List ℕ). sets r (suc i) xs) (set-out l i x h) ∙ sets-out l (suc i) xs (omega arith)
-
-pub sets-nil : (i : ℕ) (xs : List ℕ) → sets [] i xs ≡ []
-sets-nil i xs = sets-out [] i xs (omega arith)
-
--- ---- one buffer
-
-pub length-put : (l : List ℕ) (i : ℕ) (run : List ℕ) → i + length run ≤ length l → length (put l i run) ≡ length l
-unfolding put
-length-put l i run h = ap length (sym (sets-eq run l i h)) ∙ length-sets l i run
-
-pub length-store : (l : List ℕ) (i : ℕ) (run : List ℕ) → length (store l i run) ≡ length l
-unfolding store
-length-store l i run = go (leb (i + length run) (length l)) refl
-  where
-    go : (x : Bool) → leb (i + length run) (length l) ≡ x → length (store l i run) ≡ length l
-    go true e = rw e (length-put l i run (leb-true (i + length run) (length l) e))
-    go false e = rw e
-
--- a run that fits, in two parts
-pub put-append : (l : List ℕ) (i : ℕ) (xs ys : List ℕ) → i + length xs + length ys ≤ length l → put l i (xs ++ ys) ≡ put (put l i xs) (i + length xs) ys
-unfolding put
-put-append l i xs ys h =
-    let n = length-append xs ys in
-    sym (sets-eq (xs ++ ys) l i (omega arith))
-    ∙ sets-append l i xs ys
-    ∙ sets-eq ys (sets l i xs) (i + length xs) (rw (length-sets l i xs) h)
-    ∙ ap (λ (r : List ℕ). put r (i + length xs) ys) (sets-eq xs l i (omega arith))
-
-pub put-none : (l : List ℕ) (i : ℕ) → put l i [] ≡ l
-unfolding put
-put-none l i = ap (λ (k : ℕ). take i l ++ [] ++ drop k l) (add-zero i) ∙ ap (λ (r : List ℕ). r ++ drop i l) (append-nil (take i l)) ∙ take-append-drop i l
-
--- a run written to the front of the part from i on (`f(&mut d[i..], ..)`) is a run written at i
-pub part-put : (l : List ℕ) (i : ℕ) (run : List ℕ) → take i l ++ put (drop i l) 0 run ≡ put l i run
-unfolding put
-part-put l i run =
-    ap (λ (k : ℕ). take i l ++ (run ++ drop k (drop i l))) (zero-add (length run))
-    ∙ ap (λ (r : List ℕ). take i l ++ (run ++ r)) (drop-drop (length run) i l)
-    ∙ sym (append-assoc (take i l) run (drop (i + length run) l))
+use Rattle.outputs.specs.World.{Adding, plain, World, count, onEvent, apply, traceRecords, Tally, tallyOf, tallied}
 
 -- ---- a trace
 
@@ -123,7 +66,7 @@ passes n xs ys = let e = length-append xs ys in omega arith
 
 -- COUNTERS AND POSITIONS: what they were and what the trace needs, whatever the buffers hold.
 pub tally-law : (t : Trace) (w : World) → tallyOf (apply plain t w) ≡ tallied t (tallyOf w)
-unfolding apply records pathBytes payloadBytes
+unfolding apply traceRecords pathBytes payloadBytes
 tally-law [] w =
     let a = same (w .words .at) in
     let b = same (w .text .at) in
@@ -132,14 +75,14 @@ tally-law [] w =
     λ i. record { counters = sym (sums-none (w .counters)) i; overs = o i; words = a i; text = b i; load = d i }
 tally-law (leaf x ∷ t) w =
     let c = count-then (leaf x) (w .counters) t in
-    let rest = records (w .text .at + length (x .path)) (w .load .at + length (payloadOf x)) t in
+    let rest = traceRecords (w .text .at + length (x .path)) (w .load .at + length (payloadOf x)) t in
     let p = passes (w .words .at) (leafRecord (w .text .at) (w .load .at) x) rest in
     let q = passes (w .text .at) (x .path) (pathBytes (leaves t)) in
     let r = passes (w .load .at) (payloadOf x) (payloadBytes (leaves t)) in
     tally-law t (onEvent plain (leaf x) w) ∙ (λ i. record { counters = c i; overs = w .overs + overs t; words = p i; text = q i; load = r i })
 tally-law (pair x ∷ t) w =
     let c = count-then (pair x) (w .counters) t in
-    let p = passes (w .words .at) (pairRecord x) (records (w .text .at) (w .load .at) t) in
+    let p = passes (w .words .at) (pairRecord x) (traceRecords (w .text .at) (w .load .at) t) in
     let u : Tally = tallied t (tallyOf w) in
     tally-law t (onEvent plain (pair x) w) ∙ (λ i. record { counters = c i; overs = u .overs; words = p i; text = u .text; load = u .load })
 tally-law (number x ∷ t) w =
@@ -172,22 +115,22 @@ tally-law (over ∷ t) w =
 step : (run rest l : List ℕ) (i : ℕ) → i + length (run ++ rest) ≤ length l → put (store l i run) (i + length run) rest ≡ put l i (run ++ rest)
 step run rest l i h =
     let n = length-append run rest in
-    ap (λ (k : List ℕ). put k (i + length run) rest) (store-fits l i run (omega arith)) ∙ sym (put-append l i run rest (omega arith))
+    ap (λ (k : List ℕ). put k (i + length run) rest) (store-fits l i run (omega arith)) ∙ put-put l run rest i (length run) (omega arith) refl
 
 room : (run rest l : List ℕ) (i : ℕ) → i + length (run ++ rest) ≤ length l → i + length run + length rest ≤ length (store l i run)
 room run rest l i h = let n = length-append run rest in rw (length-store l i run) (omega arith)
 
-pub words-over : (t : Trace) (w : World) → w .words .at + length (records (w .text .at) (w .load .at) t) ≤ length (w .words .held)
-    → (apply plain t w) .words .held ≡ put (w .words .held) (w .words .at) (records (w .text .at) (w .load .at) t)
-unfolding apply records
+pub words-over : (t : Trace) (w : World) → w .words .at + length (traceRecords (w .text .at) (w .load .at) t) ≤ length (w .words .held)
+    → (apply plain t w) .words .held ≡ put (w .words .held) (w .words .at) (traceRecords (w .text .at) (w .load .at) t)
+unfolding apply traceRecords
 words-over [] w h = sym (put-none (w .words .held) (w .words .at))
 words-over (leaf x ∷ t) w h =
     let run = leafRecord (w .text .at) (w .load .at) x in
-    let rest = records (w .text .at + length (x .path)) (w .load .at + length (payloadOf x)) t in
+    let rest = traceRecords (w .text .at + length (x .path)) (w .load .at + length (payloadOf x)) t in
     words-over t (onEvent plain (leaf x) w) (room run rest (w .words .held) (w .words .at) h) ∙ step run rest (w .words .held) (w .words .at) h
 words-over (pair x ∷ t) w h =
     let run = pairRecord x in
-    let rest = records (w .text .at) (w .load .at) t in
+    let rest = traceRecords (w .text .at) (w .load .at) t in
     words-over t (onEvent plain (pair x) w) (room run rest (w .words .held) (w .words .at) h) ∙ step run rest (w .words .held) (w .words .at) h
 words-over (number x ∷ t) w h = words-over t (onEvent plain (number x) w) h
 words-over (element n ∷ t) w h = words-over t (onEvent plain (element n) w) h

@@ -16,9 +16,9 @@ use Rattle.framing.specs.Demand.{dropTail, Opens}
 use Rattle.outputs.specs.World.{World}
 
 -- a buffer at the end: the new contents and behind them what was lent; if the call is refused, what was lent
-abbrev pub left : {N : Type 0} → Answer N → (new lent : List ℕ) → List ℕ
-left (accepted c n) new lent = filled new lent
-left (refused k n) new lent = lent
+abbrev pub atExit : {N : Type 0} → Answer N → (new lent : List ℕ) → List ℕ
+atExit (accepted c n) new lent = filled new lent
+atExit (refused k n) new lent = lent
 
 -- ---- struct and exact walks
 
@@ -43,21 +43,24 @@ abbrev pub traceOf : Call → Trace
 traceOf c = walk (c .how) (c .bytes) (c .bits)
 
 -- room in whole records: a ragged end is never written
+abbrev pub roomBy : (words paths payloads : ℕ) → Room
+roomBy l p y = record { leaves = l / leafWords; pathBytes = p; payloadBytes = y }
+
 abbrev pub roomOf : Lent → Room
-roomOf b = record { leaves = length (b .leaves) / leafWords; pathBytes = length (b .paths); payloadBytes = length (b .payloads) }
+roomOf b = roomBy (length (b .leaves)) (length (b .paths)) (length (b .payloads))
 
 unfoldable pub answer : Call → Lent → Answer Room
 answer c b =
     decided (c .bits) (laid (c .how) (c .levels)) (traceOf c) noRoom (needed (traceOf c)) (within (needed (traceOf c)) (roomOf b))
 
 unfoldable pub finalLeaves : Call → Lent → List ℕ
-finalLeaves c b = left (answer c b) (leafRecords 0 0 (leaves (traceOf c))) (b .leaves)
+finalLeaves c b = atExit (answer c b) (leafRecords 0 0 (leaves (traceOf c))) (b .leaves)
 
 unfoldable pub finalPaths : Call → Lent → List ℕ
-finalPaths c b = left (answer c b) (pathBytes (leaves (traceOf c))) (b .paths)
+finalPaths c b = atExit (answer c b) (pathBytes (leaves (traceOf c))) (b .paths)
 
 unfoldable pub finalPayloads : Call → Lent → List ℕ
-finalPayloads c b = left (answer c b) (payloadBytes (leaves (traceOf c))) (b .payloads)
+finalPayloads c b = atExit (answer c b) (payloadBytes (leaves (traceOf c))) (b .payloads)
 
 abbrev pub final : Call → Lent → Lent
 final c b = record { leaves = finalLeaves c b; paths = finalPaths c b; payloads = finalPayloads c b }
@@ -84,7 +87,7 @@ pairAnswer bytes bits lent =
     (leb (length (pairs (pairTrace bytes bits))) (length lent / pairWords))
 
 unfoldable pub finalPairs : (bytes : List ℕ) (bits : ℕ) (lent : List ℕ) → List ℕ
-finalPairs bytes bits lent = left (pairAnswer bytes bits lent) (pairRecords (pairs (pairTrace bytes bits))) lent
+finalPairs bytes bits lent = atExit (pairAnswer bytes bits lent) (pairRecords (pairs (pairTrace bytes bits))) lent
 
 pub record PairsAnswered (bytes : List ℕ) (bits : ℕ) (lent : List ℕ) (r : Answer ℕ) (end : List ℕ) : Type 0 where
   pub says : r ≡ pairAnswer bytes bits lent

@@ -1,5 +1,5 @@
 -- What a walk's events do to the counters and the lent buffers.
--- The code is proved equal to `apply (wrapping m) events world`, m the numbers of its words; the meaning is `apply plain events world`; proofs/NoWrap
+-- The code is proved equal to `apply (wrapping m) events world`, m being 2 ^ 32, as many numbers as its words hold; the meaning is `apply plain events world`; proofs/NoWrap
 -- shows that the two coincide.
 use Prim.Native.Nat.{ℕ, _+_, _%_}
 use mathlib.Core.List.{List, [], _∷_, _++_}
@@ -26,8 +26,8 @@ pub record Out : Type 0 where
   pub held : List ℕ
 
 -- A run is written whole or not at all. The position passes it in either case, so that a walk lent nothing measures.
-abbrev pub put : Adding → List ℕ → Out → Out
-put add run o = record { at = add (o .at) (length run); held = store (o .held) (o .at) run }
+abbrev pub putNext : Adding → List ℕ → Out → Out
+putNext add run o = record { at = add (o .at) (length run); held = store (o .held) (o .at) run }
 
 -- ---- the world: counters and three buffers; words holds leaf records, in an object walk pairs
 
@@ -60,13 +60,13 @@ onLeaf add x w =
     record {
       counters = w .counters;
       overs = w .overs;
-      words = put add (leafRecord (w .text .at) (w .load .at) x) (w .words);
-      text = put add (x .path) (w .text);
-      load = put add (payloadOf x) (w .load);
+      words = putNext add (leafRecord (w .text .at) (w .load .at) x) (w .words);
+      text = putNext add (x .path) (w .text);
+      load = putNext add (payloadOf x) (w .load);
     }
 
 abbrev pub onPair : Adding → Pair → World → World
-onPair add x w = record { counters = w .counters; overs = w .overs; words = put add (pairRecord x) (w .words); text = w .text; load = w .load }
+onPair add x w = record { counters = w .counters; overs = w .overs; words = putNext add (pairRecord x) (w .words); text = w .text; load = w .load }
 
 abbrev pub onOver : Adding → World → World
 onOver add w = record { counters = w .counters; overs = add (w .overs) 1; words = w .words; text = w .text; load = w .load }
@@ -105,18 +105,18 @@ fresh words text load =
 -- ---- what a trace leaves, all at once
 
 -- all records of a trace, the first path at pathAt and the first payload at payloadAt
-unfoldable pub records : (pathAt payloadAt : ℕ) → Trace → List ℕ
-records a b [] = []
-records a b (leaf x ∷ t) = leafRecord a b x ++ records (a + length (x .path)) (b + length (payloadOf x)) t
-records a b (pair x ∷ t) = pairRecord x ++ records a b t
-records a b (number x ∷ t) = records a b t
-records a b (element i ∷ t) = records a b t
-records a b (truncation ∷ t) = records a b t
-records a b (error ∷ t) = records a b t
-records a b (implicit ∷ t) = records a b t
-records a b (nested n ∷ t) = records a b t
-records a b (root n ∷ t) = records a b t
-records a b (over ∷ t) = records a b t
+unfoldable pub traceRecords : (pathAt payloadAt : ℕ) → Trace → List ℕ
+traceRecords a b [] = []
+traceRecords a b (leaf x ∷ t) = leafRecord a b x ++ traceRecords (a + length (x .path)) (b + length (payloadOf x)) t
+traceRecords a b (pair x ∷ t) = pairRecord x ++ traceRecords a b t
+traceRecords a b (number x ∷ t) = traceRecords a b t
+traceRecords a b (element i ∷ t) = traceRecords a b t
+traceRecords a b (truncation ∷ t) = traceRecords a b t
+traceRecords a b (error ∷ t) = traceRecords a b t
+traceRecords a b (implicit ∷ t) = traceRecords a b t
+traceRecords a b (nested n ∷ t) = traceRecords a b t
+traceRecords a b (root n ∷ t) = traceRecords a b t
+traceRecords a b (over ∷ t) = traceRecords a b t
 
 -- what a trace adds to the counters and the positions, whatever the buffers hold
 pub record Tally : Type 0 where
@@ -134,7 +134,7 @@ tallied t s =
     record {
       counters = sums (s .counters) (counters t);
       overs = s .overs + overs t;
-      words = s .words + length (records (s .text) (s .load) t);
+      words = s .words + length (traceRecords (s .text) (s .load) t);
       text = s .text + length (pathBytes (leaves t));
       load = s .load + length (payloadBytes (leaves t));
     }

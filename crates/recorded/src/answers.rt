@@ -6,10 +6,7 @@ ghost use Rattle.bitio.specs.Refusals.{numbered, standsAfter};
 ghost use Rattle.recorded.specs.Says.{Says};
 use crate::fields;
 use crate::say;
-use bitio::Cursor;
-use bitio::Opened;
 use bitio::Refusal;
-use bitio::Skipped;
 
 pub struct Answer {
     pub number: u64,
@@ -50,12 +47,6 @@ pub enum Outcome {
     Damaged(Fault),
 }
 
-// A cursor where a read is to begin, or the answer of the call that refused it.
-pub enum Placed {
-    Ready(Cursor),
-    Refused(Answer),
-}
-
 pub fn answer_of(number: u64, first: u64, second: u64, third: u64, cursor: u64) -> Answer
     ensures says { λ a. ⌜ Says a (refusal number first second third) ⌝ }
     ensures stands { λ a. ⌜ a .cursor ≡ cursor ⌝ }
@@ -92,31 +83,6 @@ pub fn refused(r: Refusal, at: u64) -> Answer
         Refusal::NoMaximum => answer_of(10, 0, 0, 0, at),
         Refusal::TooMany => answer_of(13, 0, 0, 0, at),
         Refusal::Past(asked, available) => answer_of(14, asked, available, 0, at),
-    }
-}
-
-// The window of the first `bits` bits, with the cursor at bit `skip`.
-pub fn place(bytes: &[u8], bits: u64, skip: u64) -> Placed {
-    let opened = bitio::open(bytes, bits);
-    match opened {
-        Opened::Reader(c) => {
-            let moved = bitio::skip_bits(bytes, c, skip);
-            match moved {
-                Skipped::Done(pos) => {
-                    let start = c.start;
-                    let len = c.len;
-                    Placed::Ready(Cursor { start, pos, len })
-                }
-                Skipped::Refused(r) => {
-                    let answer = refused(r, c.pos);
-                    Placed::Refused(answer)
-                }
-            }
-        }
-        Opened::Refused(r) => {
-            let answer = refused(r, 0);
-            Placed::Refused(answer)
-        }
     }
 }
 

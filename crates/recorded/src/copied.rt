@@ -6,9 +6,11 @@ use crate::answers::Answer;
 use crate::answers::Expected;
 use crate::answers::Fault;
 use crate::answers::Outcome;
-use crate::answers::Placed;
 use crate::fields;
 use crate::say;
+use crate::windows;
+use crate::windows::Placed;
+use crate::windows::Window;
 use bitio::Copied;
 
 // Targets before the copy. The small one takes less time to make; a window has at most 65,536 bytes.
@@ -25,8 +27,8 @@ fn large() -> [u8; 131072]
     [0xee; 131072]
 }
 
-fn answer(bytes: &[u8], bits: u64, skip: u64, count: u64, target: &mut [u8]) -> Answer {
-    let placed = answers::place(bytes, bits, skip);
+fn answer(bytes: &[u8], w: Window, count: u64, target: &mut [u8]) -> Answer {
+    let placed = windows::place(bytes, w);
     match placed {
         Placed::Ready(c) => {
             let copy = bitio::copy_bits_to(bytes, c, count, target);
@@ -60,11 +62,9 @@ fn judge(s: &[u8], expected: Expected, after: &[u8], got: Answer, target: &[u8])
 fn replay_in(s: &[u8], at: usize, space: &mut [u8]) -> Outcome {
     let count = fields::number(s, at);
     let room = fields::number(s, count.next);
-    let skip = fields::number(s, room.next);
-    let bits = fields::number(s, skip.next);
-    let bytes = fields::run(s, bits.next);
-    let end = fields::after_run(s, bits.next);
-    let expected = answers::recorded(s, end);
+    let w = windows::of_case(s, room.next);
+    let bytes = fields::run(s, w.run);
+    let expected = w.expected;
     let after = fields::rest(s, expected.next);
     let n = after.len();
     if s.len() < expected.next {
@@ -77,7 +77,7 @@ fn replay_in(s: &[u8], at: usize, space: &mut [u8]) -> Outcome {
         return Outcome::Damaged(Fault::Number);
     }
     let target = &mut space[0..n];
-    let got = answer(bytes, bits.value, skip.value, count.value, target);
+    let got = answer(bytes, w, count.value, target);
     judge(s, expected, after, got, target)
 }
 

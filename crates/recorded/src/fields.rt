@@ -2,6 +2,7 @@
 //
 // Every call takes any bytes and any place. Where a part doesn't fit, a number is 0, a run is empty, and the next place is
 // past every end, where nothing fits either. So a kind reads all its parts and tests once, at the end.
+pub use words::equal;
 
 // A number, and the place after it.
 pub struct Field {
@@ -132,19 +133,4 @@ pub fn rest(s: &[u8], at: usize) -> &[u8] {
         return &s[..0];
     }
     &s[at..]
-}
-
-// Whether the two have the same bytes.
-pub fn equal(a: &[u8], b: &[u8]) -> bool {
-    if a.len() != b.len() {
-        return false;
-    }
-    let mut i = 0;
-    while i < a.len() {
-        if a[i] != b[i] {
-            return false;
-        }
-        i += 1;
-    }
-    true
 }

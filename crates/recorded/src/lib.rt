@@ -9,3 +9,4 @@ pub mod lists;
 pub mod packed;
 pub mod say;
 pub mod serialized;
+pub mod windows;

@@ -3,6 +3,8 @@ ghost use mathlib.Core.Path.{_≡_};
 ghost use Prim.Native.Nat.{_≤_};
 ghost use lib.ListN.{length};
 use crate::answers::Fault;
+pub use words::least;
+use words::wide;
 
 // Rooms for the numbers of a table's rows and of declared names: more than document 01 accepts (512 rows of 5, 1,024 handles
 // of 2), so that lists over size are replayed too. `say` names both for a longer one.
@@ -33,12 +35,6 @@ pub fn tables_fault(rows: &[u8], declared: &[u8]) -> Fault {
     Fault::None
 }
 
-pub fn least(a: usize, b: usize) -> usize
-    ensures { λ r. ⌜ (r ≤ a) × (r ≤ b) ⌝ }
-{
-    if a < b { a } else { b }
-}
-
 // The first n, or all where there are fewer.
 pub fn front(words: &[u32], n: usize) -> &[u32] {
     let end = least(n, words.len());
@@ -57,10 +53,6 @@ pub fn unpack(list: &[u8], room: &mut [u32]) -> usize
         i += 1;
     }
     n
-}
-
-fn wide(x: u32) -> u64 {
-    x as u64
 }
 
 // Whether the list holds these words.

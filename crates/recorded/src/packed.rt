@@ -2,12 +2,14 @@
 use crate::answers;
 use crate::answers::Answer;
 use crate::answers::Outcome;
-use crate::answers::Placed;
 use crate::fields;
+use crate::windows;
+use crate::windows::Placed;
+use crate::windows::Window;
 use bitio::PackedRead;
 
-fn answer(bytes: &[u8], bits: u64, skip: u64) -> Answer {
-    let placed = answers::place(bytes, bits, skip);
+fn answer(bytes: &[u8], w: Window) -> Answer {
+    let placed = windows::place(bytes, w);
     match placed {
         Placed::Ready(c) => {
             let read = bitio::read_int_packed(bytes, c);
@@ -24,11 +26,8 @@ fn answer(bytes: &[u8], bits: u64, skip: u64) -> Answer {
 }
 
 pub fn replay(s: &[u8], at: usize) -> Outcome {
-    let skip = fields::number(s, at);
-    let bits = fields::number(s, skip.next);
-    let bytes = fields::run(s, bits.next);
-    let end = fields::after_run(s, bits.next);
-    let expected = answers::recorded(s, end);
-    let got = answer(bytes, bits.value, skip.value);
-    answers::judge(s, expected, got)
+    let w = windows::of_case(s, at);
+    let bytes = fields::run(s, w.run);
+    let got = answer(bytes, w);
+    answers::judge(s, w.expected, got)
 }

@@ -2,35 +2,13 @@
 use crate::answers::Answer;
 use crate::answers::Fault;
 use crate::fields;
-use libc::STDOUT_FILENO;
-
-pub fn text(s: &[u8]) {
-    io::write_all(STDOUT_FILENO, s);
-}
-
-pub fn number(x: u64) {
-    io::print_decimal(STDOUT_FILENO, x);
-}
+pub use words::hex;
+pub use words::number;
+pub use words::text;
 
 // All 64 bits, in hex.
 pub fn pattern(x: u64) {
-    io::print_hex(STDOUT_FILENO, x, 16);
-}
-
-fn wide(x: u8) -> u64 {
-    x as u64
-}
-
-// The bytes in hex, or `-` for none.
-pub fn hex(s: &[u8]) {
-    if s.len() == 0 {
-        text(b"-");
-    }
-    let mut i = 0;
-    while i < s.len() {
-        io::print_hex(STDOUT_FILENO, wide(s[i]), 2);
-        i += 1;
-    }
+    words::pattern(x, 16);
 }
 
 // The front of a difference's line.

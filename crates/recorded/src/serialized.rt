@@ -3,12 +3,14 @@ use crate::answers;
 use crate::answers::Answer;
 use crate::answers::Fault;
 use crate::answers::Outcome;
-use crate::answers::Placed;
 use crate::fields;
+use crate::windows;
+use crate::windows::Placed;
+use crate::windows::Window;
 use bitio::SerializedRead;
 
-fn answer(bytes: &[u8], bits: u64, skip: u64, maximum: u32) -> Answer {
-    let placed = answers::place(bytes, bits, skip);
+fn answer(bytes: &[u8], w: Window, maximum: u32) -> Answer {
+    let placed = windows::place(bytes, w);
     match placed {
         Placed::Ready(c) => {
             let read = bitio::read_serialized_int(bytes, c, maximum);
@@ -26,16 +28,13 @@ fn answer(bytes: &[u8], bits: u64, skip: u64, maximum: u32) -> Answer {
 
 pub fn replay(s: &[u8], at: usize) -> Outcome {
     let field = fields::number(s, at);
-    let skip = fields::number(s, field.next);
-    let bits = fields::number(s, skip.next);
-    let bytes = fields::run(s, bits.next);
-    let end = fields::after_run(s, bits.next);
-    let expected = answers::recorded(s, end);
+    let w = windows::of_case(s, field.next);
+    let bytes = fields::run(s, w.run);
     let large = field.value;
     if 0xffff_ffff < large {
         return Outcome::Damaged(Fault::Number);
     }
     let maximum = large as u32;
-    let got = answer(bytes, bits.value, skip.value, maximum);
-    answers::judge(s, expected, got)
+    let got = answer(bytes, w, maximum);
+    answers::judge(s, w.expected, got)
 }

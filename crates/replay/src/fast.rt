@@ -12,6 +12,7 @@ use recorded::answers::Outcome;
 use recorded::fields;
 use recorded::lists;
 use recorded::say;
+use words::wide;
 
 // The call's inputs, without its bytes and buffers.
 struct Call {
@@ -83,10 +84,6 @@ fn large_words() -> [u32; 98304]
     ensures { λ r. ⌜ 98304 ≡ length r ⌝ }
 {
     [7; 98304]
-}
-
-fn wide(x: u32) -> u64 {
-    x as u64
 }
 
 // What a call says: of a body the deletes, items and fields and, as the cursor, the bits used.

@@ -8,25 +8,10 @@ use geometry::Vector;
 use geometry::VectorRead;
 use recorded::answers;
 use recorded::answers::Answer;
-
-// A NaN, which no answer holds, has the pattern of the quiet one.
-pub fn double_bits(x: f64) -> u64 {
-    if x != x {
-        return 0x7ff8_0000_0000_0000;
-    }
-    f64::to_bits(x)
-}
-
-fn narrow_bits(x: f32) -> u32 {
-    if x != x {
-        return 0x7fc0_0000;
-    }
-    f32::to_bits(x)
-}
+pub use words::double_bits;
 
 pub fn single_bits(x: f32) -> u64 {
-    let narrow = narrow_bits(x);
-    narrow as u64
+    words::wide(words::single_bits(x))
 }
 
 // What a refusal says, and where the cursor that stood at `at` stands after it (geometry's specs/Refusals).

@@ -3,11 +3,13 @@ use crate::geometric;
 use recorded::answers;
 use recorded::answers::Answer;
 use recorded::answers::Outcome;
-use recorded::answers::Placed;
 use recorded::fields;
+use recorded::windows;
+use recorded::windows::Placed;
+use recorded::windows::Window;
 
-fn answer(bytes: &[u8], bits: u64, skip: u64) -> Answer {
-    let placed = answers::place(bytes, bits, skip);
+fn answer(bytes: &[u8], w: Window) -> Answer {
+    let placed = windows::place(bytes, w);
     match placed {
         Placed::Ready(c) => {
             let read = geometry::read_fixed_vector_normal(bytes, c);
@@ -18,11 +20,8 @@ fn answer(bytes: &[u8], bits: u64, skip: u64) -> Answer {
 }
 
 pub fn replay(s: &[u8], at: usize) -> Outcome {
-    let skip = fields::number(s, at);
-    let bits = fields::number(s, skip.next);
-    let bytes = fields::run(s, bits.next);
-    let end = fields::after_run(s, bits.next);
-    let expected = answers::recorded(s, end);
-    let got = answer(bytes, bits.value, skip.value);
-    answers::judge(s, expected, got)
+    let w = windows::of_case(s, at);
+    let bytes = fields::run(s, w.run);
+    let got = answer(bytes, w);
+    answers::judge(s, w.expected, got)
 }

@@ -4,11 +4,13 @@ use recorded::answers;
 use recorded::answers::Answer;
 use recorded::answers::Fault;
 use recorded::answers::Outcome;
-use recorded::answers::Placed;
 use recorded::fields;
+use recorded::windows;
+use recorded::windows::Placed;
+use recorded::windows::Window;
 
-fn answer(bytes: &[u8], bits: u64, skip: u64, scale: u32) -> Answer {
-    let placed = answers::place(bytes, bits, skip);
+fn answer(bytes: &[u8], w: Window, scale: u32) -> Answer {
+    let placed = windows::place(bytes, w);
     match placed {
         Placed::Ready(c) => {
             let read = geometry::read_vector_net_quantize(bytes, c, scale);
@@ -20,16 +22,13 @@ fn answer(bytes: &[u8], bits: u64, skip: u64, scale: u32) -> Answer {
 
 pub fn replay(s: &[u8], at: usize) -> Outcome {
     let field = fields::number(s, at);
-    let skip = fields::number(s, field.next);
-    let bits = fields::number(s, skip.next);
-    let bytes = fields::run(s, bits.next);
-    let end = fields::after_run(s, bits.next);
-    let expected = answers::recorded(s, end);
+    let w = windows::of_case(s, field.next);
+    let bytes = fields::run(s, w.run);
     let large = field.value;
     if 0xffff_ffff < large {
         return Outcome::Damaged(Fault::Number);
     }
     let scale = large as u32;
-    let got = answer(bytes, bits.value, skip.value, scale);
-    answers::judge(s, expected, got)
+    let got = answer(bytes, w, scale);
+    answers::judge(s, w.expected, got)
 }

@@ -7,7 +7,7 @@ use lib.ListN.{length, take, drop}
 use borrow.Author.Tests.{le-leb, lt-leb}
 use Rattle.schema.specs.Tables.{Tables, lookUps, declaredName}
 use Rattle.schema.specs.Spans.{entry}
-use Rattle.schema.specs.Labels.{bySchema, byDeclaration, containerLabel, leafLabel, labelBytes, part, labelPart}
+use Rattle.schema.specs.Labels.{bySchema, byDeclaration, containerLabel, leafLabel, labelBytes, nameIn, labelPart}
 use Rattle.schema.specs.declared.Entry.{Entry}
 use Rattle.schema.specs.declared.Label.the-variants.{Declared, Named}
 
@@ -30,16 +30,16 @@ unfolding leafLabel
 leaf-from t level handle e q = ap (byDeclaration (declaredName (t .declared) handle)) (container-from t level handle e q)
 
 -- a part that lies in its pool, and one that does not
-pub part-in : (pool : List ℕ) (start len : ℕ) → start + len ≤ length pool → part pool start len ≡ take len (drop start pool)
-unfolding part
+pub part-in : (pool : List ℕ) (start len : ℕ) → start + len ≤ length pool → nameIn pool start len ≡ take len (drop start pool)
+unfolding nameIn
 part-in pool start len h = rw (le-leb _ _ h)
 
-pub part-out : (pool : List ℕ) (start len : ℕ) → length pool < start + len → part pool start len ≡ []
-unfolding part
+pub part-out : (pool : List ℕ) (start len : ℕ) → length pool < start + len → nameIn pool start len ≡ []
+unfolding nameIn
 part-out pool start len h = rw (lt-leb _ _ h)
 
 -- as a slice from start to end is cut
-pub part-between : (pool : List ℕ) (start len : ℕ) → start + len ≤ length pool → take (start + len - start) (drop start pool) ≡ part pool start len
+pub part-between : (pool : List ℕ) (start len : ℕ) → start + len ≤ length pool → take (start + len - start) (drop start pool) ≡ nameIn pool start len
 part-between pool start len h =
     let e : start + len - start ≡ len = omega arith in
     ap (λ (n : ℕ). take n (drop start pool)) e ∙ sym (part-in pool start len h)

@@ -10,7 +10,7 @@ use borrow.Author.Tests.{ltb-true, leb-true, eqb-true}
 use Rattle.bits.specs.Choice.{if_then_else_}
 use Rattle.schema.specs.Tables.{Tables, absent, arrayKind, nameKind, cell, fits, rowCount, rowOf, childAt, nameAt, child, schemaName, declaredName}
 use Rattle.schema.specs.Layout.{allFrom, nameFits, kindFits, rowFits, declaredFits, schemaSized, declaredSized, rootFits, schemaLaid, declaredLaid, laidOut, maxLevels, maxRows, maxHandles, maxName, maxPool}
-use Rattle.schema.specs.Labels.{bySchema, byDeclaration, containerLabel, leafLabel, labelBytes, labelLength, labelPart}
+use Rattle.schema.specs.Labels.{bySchema, byDeclaration, containerLabel, leafLabel, labelBytes, labelLength, labelPart, NameLies, LabelLies}
 use Rattle.schema.specs.declared.Row.{Row}
 use Rattle.schema.specs.declared.Row.the-variants as Row
 use Rattle.schema.specs.declared.Child.the-variants.{Array}
@@ -23,11 +23,7 @@ use Rattle.schema.proofs.LayoutLaws.{and-left, and-right, and-three, an
 use Rattle.schema.proofs.LabelLaws.{declared-bytes, named-bytes}
 use Rattle.schema.proofs.DecimalLaws.{decimal-some}
 
--- a name of at most 64 bytes that lies in a pool of so many
-abbrev pub Lies : (pool start len : ℕ) → Type 0
-Lies pool start len = (len ≤ maxName) × (start + len ≤ pool)
-
-lies : (pool start len : ℕ) → nameFits pool start len ≡ true → Lies pool start len
+lies : (pool start len : ℕ) → nameFits pool start len ≡ true → NameLies pool start len
 unfolding nameFits
 lies pool start len e =
     let a = leb len maxName in
@@ -126,11 +122,11 @@ module _ (t : Tables) (levels root : ℕ) (l : Laid t levels root) where
           omega arith
 
   -- a schema's name lies in its pool
-  pub name-lies : (level handle start len : ℕ) → schemaName (t .rows) level handle ≡ At start len → Lies (length (t .names)) start len
+  pub name-lies : (level handle start len : ℕ) → schemaName (t .rows) level handle ≡ At start len → NameLies (length (t .names)) start len
   unfolding schemaName kindFits
   name-lies level handle start len e = go (rowOf (t .rows) level nameKind handle) refl e
     where
-      go : (r : Row) → rowOf (t .rows) level nameKind handle ≡ r → nameAt (t .rows) r ≡ At start len → Lies (length (t .names)) start len
+      go : (r : Row) → rowOf (t .rows) level nameKind handle ≡ r → nameAt (t .rows) r ≡ At start len → NameLies (length (t .names)) start len
       go Row.Missing q h = let z : _≡_ {A = ℕ} 0 1 = cc in absurd (omega arith)
       go (Row.At j) q h =
           let s : cell (t .rows) j 3 ≡ start = cc in
@@ -139,13 +135,13 @@ module _ (t : Tables) (levels root : ℕ) (l : Laid t levels root) where
           omega arith
 
   -- a declared name lies in its pool
-  pub declared-lies : (handle start len : ℕ) → declaredName (t .declared) handle ≡ At start len → Lies (length (t .declaredNames)) start len
+  pub declared-lies : (handle start len : ℕ) → declaredName (t .declared) handle ≡ At start len → NameLies (length (t .declaredNames)) start len
   unfolding declaredName declaredFits
   declared-lies handle start len e = go (ltb (2 * handle) (length (t .declared))) refl (eqb (getD (t .declared) (2 * handle) 0) absent) refl e
     where
       go : (b : Bool) → ltb (2 * handle) (length (t .declared)) ≡ b → (a : Bool) → eqb (getD (t .declared) (2 * handle) 0) absent ≡ a
           → (if b then (if a then Unnamed else At (getD (t .declared) (2 * handle) 0) (getD (t .declared) (2 * handle + 1) 0)) else Unnamed) ≡ At start len
-          → Lies (length (t .declaredNames)) start len
+          → NameLies (length (t .declaredNames)) start len
       go false q a r h = let z : _≡_ {A = ℕ} 0 1 = cc in absurd (omega arith)
       go true q true r h = let z : _≡_ {A = ℕ} 0 1 = cc in absurd (omega arith)
       go true q false r h =
@@ -156,12 +152,6 @@ module _ (t : Tables) (levels root : ℕ) (l : Laid t levels root) where
           let n : getD (t .declared) (2 * handle + 1) 0 ≡ len = cc in
           let b = lies (length (t .declaredNames)) (getD (t .declared) (2 * handle) 0) (getD (t .declared) (2 * handle + 1) 0) (rw r at f) in
           omega arith
-
--- a label's name lies in its pool
-unfoldable pub LabelLies : Tables → Label → Type 0
-LabelLies t (Declared start len) = Lies (length (t .declaredNames)) start len
-LabelLies t (Named start len) = Lies (length (t .names)) start len
-LabelLies t Plain = Unit
 
 module _ (t : Tables) (levels root : ℕ) (l : Laid t levels root) where
   pub container-lies : (level handle : ℕ) → LabelLies t (containerLabel t level handle)

@@ -5,6 +5,7 @@ use Prim.Native.Nat.{ℕ, zero, suc, _+_, _-_, _≤_, _<_}
 use native.Mathlib.Omega.{arith}
 use lib.Dec.{eqb}
 use borrow.Author.Tests.{not-true, not-false, eqb-true, eqb-false}
+use Rattle.bits.proofs.ChoiceLaws.{and-true}
 use Rattle.schema.specs.Layout.{allFrom}
 
 -- x answers the first part, and y the second
@@ -26,12 +27,10 @@ passed-both a b c x y z e h f k g = passed (a && b) c y z (passed a b x y e h f)
 
 -- and back: the parts of what holds
 pub and-left : (a b : Bool) → (a && b) ≡ true → a ≡ true
-and-left true b e = refl
-and-left false b e = e
+and-left a b e = and-true a b e .0
 
 pub and-right : (a b : Bool) → (a && b) ≡ true → b ≡ true
-and-right true b e = e
-and-right false b e = let z : _≡_ {A = ℕ} 0 1 = cc in absurd (omega arith)
+and-right a b e = and-true a b e .1
 
 pub and-three : (a b c : Bool) → (a && b && c) ≡ true → (a ≡ true) × (b ≡ true) × (c ≡ true)
 and-three a b c e =

@@ -8,6 +8,7 @@ use native.Mathlib.Omega.{arith}
 use lib.Dec.{leb, eqb}
 use lib.ListN.{length}
 use borrow.Author.Tests.{eq-eqb, ne-eqb, leb-true, leb-false}
+use Rattle.bits.proofs.ChoiceLaws.{and-false}
 use Rattle.bits.specs.Choice.{if_then_else_}
 use Rattle.schema.specs.Tables.{cell, fits, firstRow, rowIn, rowOf, rowCount}
 use Rattle.schema.specs.declared.Row.{Row}
@@ -134,10 +135,6 @@ module _ (rows : List ℕ) (level kind handle : ℕ) where
 
 -- the kind of a row whose handle or level is another, and of one whose both are these
 module _ (rows : List ℕ) (level handle i : ℕ) where
-  and-false : (b : Bool) → (b && false) ≡ false
-  and-false true = refl
-  and-false false = refl
-
   and-true : (b : Bool) → (b && true) ≡ b
   and-true true = refl
   and-true false = refl

@@ -11,69 +11,69 @@ use lib.ListN.{length, getD, set, length-set, length-replicate, getD-replicate}
 use lib.Seq.{getD-set-same, getD-set-other}
 use borrow.Author.Tests.{eq-eqb, ne-eqb, eqb-true, eqb-false, leb-true, leb-false}
 use Rattle.schema.specs.Tables.{cell, fits, arrayKind, nameKind, childAt, nameAt, firstRow, rowCount, rowIn, rowOf, child, schemaName}
-use Rattle.schema.specs.Spans.{entry, entryIn, noSpans, place, widened, spansFrom, spansOf, entryAt}
+use Rattle.schema.specs.Spans.{entry, entryIn, noSpans, spanPlace, widened, spansFrom, spansOf, entryAt}
 use Rattle.schema.proofs.RowLaws.{skip-front, skip-back, none-left, other-level}
 
 -- where a span stands
-pub place-low : (level : ℕ) → level < 64 → 2 * level ≡ place level
-unfolding place
+pub place-low : (level : ℕ) → level < 64 → 2 * level ≡ spanPlace level
+unfolding spanPlace
 place-low level h = omega arith
 
-pub place-high : (level : ℕ) → 64 ≤ level → 128 ≡ place level
-unfolding place
+pub place-high : (level : ℕ) → 64 ≤ level → 128 ≡ spanPlace level
+unfolding spanPlace
 place-high level h = omega arith
 
-pub place-le : (level : ℕ) → place level ≤ 128
-unfolding place
+pub place-le : (level : ℕ) → spanPlace level ≤ 128
+unfolding spanPlace
 place-le level = omega arith
 
-apart : (a b : ℕ) → (place a ≡ place b → ⊥) → (place b ≡ place a + 1 → ⊥) × (place b + 1 ≡ place a → ⊥)
-unfolding place
+apart : (a b : ℕ) → (spanPlace a ≡ spanPlace b → ⊥) → (spanPlace b ≡ spanPlace a + 1 → ⊥) × (spanPlace b + 1 ≡ spanPlace a → ⊥)
+unfolding spanPlace
 apart a b h = (λ q. omega arith, λ q. omega arith)
 
 -- one row: the span of its level is widened, and no other
-pub widened-new : (s : List ℕ) (l i p : ℕ) → p ≡ place l → getD s (p + 1) 0 ≡ 0 → set (set s p i) (p + 1) (i + 1) ≡ widened s l i
+pub widened-new : (s : List ℕ) (l i p : ℕ) → p ≡ spanPlace l → getD s (p + 1) 0 ≡ 0 → set (set s p i) (p + 1) (i + 1) ≡ widened s l i
 unfolding widened
 widened-new s l i p q e = rw q (sym (rw (eq-eqb _ _ (rw q at e))))
 
-pub widened-more : (s : List ℕ) (l i p : ℕ) → p ≡ place l → (getD s (p + 1) 0 ≡ 0 → ⊥) → set s (p + 1) (i + 1) ≡ widened s l i
+pub widened-more : (s : List ℕ) (l i p : ℕ) → p ≡ spanPlace l → (getD s (p + 1) 0 ≡ 0 → ⊥) → set s (p + 1) (i + 1) ≡ widened s l i
 unfolding widened
 widened-more s l i p q e = rw q (sym (rw (ne-eqb _ _ (rw q at e))))
 
 module _ (s : List ℕ) (l i : ℕ) (sized : length s ≡ 130) where
   widened-sized : length (widened s l i) ≡ 130
-  widened-sized = go (eqb (getD s (place l + 1) 0) 0) refl
+  widened-sized = go (eqb (getD s (spanPlace l + 1) 0) 0) refl
     where
-      go : (b : Bool) → eqb (getD s (place l + 1) 0) 0 ≡ b → length (widened s l i) ≡ 130
+      go : (b : Bool) → eqb (getD s (spanPlace l + 1) 0) 0 ≡ b → length (widened s l i) ≡ 130
       go true e = rw (← (widened-new s l i _ refl (eqb-true _ _ e))) (simp length-set sized)
       go false e = rw (← (widened-more s l i _ refl (eqb-false _ _ e))) (simp length-set sized)
 
-  widened-last : getD (widened s l i) (place l + 1) 0 ≡ i + 1
-  widened-last = go (eqb (getD s (place l + 1) 0) 0) refl
+  widened-last : getD (widened s l i) (spanPlace l + 1) 0 ≡ i + 1
+  widened-last = go (eqb (getD s (spanPlace l + 1) 0) 0) refl
     where
-      go : (b : Bool) → eqb (getD s (place l + 1) 0) 0 ≡ b → getD (widened s l i) (place l + 1) 0 ≡ i + 1
+      go : (b : Bool) → eqb (getD s (spanPlace l + 1) 0) 0 ≡ b → getD (widened s l i) (spanPlace l + 1) 0 ≡ i + 1
       go true e =
-          rw (← (widened-new s l i _ refl (eqb-true _ _ e))) (getD-set-same (set s (place l) i) (place l + 1) (i + 1) 0 (simp length-set (omega (arith, place-le l))))
-      go false e = rw (← (widened-more s l i _ refl (eqb-false _ _ e))) (getD-set-same s (place l + 1) (i + 1) 0 (omega (arith, place-le l)))
+          rw (← (widened-new s l i _ refl (eqb-true _ _ e))) (getD-set-same (set s (spanPlace l) i) (spanPlace l + 1) (i + 1) 0 (simp length-set (omega (arith, place-le l))))
+      go false e = rw (← (widened-more s l i _ refl (eqb-false _ _ e))) (getD-set-same s (spanPlace l + 1) (i + 1) 0 (omega (arith, place-le l)))
 
   -- the first row of a span stays, and the first row of all that makes one is i
-  first-new : getD s (place l + 1) 0 ≡ 0 → getD (widened s l i) (place l) 0 ≡ i
+  first-new : getD s (spanPlace l + 1) 0 ≡ 0 → getD (widened s l i) (spanPlace l) 0 ≡ i
   first-new e =
       rw (← (widened-new s l i _ refl e))
-      (getD-set-other (set s (place l) i) (place l + 1) (place l) (i + 1) 0 (λ q. omega arith)
-      ∙ getD-set-same s (place l) i 0 (omega (arith, place-le l)))
+      (getD-set-other (set s (spanPlace l) i) (spanPlace l + 1) (spanPlace l) (i + 1) 0 (λ q. omega arith)
+      ∙ getD-set-same s (spanPlace l) i 0 (omega (arith, place-le l)))
 
-  first-kept : (getD s (place l + 1) 0 ≡ 0 → ⊥) → getD (widened s l i) (place l) 0 ≡ getD s (place l) 0
-  first-kept e = rw (← (widened-more s l i _ refl e)) (getD-set-other s (place l + 1) (place l) (i + 1) 0 (λ q. omega arith))
+  first-kept : (getD s (spanPlace l + 1) 0 ≡ 0 → ⊥) → getD (widened s l i) (spanPlace l) 0 ≡ getD s (spanPlace l) 0
+  first-kept e = rw (← (widened-more s l i _ refl e)) (getD-set-other s (spanPlace l + 1) (spanPlace l) (i + 1) 0 (λ q. omega arith))
 
-  widened-other : (k : ℕ) → (k ≡ place l → ⊥) → (k ≡ place l + 1 → ⊥) → getD (widened s l i) k 0 ≡ getD s k 0
-  widened-other k h₀ h₁ = go (eqb (getD s (place l + 1) 0) 0) refl
+  widened-other : (k : ℕ) → (k ≡ spanPlace l → ⊥) → (k ≡ spanPlace l + 1 → ⊥) → getD (widened s l i) k 0 ≡ getD s k 0
+  widened-other k h₀ h₁ = go (eqb (getD s (spanPlace l + 1) 0) 0) refl
     where
-      go : (b : Bool) → eqb (getD s (place l + 1) 0) 0 ≡ b → getD (widened s l i) k 0 ≡ getD s k 0
+      go : (b : Bool) → eqb (getD s (spanPlace l + 1) 0) 0 ≡ b → getD (widened s l i) k 0 ≡ getD s k 0
       go true e =
           rw (← (widened-new s l i _ refl (eqb-true _ _ e)))
-          (getD-set-other (set s (place l) i) (place l + 1) k (i + 1) 0 h₁ ∙ getD-set-other s (place l) k i 0 h₀)
-      go false e = rw (← (widened-more s l i _ refl (eqb-false _ _ e))) (getD-set-other s (place l + 1) k (i + 1) 0 h₁)
+          (getD-set-other (set s (spanPlace l) i) (spanPlace l + 1) k (i + 1) 0 h₁ ∙ getD-set-other s (spanPlace l) k i 0 h₀)
+      go false e = rw (← (widened-more s l i _ refl (eqb-false _ _ e))) (getD-set-other s (spanPlace l + 1) k (i + 1) 0 h₁)
 
 -- one row after the other, as a loop leaves them
 pub spans-begin : (rows : List ℕ) → spansFrom (rowCount rows - 0) rows noSpans 0 ≡ spansOf rows
@@ -96,17 +96,17 @@ spans-end rows s n i h e =
 -- the spans cover the rows of a level, of the first i rows
 record Covers (rows s : List ℕ) (level i : ℕ) : Type 0 where
   pub sized : length s ≡ 130
-  pub first-le : getD s (place level) 0 ≤ i
-  pub last-le : getD s (place level + 1) 0 ≤ i
-  pub covered : (j : ℕ) → j < i → cell rows j 0 ≡ level → (getD s (place level) 0 ≤ j) × (j < getD s (place level + 1) 0)
+  pub first-le : getD s (spanPlace level) 0 ≤ i
+  pub last-le : getD s (spanPlace level + 1) 0 ≤ i
+  pub covered : (j : ℕ) → j < i → cell rows j 0 ≡ level → (getD s (spanPlace level) 0 ≤ j) × (j < getD s (spanPlace level + 1) 0)
 
 module _ (rows s : List ℕ) (level i : ℕ) (v : Covers rows s level i) where
   -- a row with another place
-  covers-other : (l : ℕ) → l ≡ cell rows i 0 → (place l ≡ place level → ⊥) → Covers rows (widened s l i) level (i + 1)
+  covers-other : (l : ℕ) → l ≡ cell rows i 0 → (spanPlace l ≡ spanPlace level → ⊥) → Covers rows (widened s l i) level (i + 1)
   covers-other l el h =
       let a = apart l level h in
-      let f = widened-other s l i (v .sized) (place level) (λ q. h (sym q)) (a .0) in
-      let g = widened-other s l i (v .sized) (place level + 1) (a .1) (λ q. h (omega arith)) in
+      let f = widened-other s l i (v .sized) (spanPlace level) (λ q. h (sym q)) (a .0) in
+      let g = widened-other s l i (v .sized) (spanPlace level + 1) (a .1) (λ q. h (omega arith)) in
       record {
         sized = widened-sized s l i (v .sized);
         first-le = omega (arith, f, v .first-le);
@@ -114,15 +114,15 @@ module _ (rows s : List ℕ) (level i : ℕ) (v : Covers rows s level i) where
         covered = λ j lt e. rw (f, g) (go j lt e (leb i j) refl);
       }
     where
-      go : (j : ℕ) → j < i + 1 → cell rows j 0 ≡ level → (b : Bool) → leb i j ≡ b → (getD s (place level) 0 ≤ j) × (j < getD s (place level + 1) 0)
+      go : (j : ℕ) → j < i + 1 → cell rows j 0 ≡ level → (b : Bool) → leb i j ≡ b → (getD s (spanPlace level) 0 ≤ j) × (j < getD s (spanPlace level + 1) 0)
       go j lt e true q =
           let z = leb-true i j q in
           let same : i ≡ j = omega arith in
-          absurd (h (ap place (el ∙ ap (λ (k : ℕ). cell rows k 0) same ∙ e)))
+          absurd (h (ap spanPlace (el ∙ ap (λ (k : ℕ). cell rows k 0) same ∙ e)))
       go j lt e false q = v .covered j (leb-false i j q) e
 
   -- a row with the same place
-  covers-same : (l : ℕ) → place l ≡ place level → Covers rows (widened s l i) level (i + 1)
+  covers-same : (l : ℕ) → spanPlace l ≡ spanPlace level → Covers rows (widened s l i) level (i + 1)
   covers-same l p =
       let g = widened-last s l i (v .sized) in
       record {
@@ -132,13 +132,13 @@ module _ (rows s : List ℕ) (level i : ℕ) (v : Covers rows s level i) where
         covered = λ j lt e. go j lt e (leb i j) refl;
       }
     where
-      last : getD (widened s l i) (place level + 1) 0 ≡ i + 1
+      last : getD (widened s l i) (spanPlace level + 1) 0 ≡ i + 1
       last = rw (← p) (widened-last s l i (v .sized))
 
-      first : getD (widened s l i) (place level) 0 ≤ i
-      first = first-by (eqb (getD s (place l + 1) 0) 0) refl
+      first : getD (widened s l i) (spanPlace level) 0 ≤ i
+      first = first-by (eqb (getD s (spanPlace l + 1) 0) 0) refl
         where
-          first-by : (b : Bool) → eqb (getD s (place l + 1) 0) 0 ≡ b → getD (widened s l i) (place level) 0 ≤ i
+          first-by : (b : Bool) → eqb (getD s (spanPlace l + 1) 0) 0 ≡ b → getD (widened s l i) (spanPlace level) 0 ≤ i
           first-by true e = rw (← p) (omega (arith, first-new s l i (v .sized) (eqb-true _ _ e)))
           first-by false e =
               let k = first-kept s l i (v .sized) (eqb-false _ _ e) in
@@ -146,20 +146,20 @@ module _ (rows s : List ℕ) (level i : ℕ) (v : Covers rows s level i) where
               rw (← p) (omega (arith, k, rw (← p) at m))
 
       go : (j : ℕ) → j < i + 1 → cell rows j 0 ≡ level → (b : Bool) → leb i j ≡ b
-          → (getD (widened s l i) (place level) 0 ≤ j) × (j < getD (widened s l i) (place level + 1) 0)
+          → (getD (widened s l i) (spanPlace level) 0 ≤ j) × (j < getD (widened s l i) (spanPlace level + 1) 0)
       go j lt e true q = let z = leb-true i j q in (omega (arith, first), omega (arith, last))
       go j lt e false q =
           let z = leb-false i j q in
           let w = v .covered j z e in
           let w₁ = w .1 in
-          let n : getD s (place l + 1) 0 ≡ 0 → ⊥ = λ e₀. omega (arith, rw (← p) at w₁) in
-          let k : getD (widened s l i) (place level) 0 ≡ getD s (place level) 0 = rw (← p) (first-kept s l i (v .sized) n) in
+          let n : getD s (spanPlace l + 1) 0 ≡ 0 → ⊥ = λ e₀. omega (arith, rw (← p) at w₁) in
+          let k : getD (widened s l i) (spanPlace level) 0 ≡ getD s (spanPlace level) 0 = rw (← p) (first-kept s l i (v .sized) n) in
           (omega (arith, k, w .0), omega (arith, last))
 
   covers-row : Covers rows (widened s (cell rows i 0) i) level (i + 1)
-  covers-row = go (eqb (place (cell rows i 0)) (place level)) refl
+  covers-row = go (eqb (spanPlace (cell rows i 0)) (spanPlace level)) refl
     where
-      go : (b : Bool) → eqb (place (cell rows i 0)) (place level) ≡ b → Covers rows (widened s (cell rows i 0) i) level (i + 1)
+      go : (b : Bool) → eqb (spanPlace (cell rows i 0)) (spanPlace level) ≡ b → Covers rows (widened s (cell rows i 0) i) level (i + 1)
       go true e = covers-same (cell rows i 0) (eqb-true _ _ e)
       go false e = covers-other (cell rows i 0) refl (eqb-false _ _ e)
 
@@ -172,8 +172,8 @@ covers-rows (suc left) rows s level i v =
 
 covers-none : (rows : List ℕ) (level : ℕ) → Covers rows noSpans level 0
 covers-none rows level =
-    let f = getD-replicate {A = ℕ} 130 (place level) 0 0 (omega (arith, place-le level)) in
-    let g = getD-replicate {A = ℕ} 130 (place level + 1) 0 0 (omega (arith, place-le level)) in
+    let f = getD-replicate {A = ℕ} 130 (spanPlace level) 0 0 (omega (arith, place-le level)) in
+    let g = getD-replicate {A = ℕ} 130 (spanPlace level + 1) 0 0 (omega (arith, place-le level)) in
     record {
       sized = length-replicate {A = ℕ} 130 0;
       first-le = omega (arith, f);
@@ -221,7 +221,7 @@ module _ (rows : List ℕ) (level kind handle f l n : ℕ) (last-le : l ≤ n)
 
 -- a look-up in the span of the level
 module _ (rows : List ℕ) (level kind handle : ℕ) where
-  pub row-in-span : rowIn rows (getD (spansOf rows) (place level) 0) (getD (spansOf rows) (place level + 1) 0) level kind handle
+  pub row-in-span : rowIn rows (getD (spansOf rows) (spanPlace level) 0) (getD (spansOf rows) (spanPlace level + 1) 0) level kind handle
       ≡ rowOf rows level kind handle
   unfolding rowIn rowOf
   row-in-span =

@@ -13,7 +13,7 @@ use Rattle.schema.specs.Tables.{absent, cell, fits, arrayKind, nameKind,
 use Rattle.schema.specs.Layout.{allFrom, nameFits, kindFits, rowFits, declaredFits, schemaSized, declaredSized, rootFits, schemaLaid, declaredLaid, laidOut}
 use Rattle.schema.specs.Labels.{bySchema, containerLabel, labelBytes, unnamed}
 use Rattle.schema.specs.SchemaFile.{Stated, stated, about, ofStated, isStated, childStated, labelStated}
-use Rattle.schema.specs.TwelveLevels.{twelveLevels, levelCount, schemaRows, schemaNames, ascii, rowNumbers, nameBytes, enough, filled, filledRows, filledNames}
+use Rattle.schema.specs.TwelveLevels.{twelveLevels, levelCount, schemaRows, schemaNames, ascii, rowNumbers, nameBytes, enough, fillAnswer, filledRows, filledNames}
 use Rattle.schema.specs.declared.Row.{Row}
 use Rattle.schema.specs.declared.Row.the-variants as Row
 use Rattle.schema.specs.declared.Child.the-variants.{Leaf}
@@ -25,12 +25,12 @@ use Rattle.schema.specs.declared.Filled.the-variants.{Done, Short}
 -- the answer and the two buffers
 module _ (rows names : List ℕ) where
   pub record Fills (r : Filled) (rows′ names′ : List ℕ) : Type 0 where
-    pub answer : r ≡ filled rows names
+    pub answer : r ≡ fillAnswer rows names
     pub rows-are : rows′ ≡ filledRows rows names
     pub names-are : names′ ≡ filledNames rows names
 
   not-enough : enough rows names ≡ false → Fills (Short rowNumbers nameBytes) rows names
-  unfolding filled filledRows filledNames
+  unfolding fillAnswer filledRows filledNames
   not-enough e = record { answer = rw e; rows-are = rw e; names-are = rw e }
 
   pub short-rows : length rows < rowNumbers → Fills (Short rowNumbers nameBytes) rows names
@@ -43,7 +43,7 @@ module _ (rows names : List ℕ) where
 
   pub both-fit : (rows′ names′ : List ℕ) → rowNumbers ≤ length rows → nameBytes ≤ length names → rows′ ≡ put rows 0 schemaRows
       → names′ ≡ put names 0 schemaNames → Fills Done rows′ names′
-  unfolding enough filled filledRows filledNames
+  unfolding enough fillAnswer filledRows filledNames
   both-fit rows′ names′ h k e f =
       let a = le-leb _ _ h in
       let b = le-leb _ _ k in

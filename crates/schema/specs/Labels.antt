@@ -1,11 +1,12 @@
 -- Labels and paths (01, Walking an array). A path joins `[index]` and `.label`.
-use Prim.Native.Nat.{ℕ, _+_}
+use Prim.Native.Nat.{ℕ, _+_, _≤_}
 use mathlib.Core.List.{List, [], _∷_, _++_}
 use lib.ListN.{length, take, drop}
 use lib.Dec.{leb}
 use Rattle.bits.specs.Choice.{if_then_else_}
 unfoldable pub use Rattle.schema.specs.Decimals.{decimal}
 use Rattle.schema.specs.Tables.{Tables, schemaName, declaredName}
+use Rattle.schema.specs.Layout.{maxName}
 use Rattle.schema.specs.declared.Name.{Name}
 use Rattle.schema.specs.declared.Name.the-variants.{At, Unnamed}
 use Rattle.schema.specs.declared.Label.{Label}
@@ -15,7 +16,7 @@ use Rattle.schema.specs.declared.Label.the-variants.{Declared, Named, Pl
 abbrev pub unnamed : (handle : ℕ) → List ℕ
 unnamed handle = 95 ∷ 104 ∷ decimal handle
 
--- the schema's name, else `_h` and the handle: a container never takes the declared name
+-- by the schema, or by `_h` and the number: so containers are called, whatever is declared
 unfoldable pub bySchema : Name → Label
 bySchema (At start len) = Named start len
 bySchema Unnamed = Plain
@@ -23,7 +24,7 @@ bySchema Unnamed = Plain
 unfoldable pub containerLabel : Tables → (level handle : ℕ) → Label
 containerLabel t level handle = bySchema (schemaName (t .rows) level handle)
 
--- a leaf's label is the declared name, else as a container's
+-- a leaf is called by its declaration, and where there is none as a container is
 unfoldable pub byDeclaration : Name → Label → Label
 byDeclaration (At start len) other = Declared start len
 byDeclaration Unnamed other = other
@@ -31,7 +32,7 @@ byDeclaration Unnamed other = other
 unfoldable pub leafLabel : Tables → (level handle : ℕ) → Label
 leafLabel t level handle = byDeclaration (declaredName (t .declared) handle) (containerLabel t level handle)
 
--- a label's bytes: a part of one of the two pools where a name exists
+-- a label's bytes, from the one pool or the other if it has a name
 unfoldable pub labelBytes : Tables → (handle : ℕ) → Label → List ℕ
 labelBytes t handle (Declared start len) = take len (drop start (t .declaredNames))
 labelBytes t handle (Named start len) = take len (drop start (t .names))
@@ -43,13 +44,24 @@ labelLength handle (Declared start len) = len
 labelLength handle (Named start len) = len
 labelLength handle Plain = 2 + length (decimal handle)
 
--- the part of the one pool or the other that a label names; where it does not lie in its pool, and for a plain one, there is none
-unfoldable pub part : (pool : List ℕ) (start len : ℕ) → List ℕ
-part pool start len = if leb (start + len) (length pool) then take len (drop start pool) else []
+-- a name that isn't too long lies in a pool of so many bytes
+abbrev pub NameLies : (pool start len : ℕ) → Type 0
+NameLies pool start len = (len ≤ maxName) × (start + len ≤ pool)
 
+-- a label's name, if it has one, lies in its pool; so it does where the tables keep their layout
+unfoldable pub LabelLies : Tables → Label → Type 0
+LabelLies t (Declared start len) = NameLies (length (t .declaredNames)) start len
+LabelLies t (Named start len) = NameLies (length (t .names)) start len
+LabelLies t Plain = Unit
+
+-- the bytes of a name in its pool; none where it does not lie there
+unfoldable pub nameIn : (pool : List ℕ) (start len : ℕ) → List ℕ
+nameIn pool start len = if leb (start + len) (length pool) then take len (drop start pool) else []
+
+-- the part of the one pool or the other that a label names; a plain one names none
 unfoldable pub labelPart : (declaredPool schemaPool : List ℕ) → Label → List ℕ
-labelPart declaredPool schemaPool (Declared start len) = part declaredPool start len
-labelPart declaredPool schemaPool (Named start len) = part schemaPool start len
+labelPart declaredPool schemaPool (Declared start len) = nameIn declaredPool start len
+labelPart declaredPool schemaPool (Named start len) = nameIn schemaPool start len
 labelPart declaredPool schemaPool Plain = []
 
 -- `[index]`, `.label`, and the label of a kept tail, `_raw`

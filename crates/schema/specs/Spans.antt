@@ -22,13 +22,13 @@ entryIn rows first last level handle =
 abbrev pub noSpans : List ℕ
 noSpans = replicate (2 * maxLevels + 2) 0
 
-unfoldable pub place : (level : ℕ) → ℕ
-place level = 2 * min level maxLevels
+unfoldable pub spanPlace : (level : ℕ) → ℕ
+spanPlace level = 2 * min level maxLevels
 
 -- row i of a level widens its span
 unfoldable pub widened : (spans : List ℕ) (level i : ℕ) → List ℕ
 widened spans level i =
-    if eqb (getD spans (place level + 1) 0) 0 then set (set spans (place level) i) (place level + 1) (i + 1) else set spans (place level + 1) (i + 1)
+    if eqb (getD spans (spanPlace level + 1) 0) 0 then set (set spans (spanPlace level) i) (spanPlace level + 1) (i + 1) else set spans (spanPlace level + 1) (i + 1)
 
 -- the spans after the `left` rows from i on
 unfoldable pub spansFrom : (left : ℕ) (rows spans : List ℕ) (i : ℕ) → List ℕ
@@ -40,4 +40,4 @@ spansOf rows = spansFrom (rowCount rows) rows noSpans 0
 
 -- what the rows of a level's span say of a handle
 unfoldable pub entryAt : (rows spans : List ℕ) (level handle : ℕ) → Entry
-entryAt rows spans level handle = entryIn rows (getD spans (place level) 0) (getD spans (place level + 1) 0) level handle
+entryAt rows spans level handle = entryIn rows (getD spans (spanPlace level) 0) (getD spans (spanPlace level + 1) 0) level handle

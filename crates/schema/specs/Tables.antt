@@ -18,13 +18,14 @@ pub record Tables : Type 0 where
   pub declared : List ℕ  -- for each handle the start and the length of its declared name
   pub declaredNames : List ℕ  -- the declared name pool
 
-abbrev pub noTables : Tables
-noTables = record { rows = []; names = []; declared = []; declaredNames = [] }
-
--- tables by their parts; look-ups of labels need no pool
+-- tables by their parts
 abbrev pub tables : (rows names declared declaredNames : List ℕ) → Tables
 tables rows names declared declaredNames = record { rows = rows; names = names; declared = declared; declaredNames = declaredNames }
 
+abbrev pub noTables : Tables
+noTables = tables [] [] [] []
+
+-- look-ups of labels need no pool
 abbrev pub lookUps : (rows declared : List ℕ) → Tables
 lookUps rows declared = tables rows [] declared []
 

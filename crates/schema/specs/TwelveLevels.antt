@@ -1,4 +1,4 @@
--- The twelve levels of schema.rs as one table, and the levels that a walk may start at, by number.
+-- The twelve levels of schema.rs as one table, and those of them that schema.rs makes public, by number.
 use Prim.Native.Nat.{ℕ}
 use mathlib.Core.List.{List, [], _∷_}
 use Prim.Native.Char.{code}
@@ -9,7 +9,7 @@ use lib.ListN.{length}
 use lib.Dec.{leb}
 use Rattle.bits.specs.Choice.{if_then_else_}
 use Rattle.bits.specs.Runs.{put}
-use Rattle.schema.specs.Tables.{Tables}
+use Rattle.schema.specs.Tables.{Tables, tables}
 use Rattle.schema.specs.declared.Filled.{Filled}
 use Rattle.schema.specs.declared.Filled.the-variants.{Done, Short}
 
@@ -49,7 +49,7 @@ characterReport = 10
 abbrev pub affectedTarget : ℕ
 affectedTarget = 11
 
--- the levels that schema.rs makes public, which a walk may start at
+-- the levels that schema.rs makes public; any level of a table may be the root of a walk
 abbrev pub publicLevels : List ℕ
 publicLevels = combatRounds ∷ abilityCasts ∷ abilityEffects ∷ lifeChangeDamage ∷ lifeChangeSection ∷ lifeChangeBySection ∷ []
 
@@ -103,7 +103,7 @@ schemaNames =
     "ReportsEffectsStatisticLocalizedStatValueTimeAffectedTargetsArrayChangedComponentLifeResultDeltaLifebAliveAfterChangeRegionsDealtInteractionsReceivedInteractionsInteractionsAffectedPlayer"
 
 abbrev pub twelveLevels : Tables
-twelveLevels = record { rows = schemaRows; names = schemaNames; declared = []; declaredNames = [] }
+twelveLevels = tables schemaRows schemaNames [] []
 
 -- the levels, the numbers of the rows, and the bytes of the names
 abbrev pub levelCount : ℕ
@@ -119,8 +119,8 @@ nameBytes = 187
 unfoldable pub enough : (rows names : List ℕ) → Bool
 enough rows names = leb rowNumbers (length rows) && leb nameBytes (length names)
 
-unfoldable pub filled : (rows names : List ℕ) → Filled
-filled rows names = if enough rows names then Done else Short rowNumbers nameBytes
+unfoldable pub fillAnswer : (rows names : List ℕ) → Filled
+fillAnswer rows names = if enough rows names then Done else Short rowNumbers nameBytes
 
 unfoldable pub filledRows : (rows names : List ℕ) → List ℕ
 filledRows rows names = if enough rows names then put rows 0 schemaRows else rows

@@ -1,9 +1,9 @@
-// Labels: a leaf takes the declared name, else the schema's, else `_h` and the handle; a container never takes the declared
-// one.
+// Labels: a leaf is called by its declaration, by the schema where there is none, and by `_h` and its number where there is
+// neither; a declaration says nothing of a container.
 ghost use mathlib.Core.Path.{_≡_};
 ghost use mathlib.Core.List.{[]};
 ghost use Rattle.schema.specs.Tables.{lookUps, declaredName};
-ghost use Rattle.schema.specs.Labels.{bySchema, byDeclaration, containerLabel, leafLabel, labelLength, part, labelPart};
+ghost use Rattle.schema.specs.Labels.{bySchema, byDeclaration, containerLabel, leafLabel, labelLength, nameIn, labelPart};
 use crate::Entry;
 use crate::Label;
 use crate::Name;
@@ -82,7 +82,7 @@ pub fn label_length(label: Label, handle: u32) -> usize
 
 // The part of a pool from start, len bytes long; none where it does not lie in the pool.
 fn part_of<'a>(pool: &'a [u8], start: u32, len: u32) -> &'a [u8]
-    ensures { λ r. ⌜ now r ≡ part (now (pool .entry)) start len ⌝ }
+    ensures { λ r. ⌜ now r ≡ nameIn (now (pool .entry)) start len ⌝ }
 {
     let a = start as usize;
     let e = a + (len as usize);

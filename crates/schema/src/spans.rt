@@ -4,7 +4,7 @@ ghost use Prim.Native.Nat.{_+_, _-_, _*_, _^_, _≤_, _<_};
 ghost use lib.Dec.{eqb};
 ghost use lib.ListN.{length};
 ghost use Rattle.schema.specs.Tables.{rowSize, fits, arrayKind, nameKind};
-ghost use Rattle.schema.specs.Spans.{place, widened, spansOf, entryIn, entryAt};
+ghost use Rattle.schema.specs.Spans.{spanPlace, widened, spansOf, entryIn, entryAt};
 use crate::ARRAY_KIND;
 use crate::Child;
 use crate::Entry;
@@ -22,7 +22,7 @@ const SHARED: usize = 128;
 
 // Where the span of a level stands.
 fn place_of(level: u32) -> usize
-    ensures { λ r. ⌜ (r ≡ place level) × (r ≤ 128) ⌝ }
+    ensures { λ r. ⌜ (r ≡ spanPlace level) × (r ≤ 128) ⌝ }
 {
     if level < 64 {
         2 * (level as usize)

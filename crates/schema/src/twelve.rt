@@ -3,7 +3,7 @@ ghost use mathlib.Core.Path.{_≡_};
 ghost use Prim.Native.Nat.{_≤_};
 ghost use lib.ListN.{length};
 ghost use Rattle.bits.specs.Runs.{put};
-ghost use Rattle.schema.specs.TwelveLevels.{publicLevels, filled, filledRows, filledNames};
+ghost use Rattle.schema.specs.TwelveLevels.{publicLevels, fillAnswer, filledRows, filledNames};
 use crate::Filled;
 use crate::table::NAMES;
 use crate::table::ROWS;
@@ -82,7 +82,7 @@ fn copy_bytes(d: &mut [u8], s: &[u8])
 
 // The table to the front of the two buffers; what both need where one is too short.
 pub fn fill_schema(rows: &mut [u32], names: &mut [u8]) -> Filled
-    ensures answer { λ r. ⌜ r ≡ filled (now (rows .entry)) (now (names .entry)) ⌝ }
+    ensures answer { λ r. ⌜ r ≡ fillAnswer (now (rows .entry)) (now (names .entry)) ⌝ }
     ensures rows { λ r. ⌜ now (rows .exit) ≡ filledRows (now (rows .entry)) (now (names .entry)) ⌝ }
     ensures names { λ r. ⌜ now (names .exit) ≡ filledNames (now (rows .entry)) (now (names .entry)) ⌝ }
 {

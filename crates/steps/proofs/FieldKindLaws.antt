@@ -1,35 +1,34 @@
 -- The sink of a walk: its ways out are those of its kind of walk, and what it makes of a field goes by what the field is.
 use Prim.Native.Nat.{ℕ, zero, suc, _-_, _<_}
 use native.Mathlib.Omega.{arith}
-use mathlib.Core.Path.{_≡_, refl, sym, ap, subst, _∙_}
+use mathlib.Core.Path.{_≡_, refl, sym, ap, _∙_}
 use mathlib.Core.Bool.{Bool, true, false}
 use mathlib.Core.List.{List, [], _∷_, _++_}
 use lib.Dec.{eqb}
-use borrow.Author.Tests.{ne-eqb, eq-eqb, eqb-true}
+use borrow.Author.Tests.{ne-eqb}
 use Rattle.bits.proofs.Never.{never}
 use Rattle.bits.specs.Choice.{if_then_else_}
 use Rattle.schema.specs.Tables.{Tables, tables, lookUps, child}
-use Rattle.schema.specs.Labels.{labelBytes, containerLabel, leafLabel, dot}
+use Rattle.schema.specs.Labels.{labelBytes, containerLabel, leafLabel, LabelLies, dot}
 use Rattle.schema.specs.declared.Child.{Child}
 use Rattle.schema.specs.declared.Child.the-variants as child
 use Rattle.schema.specs.declared.Label.{Label}
 use Rattle.schema.specs.declared.Label.the-variants as label
 use Rattle.schema.proofs.LabelLaws.{container-of, leaf-of}
-use Rattle.schema.proofs.LaidLaws.{LabelLies}
 use Rattle.framing.specs.Windows.{Window}
 use Rattle.framing.specs.Events.{nested, truncation, Trace}
 use Rattle.framing.specs.Paths.{grown, noted, given}
-use Rattle.framing.specs.Walk as W
 use Rattle.framing.specs.Walk.{level, inItem, entering}
-use Rattle.framing.specs.Sinks.{onChild, structSinkOver, structSink, tooDeep, leafOf, objectField}
-use Rattle.steps.specs.Views.{flattensOf, leftoverOf, sinkFor, exitSink}
-use Rattle.steps.specs.Paths.{pools, Lies, itemPath, itemNoted}
+use Rattle.framing.specs.Sinks.{onChild, structSink, tooDeep, leafOf}
+use Rattle.steps.specs.Views.{sinkFor, exitSink}
+use Rattle.steps.specs.Paths.{pools, itemPath, itemNoted}
 use Rattle.steps.specs.Kinds.{kindBy, kindOf, KindLies}
 use Rattle.steps.specs.Gives.{taggedLeaf, flatField}
 use Rattle.steps.specs.declared.Sink.{Sink}
 use Rattle.steps.specs.declared.Sink.the-variants as sink
 use Rattle.steps.specs.declared.Kind.{Kind}
 use Rattle.steps.specs.declared.Kind.the-variants as kind
+use Rattle.steps.proofs.CaseLaws.{NotArray}
 use Rattle.steps.proofs.WalkLaws.{Alike}
 
 -- ---- ways out
@@ -56,7 +55,7 @@ pool-bytes rows names declared pool handle (label.Declared a n) = refl
 pool-bytes rows names declared pool handle (label.Named a n) = refl
 pool-bytes rows names declared pool handle label.Plain = refl
 
-pub pool-lies : (rows names declared pool : List ℕ) (x : Label) → Lies (tables rows names declared pool) x → Lies (pools names pool) x
+pub pool-lies : (rows names declared pool : List ℕ) (x : Label) → LabelLies (tables rows names declared pool) x → LabelLies (pools names pool) x
 unfolding LabelLies
 pool-lies rows names declared pool (label.Declared a n) h = h
 pool-lies rows names declared pool (label.Named a n) h = h
@@ -81,7 +80,7 @@ kind-tables (sink.Record trailer) rows names declared pool below lvl handle widt
     go (child.Array lower) = ap (λ (x : Label). if eqb width 0 then kind.Nothing else (if eqb below 0 then kind.Deep x else kind.Array lower x)) same
 kind-tables sink.Object rows names declared pool below lvl handle width = refl
 
-pub kind-lies : (s : Sink) (t : Tables) (below lvl handle width : ℕ) → ((l h : ℕ) → Lies t (leafLabel t l h)) → ((l h : ℕ) → Lies t (containerLabel t l h))
+pub kind-lies : (s : Sink) (t : Tables) (below lvl handle width : ℕ) → ((l h : ℕ) → LabelLies t (leafLabel t l h)) → ((l h : ℕ) → LabelLies t (containerLabel t l h))
     → KindLies t (kindOf s t below lvl handle width)
 unfolding kindOf
 kind-lies (sink.Record trailer) t below lvl handle width leaves containers = go (child (t .rows) lvl handle)
@@ -113,13 +112,6 @@ flat-pools rows names declared pool i path first handle w (kind.Deep x) = ap (λ
 flat-pools rows names declared pool i path first handle w (kind.Array lower x) = refl
 
 -- ---- a field
-
-abbrev pub NotArray : Kind → Type 0
-NotArray kind.Object = Unit
-NotArray kind.Nothing = Unit
-NotArray (kind.Leaf x) = Unit
-NotArray (kind.Deep x) = Unit
-NotArray (kind.Array lower x) = ⊥
 
 -- an array that is walked: its trace, by the level under it
 abbrev pub arrayField : Sink → Tables → (below : ℕ) (path : List ℕ) (handle : ℕ) → Window → (lower : ℕ) → Label → Trace

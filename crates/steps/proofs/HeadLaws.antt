@@ -6,25 +6,21 @@ use Prim.Native.Nat.{ℕ, zero, suc, _+_, _-_, _*_, _/_, _%_, _^_, _≤_, _<_}
 use native.Mathlib.Omega.{arith}
 use lib.Dec.{ltb, eqb}
 use borrow.Author.Tests.{lt-ltb, le-ltb, le-leb, lt-leb, eq-eqb, ne-eqb, eqb-true, eqb-false}
-use Rattle.bits.specs.Packed.{Number}
 use Rattle.bits.specs.Bits.{num, field}
-use Rattle.bits.specs.Packed.{packed}
+use Rattle.bits.specs.Packed.{Number, packed}
+use Rattle.bits.proofs.Never.{never}
 use Rattle.bits.specs.declared.Packed.{Packed}
 use Rattle.bits.specs.declared.Packed.the-variants.{Whole}
 use Rattle.bits.proofs.FieldLaws.{field-low, field-high, bound, joined, inside, placed}
 use Rattle.bits.proofs.PackedLaws.{packed-one}
 use Rattle.bits.proofs.PackedWindows.{Lies, whole, cut, goes-on, overflows, packed-lies}
 use Rattle.framing.specs.Windows.{Window, Reading, got, failed, readingOf, reading}
-use Rattle.framing.specs.Events as Ev
-use Rattle.framing.specs.Walk.{maxElements, numberAt, closes, opens, lead, widthOf, fieldOf}
+use Rattle.framing.specs.Walk.{maxElements, numberAt, closes, opens, lead, withWidth, fieldOf}
 use Rattle.framing.proofs.StepLaws.{lead-ends, lead-fails, lead-zero, lead-more, fieldAt-lead}
 use Rattle.steps.specs.Views.{upTo}
 use Rattle.steps.specs.Heads.{numberOf, countHead, levelHead, indexHead, elementHead, lastHead, dueHead, fieldHead, sizedHead, widthHead}
 use Rattle.steps.specs.declared.Number.the-variants as number
 use Rattle.steps.specs.declared.Head.the-variants as head
-
-never : {A : Type 0} → _≡_ {A = ℕ} 0 1 → A
-never z = absurd (let n : ⊥ = omega arith in n)
 
 -- a packed number of the bytes is the number of all bits before the end
 pub number-is : (bytes : List ℕ) (end p : ℕ) (r : Packed) → packed (num bytes) end p ≡ r → numberOf p (readingOf r) ≡ numberOf p (reading (upTo bytes end) p)
@@ -140,11 +136,11 @@ module _ (w : Window) (p : ℕ) where
   -- ---- a field
 
   -- a field's head is its width's
-  due-sized : (e : Number) (handle q : ℕ) (r : Reading) → dueHead (widthOf w e handle q r) ≡ sizedHead w handle (numberOf q r)
+  due-sized : (e : Number) (handle q : ℕ) (r : Reading) → dueHead (withWidth w e handle q r) ≡ sizedHead w handle (numberOf q r)
   due-sized e handle q failed = refl
   due-sized e handle q (got k b) = go (ltb (w .size) (q + 8 * b + k)) refl
     where
-      go : (x : Bool) → ltb (w .size) (q + 8 * b + k) ≡ x → dueHead (widthOf w e handle q (got k b)) ≡ sizedHead w handle (numberOf q (got k b))
+      go : (x : Bool) → ltb (w .size) (q + 8 * b + k) ≡ x → dueHead (withWidth w e handle q (got k b)) ≡ sizedHead w handle (numberOf q (got k b))
       go true t = rw t
       go false t = rw t
 

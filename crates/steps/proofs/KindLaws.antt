@@ -1,12 +1,13 @@
 -- What a field is, from the entry that was found, and what one gives that is no array to walk.
 use Prim.Native.Nat.{ℕ}
-use mathlib.Core.Path.{_≡_, refl, sym, ap, _∙_}
+use mathlib.Core.Path.{_≡_, refl, sym, ap, _∙_, subst}
+use mathlib.Core.Logic.{_⊎_, inl, inr}
 use mathlib.Core.Bool.{Bool}
 use mathlib.Core.List.{List}
 use lib.ListN.{length}
 use borrow.Author.Tests.{eq-eqb, ne-eqb}
 use Rattle.schema.specs.Tables.{Tables, child, declaredName}
-use Rattle.schema.specs.Labels.{bySchema, byDeclaration}
+use Rattle.schema.specs.Labels.{bySchema, byDeclaration, LabelLies}
 use Rattle.schema.specs.Spans.{entry}
 use Rattle.schema.specs.declared.Entry.{Entry}
 use Rattle.schema.specs.declared.Child.{Child}
@@ -18,7 +19,7 @@ use Rattle.framing.specs.Events.{truncation}
 use Rattle.framing.specs.Sinks.{objectField}
 use Rattle.outputs.specs.World.{World}
 use Rattle.steps.specs.Held.{held, ran, bumped}
-use Rattle.steps.specs.Kinds.{kindBy, kindOf}
+use Rattle.steps.specs.Kinds.{kindBy, kindOf, KindLies}
 use Rattle.steps.specs.Gives.{taggedLeaf, flatField}
 use Rattle.steps.specs.declared.Tag.the-variants as tag
 use Rattle.steps.specs.declared.Sink.{Sink}
@@ -80,17 +81,33 @@ module _ (t : Tables) (index : ℕ) (path : List ℕ) (first : Bool) (handle : �
   unfolding flatField
   flat-array v lower x e = flat-by (kind.Array lower x) v v e (ran-none v)
 
-  pub flat-leaf : (v v′ : World) (x : Label) → k ≡ kind.Leaf x → v′ ≡ ran (taggedLeaf t path handle (tag.Label x) w) v
-      → v′ ≡ ran (flatField t index path first handle w k) v
-  unfolding flatField
-  flat-leaf v v′ x e q = flat-by (kind.Leaf x) v v′ e q
+-- ---- what one gives that holds the label of a leaf
 
-  -- an array below the last level: a truncation, and the array as a leaf
-  pub flat-deep : (c c₁ words text load : List ℕ) (v′ : World) (x : Label) → k ≡ kind.Deep x → length c ≡ 11 → c₁ ≡ bumped c 2 1
-      → v′ ≡ ran (taggedLeaf t path handle (tag.Label x) w) (held c₁ words text load) → v′ ≡ ran (flatField t index path first handle w k) (held c words text load)
+-- The kind k holds the label l, and what it counts before its leaf makes c₁ of the numbers c: nothing, or the truncation of an array
+-- below the last level.
+abbrev pub Labelled : Kind → (c c₁ : List ℕ) → Label → Type 0
+Labelled k c c₁ l = ((k ≡ kind.Leaf l) × (c₁ ≡ c)) ⊎ ((k ≡ kind.Deep l) × (length c ≡ 11) × (c₁ ≡ bumped c 2 1))
+
+module _ (k : Kind) (c c₁ : List ℕ) (l : Label) where
+  pub labelled-leaf : (x : Label) → k ≡ kind.Leaf x → l ≡ x → c₁ ≡ c → Labelled k c c₁ l
+  labelled-leaf x e q ec = inl (e ∙ ap (λ (n : Label). kind.Leaf n) (sym q), ec)
+
+  pub labelled-deep : (x : Label) (c₂ : List ℕ) → k ≡ kind.Deep x → l ≡ x → length c ≡ 11 → c₂ ≡ bumped c 2 1 → c₁ ≡ c₂ → Labelled k c c₁ l
+  labelled-deep x c₂ e q eleven ec e₂ = inr (e ∙ ap (λ (n : Label). kind.Deep n) (sym q), eleven, e₂ ∙ ec)
+
+  pub labelled-lies : (t : Tables) → Labelled k c c₁ l → KindLies t k → LabelLies t l
+  labelled-lies t (inl w) h = subst (KindLies t) (w .0) h
+  labelled-lies t (inr w) h = subst (KindLies t) (w .0) h
+
+  pub flat-labelled : (t : Tables) (index : ℕ) (path : List ℕ) (first : Bool) (handle : ℕ) (w : Window) (words text load : List ℕ) (v′ : World)
+      → Labelled k c c₁ l → v′ ≡ ran (taggedLeaf t path handle (tag.Label l) w) (held c₁ words text load)
+      → v′ ≡ ran (flatField t index path first handle w k) (held c words text load)
   unfolding flatField
-  flat-deep c c₁ words text load v′ x e eleven q r =
-      flat-by (kind.Deep x) (held c words text load) v′ e
+  flat-labelled t index path first handle w words text load v′ (inl (e, ec)) r =
+      flat-by t index path first handle w k (kind.Leaf l) (held c words text load) v′ e
+      (r ∙ ap (λ (n : List ℕ). ran (taggedLeaf t path handle (tag.Label l) w) (held n words text load)) ec)
+  flat-labelled t index path first handle w words text load v′ (inr (e, eleven, ec)) r =
+      flat-by t index path first handle w k (kind.Deep l) (held c words text load) v′ e
       (r
-      ∙ ap (ran (taggedLeaf t path handle (tag.Label x) w)) (ap (λ (l : List ℕ). held l words text load) q ∙ count-truncation words text load c eleven)
-      ∙ ran-then truncation (taggedLeaf t path handle (tag.Label x) w) (held c words text load))
+      ∙ ap (ran (taggedLeaf t path handle (tag.Label l) w)) (ap (λ (n : List ℕ). held n words text load) ec ∙ count-truncation words text load c eleven)
+      ∙ ran-then truncation (taggedLeaf t path handle (tag.Label l) w) (held c words text load))

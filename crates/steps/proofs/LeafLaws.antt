@@ -75,18 +75,18 @@ module _ (t : Tables) (handle : ℕ) (x : Tag) (path : List ℕ) (plen n : ℕ)
         ∙ count-over words text load c eleven
         ∙ ap (λ (u : Trace). ran u (held c words text load)) (sym (given-long (leafOf (dot (take plen path) (tagBytes t handle x)) handle w) (omega arith)))
 
-    pub leaf-put : (size : ℕ) (words′ text′ load′ : List ℕ) → n ≤ longestPath → size ≡ bytesFor (end - «from») → c′ ≡ reserved c 5 n size
+    pub leaf-put : (words′ text′ load′ : List ℕ) → n ≤ longestPath → c′ ≡ reserved c 5 n (bytesFor (end - «from»))
         → words′ ≡ store words (getD c 8 0) (getD c 9 0 ∷ n ∷ handle ∷ (end - «from») ∷ getD c 10 0 ∷ [])
         → text′ ≡ store text (getD c 9 0) (dot (take plen path) (tagBytes t handle x))
         → load′ ≡ store load (getD c 10 0) (bytesOf (bytesFor (end - «from»)) (field (num bytes) «from» (end - «from»)))
         → held c′ words′ text′ load′ ≡ ran (taggedLeaf t (take plen path) handle x (inner bytes «from» end origin)) (held c words text load)
     unfolding taggedLeaf inner
-    leaf-put size words′ text′ load′ h es ec ew et el =
+    leaf-put words′ text′ load′ h ec ew et el =
         let l = path-length in
         let y = leafOf (dot (take plen path) (tagBytes t handle x)) handle (inner bytes «from» end origin) in
-        let s : size ≡ length (bytesOf (bytesFor (end - «from»)) (field (num bytes) «from» (end - «from»))) =
-        es ∙ sym (length-bytesOf (bytesFor (end - «from»)) (field (num bytes) «from» (end - «from»))) in
+        let s : bytesFor (end - «from») ≡ length (bytesOf (bytesFor (end - «from»)) (field (num bytes) «from» (end - «from»))) =
+        sym (length-bytesOf (bytesFor (end - «from»)) (field (num bytes) «from» (end - «from»))) in
         ap (λ (k : List ℕ). held k words′ text′ load′) ec
-        ∙ leaf-counted c words text load eleven y n size words′ text′ load′ (sym l) s
+        ∙ leaf-counted c words text load eleven y n (bytesFor (end - «from»)) words′ text′ load′ (sym l) s
         (ew ∙ ap (λ (k : ℕ). store words (getD c 8 0) (getD c 9 0 ∷ k ∷ handle ∷ (end - «from») ∷ getD c 10 0 ∷ [])) (sym l)) et el
         ∙ ap (λ (u : Trace). ran u (held c words text load)) (sym (given-short y (omega arith)))

@@ -1,5 +1,6 @@
 pub mod StoreLaws
 pub mod TallyLaws
+pub mod CaseLaws
 pub mod HeadLaws
 pub mod ViewLaws
 pub mod ShiftLaws

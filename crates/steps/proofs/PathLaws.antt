@@ -5,16 +5,15 @@ use mathlib.Core.Bool.{Bool}
 use mathlib.Core.List.{List, [], _∷_, _++_, append-assoc}
 use native.Mathlib.Omega.{arith}
 use lib.ListN.{length, take, drop, set, length-append, length-set}
-use lib.Seq.{take-at, length-take-le, sets-eq}
+use lib.Seq.{take-at, length-take-le}
 use borrow.Author.Tests.{le-leb, lt-leb}
-use native.Mathlib.Numerals.{add-one}
 use Rattle.bits.specs.Runs.{put, store}
-use Rattle.bits.proofs.RunLaws.{put-put, store-fits, length-put}
+use Rattle.bits.proofs.RunLaws.{put-put, put-one, put-two, store-fits, length-put}
 use Rattle.schema.specs.Tables.{Tables}
-use Rattle.schema.specs.Labels.{decimal, labelBytes, labelLength, labelPart, atIndex}
+use Rattle.schema.specs.Labels.{decimal, labelBytes, labelLength, labelPart, atIndex, LabelLies}
 use Rattle.schema.specs.declared.Label.{Label}
 use Rattle.schema.specs.declared.Label.the-variants.{Declared, Named, Plain}
-use Rattle.schema.proofs.LaidLaws.{LabelLies, label-bytes, label-length}
+use Rattle.schema.proofs.LaidLaws.{label-bytes, label-length}
 use Rattle.framing.specs.Events.{element, over, Trace}
 use Rattle.framing.specs.Paths.{grown, noted, longestPath}
 use Rattle.steps.specs.Held.{held, ran, bumped}
@@ -26,10 +25,6 @@ use Rattle.steps.proofs.TallyLaws.{count-element, count-over, ran-none,
 
 -- ---- runs whose first elements are stored by themselves
 
-pub put-one : (d : List ℕ) (i a : ℕ) → i + 1 ≤ length d → set d i a ≡ put d i (a ∷ [])
-unfolding put
-put-one d i a h = sets-eq (a ∷ []) d i h
-
 pub one-then : (d e run : List ℕ) (i a : ℕ) → i + 1 ≤ length (set d i a) → e ≡ put (set d i a) (i + 1) run → e ≡ put d i (a ∷ run)
 one-then d e run i a h q =
     let n : length (set d i a) ≡ length d = simp length-set in
@@ -39,15 +34,13 @@ one-then d e run i a h q =
 
 pub two-then : (d e run : List ℕ) (i a b : ℕ) → i + 2 + length run ≤ length (set (set d i a) (i + 1) b)
     → e ≡ store (set (set d i a) (i + 1) b) (i + 2) run → e ≡ put d i (a ∷ b ∷ run)
-unfolding put
 two-then d e run i a b h q =
     let n : length (set (set d i a) (i + 1) b) ≡ length d = simp length-set in
     let l : i ≤ length d = omega arith in
     let l₂ : i + 2 ≤ length d = omega arith in
-    let two : set (set d i a) (i + 1) b ≡ put d i (a ∷ b ∷ []) = simp add-one (sets-eq (a ∷ b ∷ []) d i l₂) in
     q
     ∙ store-fits (set (set d i a) (i + 1) b) (i + 2) run h
-    ∙ ap (λ (x : List ℕ). put x (i + 2) run) two
+    ∙ ap (λ (x : List ℕ). put x (i + 2) run) (put-two d i a b l₂)
     ∙ put-put d (a ∷ b ∷ []) run i 2 l refl
 
 -- a run between two elements

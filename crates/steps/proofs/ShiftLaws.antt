@@ -15,7 +15,7 @@ use Rattle.schema.specs.Labels.{dot, rawLabel}
 use Rattle.framing.specs.Windows.{Window, part, Reading, got, failed, reading}
 use Rattle.framing.specs.Events.{Leaf, rawHandle, Event, error, Trace, number}
 use Rattle.framing.specs.Paths.{given}
-use Rattle.framing.specs.Walk.{Sink, numberAt, Lead, ends, fails, closes, opens, leadOf, lead, Due, cut, broken, closed, present, widthOf, fieldOf, fieldAt, rawLeaf, tail, trailerBits, trailerOf, closing, maxElements}
+use Rattle.framing.specs.Walk.{Sink, numberAt, Lead, ends, fails, closes, opens, leadOf, lead, Due, cut, broken, closed, present, withWidth, fieldOf, fieldAt, rawLeaf, tail, trailerBits, trailerOf, closing, maxElements}
 use Rattle.steps.specs.Views.{inner, upTo}
 use Rattle.steps.specs.Heads.{numberOf, countHead, levelHead, indexHead, elementHead, lastHead, dueHead, fieldHead, shifted}
 use Rattle.steps.proofs.ViewLaws.{reading-inner}
@@ -111,20 +111,20 @@ module _ (bytes : List ℕ) (b end o : ℕ) (h : b ≤ end) where
   field-some w left p x r e f = rw (e, f)
 
   -- the width's number
-  width-shift : (p q : ℕ) (e f : _) (hd : ℕ) → b + p ≡ q → dueHead (widthOf (upTo bytes end) e hd q (reading (upTo bytes end) q)) ≡ shifted b (dueHead (widthOf (inner bytes b end o) f hd p (reading (inner bytes b end o) p)))
+  width-shift : (p q : ℕ) (e f : _) (hd : ℕ) → b + p ≡ q → dueHead (withWidth (upTo bytes end) e hd q (reading (upTo bytes end) q)) ≡ shifted b (dueHead (withWidth (inner bytes b end o) f hd p (reading (inner bytes b end o) p)))
   unfolding inner upTo
   width-shift p q e f hd s =
       go (reading (upTo bytes end) q) refl
-      ∙ ap (λ (r : Reading). shifted b (dueHead (widthOf (inner bytes b end o) f hd p r))) (ap (reading (upTo bytes end)) (sym s) ∙ sym (reading-inner bytes b end o p h))
+      ∙ ap (λ (r : Reading). shifted b (dueHead (withWidth (inner bytes b end o) f hd p r))) (ap (reading (upTo bytes end)) (sym s) ∙ sym (reading-inner bytes b end o p h))
     where
-      go : (r : Reading) → reading (upTo bytes end) q ≡ r → dueHead (widthOf (upTo bytes end) e hd q r) ≡ shifted b (dueHead (widthOf (inner bytes b end o) f hd p r))
+      go : (r : Reading) → reading (upTo bytes end) q ≡ r → dueHead (withWidth (upTo bytes end) e hd q r) ≡ shifted b (dueHead (withWidth (inner bytes b end o) f hd p r))
       go failed er = refl
       go (got k n) er = go2 (ltb end (q + 8 * n + k)) refl
         where
           here : b + (p + 8 * n + k) ≡ q + 8 * n + k
           here = omega arith
 
-          go2 : (x : Bool) → ltb end (q + 8 * n + k) ≡ x → dueHead (widthOf (upTo bytes end) e hd q (got k n)) ≡ shifted b (dueHead (widthOf (inner bytes b end o) f hd p (got k n)))
+          go2 : (x : Bool) → ltb end (q + 8 * n + k) ≡ x → dueHead (withWidth (upTo bytes end) e hd q (got k n)) ≡ shifted b (dueHead (withWidth (inner bytes b end o) f hd p (got k n)))
           go2 true ex = rw (ltb-shift b end (p + 8 * n + k) (q + 8 * n + k) h here, ex)
           go2 false ex =
               let u : q + 8 * n ≡ b + (p + 8 * n) = omega arith in

@@ -1,6 +1,6 @@
 -- What the ways out of an element's fields and of a level give.
 use Prim.Native.Nat.{ℕ, _+_, _-_, _≤_}
-use mathlib.Core.Path.{_≡_, refl, sym, ap, _∙_}
+use mathlib.Core.Path.{_≡_, sym, ap, _∙_}
 use mathlib.Core.Bool.{Bool, true, false}
 use mathlib.Core.List.{List, [], _∷_}
 use native.Mathlib.Nat.{add-zero}
@@ -8,7 +8,7 @@ use native.Mathlib.Omega.{arith}
 use lib.Dec.{ltb}
 use lib.ListN.{length}
 use borrow.Author.Tests.{lt-ltb, le-ltb}
-use types.Run.{OneOf, miss}
+use types.Run.{OneOf}
 use denote.Enum.Declared.{tagOf}
 use Rattle.bits.specs.Bits.{num, field}
 use Rattle.bits.proofs.FieldLaws.{field-field}
@@ -29,6 +29,7 @@ use Rattle.steps.specs.declared.Sink.the-variants as sink
 use Rattle.steps.specs.declared.Head.{Head}
 use Rattle.steps.specs.declared.Head.the-variants as head
 use Rattle.steps.proofs.Head.{the-type}
+use Rattle.steps.proofs.CaseLaws.{not-closed, fields-stop}
 use Rattle.steps.proofs.TallyLaws.{count-truncation, count-error, count-implicit, ran-none, ran-then}
 
 -- ---- a tail
@@ -106,15 +107,6 @@ module _ (s : W.Sink) (bytes : List ℕ) (end origin : ℕ) (path : List ℕ) (h
   level-closed n w′ e q = q ∙ ap (λ (x : Head). ran (levelStop s bytes end origin path x) w) (sym e)
 
 -- every other head ends a level as it ends an element's fields
-same-stop : (s : W.Sink) (bytes : List ℕ) (end origin : ℕ) (path : List ℕ) (h : Head)
-    → OneOf (0 ∷ 1 ∷ 3 ∷ 4 ∷ []) (tagOf the-type h) → fieldsStop s bytes end origin path h ≡ levelStop s bytes end origin path h
-unfolding fieldsStop levelStop
-same-stop s bytes end origin path head.Ended k = refl
-same-stop s bytes end origin path head.Failed k = refl
-same-stop s bytes end origin path (head.Closed n) k = absurd (miss (0 ∷ 1 ∷ 3 ∷ 4 ∷ []) 2 tt k)
-same-stop s bytes end origin path (head.Limit n) k = refl
-same-stop s bytes end origin path (head.Go v a b) k = refl
-
 pub level-other : (s : W.Sink) (bytes : List ℕ) (end origin : ℕ) (path : List ℕ) (h : Head) (w w′ : World)
     → OneOf (0 ∷ 1 ∷ 3 ∷ 4 ∷ []) (tagOf the-type h) → w′ ≡ ran (fieldsStop s bytes end origin path h) w → w′ ≡ ran (levelStop s bytes end origin path h) w
-level-other s bytes end origin path h w w′ k q = q ∙ ap (λ (t : Trace). ran t w) (same-stop s bytes end origin path h k)
+level-other s bytes end origin path h w w′ k q = q ∙ ap (λ (t : Trace). ran t w) (sym (fields-stop s bytes end origin path h (not-closed h k)))

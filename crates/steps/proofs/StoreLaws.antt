@@ -1,21 +1,19 @@
--- Runs written to an output: record by record, and through a part of it.
+-- Runs written to an output through a part of it.
 use Prim.Native.Nat.{ℕ, _+_, _-_, _*_, _/_, _%_, _^_, _≤_, _<_}
 use mathlib.Core.Path.{_≡_, refl, sym, ap, ap₂, _∙_}
 use mathlib.Core.Bool.{Bool, true, false, not}
 use mathlib.Core.List.{List, [], _∷_, _++_, append-assoc}
 use native.Mathlib.Nat.{div-one}
-use native.Mathlib.Numerals.{add-one, add-two, add-three, add-four}
 use native.Mathlib.Omega.{arith}
 use lib.Dec.{leb}
-use lib.ListN.{length, take, drop, set, length-drop, take-append-drop}
-use lib.Seq.{sets-eq, length-take-le, drop-append-le}
+use lib.ListN.{length, take, drop, length-drop, take-append-drop}
+use lib.Seq.{length-take-le, drop-append-le}
 use borrow.Author.Tests.{leb-true, leb-false, not-true, not-false}
 use borrow.Rule.Slice.PartMut.{midOf, putMid}
 use Rattle.bits.specs.Bits.{num, field, Bytes}
 use Rattle.bits.specs.Runs.{bytesOf, bytesFor, put, store}
 use Rattle.bits.proofs.FieldLaws.{field-rest, num-lt, bytes-tail}
-use Rattle.bits.proofs.RunLaws.{store-fits}
-use Rattle.outputs.proofs.Paste.{part-put}
+use Rattle.bits.proofs.RunLaws.{store-fits, part-put}
 
 -- what the answer of `fits` says
 pub fitting : (a b : ℕ) (r : Bool) → r ≡ leb a b → not r ≡ false → a ≤ b
@@ -23,22 +21,6 @@ fitting a b r e h = leb-true a b (sym e ∙ not-false r h)
 
 pub past : (a b : ℕ) (r : Bool) → r ≡ leb a b → not r ≡ true → b < a
 past a b r e h = leb-false a b (sym e ∙ not-true r h)
-
--- single stores, one after the other, of a run that fits
-pub store-two : (d : List ℕ) (i a b : ℕ) → i + 2 ≤ length d → set (set d i a) (i + 1) b ≡ store d i (a ∷ b ∷ [])
-unfolding put
-store-two d i a b h = simp add-one (sets-eq (a ∷ b ∷ []) d i h) ∙ sym (store-fits d i (a ∷ b ∷ []) h)
-
-pub put-four : (d : List ℕ) (i a b c e : ℕ) → i + 4 ≤ length d
-    → set (set (set (set d i a) (i + 1) b) (i + 2) c) (i + 3) e ≡ put d i (a ∷ b ∷ c ∷ e ∷ [])
-unfolding put
-put-four d i a b c e h = simp (add-one, add-two, add-three) (sets-eq (a ∷ b ∷ c ∷ e ∷ []) d i h)
-
-pub store-five : (d : List ℕ) (i a b c e f : ℕ) → i + 5 ≤ length d
-    → set (set (set (set (set d i a) (i + 1) b) (i + 2) c) (i + 3) e) (i + 4) f ≡ store d i (a ∷ b ∷ c ∷ e ∷ f ∷ [])
-unfolding put
-store-five d i a b c e f h =
-    simp (add-one, add-two, add-three, add-four) (sets-eq (a ∷ b ∷ c ∷ e ∷ f ∷ []) d i h) ∙ sym (store-fits d i (a ∷ b ∷ c ∷ e ∷ f ∷ []) h)
 
 -- `f(&mut d[i..], ..)` wrote a run to the front of the part
 pub part-run : (d x run : List ℕ) (i k : ℕ) → k ≡ length d - i → i + length run ≤ length d → x ≡ put (midOf i k d) 0 run → putMid i k d x ≡ put d i run

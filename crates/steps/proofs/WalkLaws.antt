@@ -1,9 +1,8 @@
 -- What a head makes of a walk: the laws that the cycle's loops cite. A position `at` is a bit of the bytes; the window starts at bit b of them.
 use Prim.Native.Nat.{ℕ, zero, suc, _+_, _-_, _*_, _≤_, _<_}
 use native.Mathlib.Nat.{zero-add, add-zero}
-use native.Mathlib.Numerals.{add-one}
 use native.Mathlib.Omega.{arith}
-use mathlib.Core.Path.{_≡_, refl, sym, ap, ap₂, subst, _∙_}
+use mathlib.Core.Path.{_≡_, refl, sym, ap, subst, _∙_}
 use mathlib.Core.Bool.{Bool, true, false, _&&_}
 use mathlib.Core.List.{List, [], _∷_, _++_}
 use lib.Dec.{leb, ltb, eqb}
@@ -12,7 +11,7 @@ use Rattle.bits.proofs.Never.{never}
 use Rattle.bits.specs.Choice.{if_then_else_}
 use Rattle.bits.specs.Packed.{Number}
 use Rattle.framing.specs.Windows.{Window, part, Reading, got, failed, reading}
-use Rattle.framing.specs.Events.{numbers, Event, number, element, truncation, error, implicit, Trace}
+use Rattle.framing.specs.Events.{numbers, number, element, truncation, error, implicit, Trace}
 use Rattle.framing.specs.Walk.{Sink, maxElements, maxFields, numberAt, Lead, ends, fails, closes, opens, lead, Due, cut, broken, closed, present, fieldAt, tail, Run, done, stopped, prepend, fields, closing, inItem, entering, behind, elements, level}
 use Rattle.framing.proofs.StepLaws.{fields-last, fields-step, fields-present, elements-last, elements-step, level-count}
 use Rattle.outputs.specs.World.{World, wrapping}
@@ -23,6 +22,7 @@ use Rattle.steps.specs.Heads.{numberOf, countHead, levelHead, indexHead,
 use Rattle.steps.specs.Gives.{fieldsStop, levelStop}
 use Rattle.steps.specs.declared.Head.{Head}
 use Rattle.steps.specs.declared.Head.the-variants as head
+use Rattle.steps.proofs.CaseLaws.{NotGo, NotClosed, fields-stop}
 use Rattle.steps.proofs.TallyLaws.{ran-none, ran-number}
 use Rattle.steps.proofs.ShiftLaws.{level-shift, element-shift, field-shift, tail-shift, closing-shift, part-inner, size-inner}
 use Rattle.steps.proofs.WithinLaws.{level-in, element-in, field-in, Counted, level-goes, Opened, element-goes, Presented, field-goes}
@@ -38,20 +38,6 @@ unfolding ran
 ran-numbers ns t x = apply-numbers (wrapping 4294967296) ns t x
 
 -- ---- heads that end a walk
-
-abbrev pub NotGo : Head → Type 0
-NotGo head.Ended = Unit
-NotGo head.Failed = Unit
-NotGo (head.Closed n) = Unit
-NotGo (head.Limit n) = Unit
-NotGo (head.Go v a b) = ⊥
-
-abbrev pub NotClosed : Head → Type 0
-NotClosed head.Ended = Unit
-NotClosed head.Failed = Unit
-NotClosed (head.Closed n) = ⊥
-NotClosed (head.Limit n) = Unit
-NotClosed (head.Go v a b) = Unit
 
 not-go-back : (b : ℕ) (h : Head) → NotGo (shifted b h) → NotGo h
 not-go-back b head.Ended g = tt
@@ -96,14 +82,6 @@ stop-shift s e a bytes b end o path le head.Failed i g = refl
 stop-shift s e a bytes b end o path le (head.Closed q) i g = closing-shift bytes b end o q (omega arith) s e (a .trailer) (a .leftover)
 stop-shift s e a bytes b end o path le (head.Limit q) i g = ap (λ (t : Trace). truncation ∷ t) (tail-shift bytes b end o q (omega arith) s e path (a .flattens))
 stop-shift s e a bytes b end o path le (head.Go v q r) i g = absurd g
-
-pub fields-stop : (e : Sink) (bytes : List ℕ) (end o : ℕ) (path : List ℕ) (h : Head) → NotClosed h → levelStop e bytes end o path h ≡ fieldsStop e bytes end o path h
-unfolding levelStop fieldsStop
-fields-stop e bytes end o path head.Ended n = refl
-fields-stop e bytes end o path head.Failed n = refl
-fields-stop e bytes end o path (head.Closed q) n = absurd n
-fields-stop e bytes end o path (head.Limit q) n = refl
-fields-stop e bytes end o path (head.Go v q r) n = refl
 
 module _ (s : Sink) (w : Window) (path : List ℕ) where
   level-stops : (x : World) → NotGo (levelHead w 0) → ran (level s w path) x ≡ ran (stopAt s w path (levelHead w 0)) x

@@ -3,10 +3,9 @@ use Prim.Native.Nat.{ℕ}
 use lib.Dec.{eqb}
 use Rattle.bits.specs.Choice.{if_then_else_}
 use Rattle.schema.specs.Tables.{Tables, child}
-use Rattle.schema.specs.Labels.{containerLabel, leafLabel}
+use Rattle.schema.specs.Labels.{containerLabel, leafLabel, LabelLies}
 use Rattle.schema.specs.declared.Child.{Child}
 use Rattle.schema.specs.declared.Child.the-variants as child
-use Rattle.steps.specs.Paths.{Lies}
 use Rattle.steps.specs.declared.Sink.{Sink}
 use Rattle.steps.specs.declared.Sink.the-variants as sink
 use Rattle.steps.specs.declared.Kind.{Kind}
@@ -27,6 +26,6 @@ kindOf sink.Object t below level handle width = kind.Object
 abbrev pub KindLies : Tables → Kind → Type 0
 KindLies t kind.Object = Unit
 KindLies t kind.Nothing = Unit
-KindLies t (kind.Leaf x) = Lies t x
-KindLies t (kind.Deep x) = Lies t x
-KindLies t (kind.Array lower x) = Lies t x
+KindLies t (kind.Leaf x) = LabelLies t x
+KindLies t (kind.Deep x) = LabelLies t x
+KindLies t (kind.Array lower x) = LabelLies t x

@@ -2,12 +2,11 @@
 use Prim.Native.Nat.{ℕ, _≤_}
 use mathlib.Core.Path.{_≡_}
 use mathlib.Core.List.{List, [], _∷_, _++_}
-use lib.ListN.{take}
+use lib.ListN.{length, take}
 use Rattle.bits.specs.Choice.{if_then_else_}
 use Rattle.schema.specs.Tables.{Tables, tables}
-use Rattle.schema.specs.Labels.{labelBytes, labelLength, rawLabel, atIndex}
+use Rattle.schema.specs.Labels.{labelBytes, labelLength, LabelLies, rawLabel, atIndex}
 use Rattle.schema.specs.declared.Label.{Label}
-use Rattle.schema.proofs.LaidLaws.{LabelLies}
 use Rattle.framing.specs.Events.{element, Trace}
 use Rattle.framing.specs.Paths.{grown, noted, longestPath}
 use Rattle.steps.specs.Held.{held, ran}
@@ -20,20 +19,16 @@ use Rattle.steps.specs.declared.Sink.{Sink}
 abbrev pub pools : (names pool : List ℕ) → Tables
 pools names pool = tables [] names [] pool
 
--- a label's name lies in its pool
-abbrev pub Lies : Tables → Label → Type 0
-Lies t x = LabelLies t x
-
 abbrev pub tagBytes : Tables → (handle : ℕ) → Tag → List ℕ
 tagBytes t handle (tag.Label x) = labelBytes t handle x
 tagBytes t handle tag.Raw = rawLabel
 
 abbrev pub tagLength : (handle : ℕ) → Tag → ℕ
 tagLength handle (tag.Label x) = labelLength handle x
-tagLength handle tag.Raw = 4
+tagLength handle tag.Raw = length rawLabel
 
 abbrev pub TagLies : Tables → Tag → Type 0
-TagLies t (tag.Label x) = Lies t x
+TagLies t (tag.Label x) = LabelLies t x
 TagLies t tag.Raw = Unit
 
 -- a path in an element, and what its entry gives

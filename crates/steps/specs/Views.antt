@@ -8,7 +8,7 @@ use Rattle.schema.specs.Tables.{Tables}
 use Rattle.framing.specs.Windows.{Window}
 use Rattle.framing.specs.Events.{Event, nested, root}
 use Rattle.framing.specs.Walk as W
-use Rattle.framing.specs.Sinks.{structSink, objectField}
+use Rattle.framing.specs.Sinks.{structSink, objectSinkOver}
 use Rattle.steps.specs.declared.Sink.{Sink}
 use Rattle.steps.specs.declared.Sink.the-variants as sink
 use Rattle.steps.specs.declared.Head.{Head}
@@ -24,9 +24,9 @@ upTo bytes end = record { bits = num bytes; size = end; origin = 0 }
 
 -- ---- what the code's sink stands for
 
-abbrev pub trailerOf : Sink → Bool
-trailerOf (sink.Record trailer) = trailer
-trailerOf sink.Object = true
+abbrev pub takesTrailer : Sink → Bool
+takesTrailer (sink.Record trailer) = trailer
+takesTrailer sink.Object = true
 
 abbrev pub flattensOf : Sink → Bool
 flattensOf (sink.Record trailer) = true
@@ -39,14 +39,14 @@ leftoverOf inside = if inside then nested else root
 unfoldable pub sinkFor : Sink → Tables → (below : ℕ) (inside : Bool) (level : ℕ) → W.Sink
 sinkFor (sink.Record trailer) t below inside level = structSink below t trailer (leftoverOf inside) level
 sinkFor sink.Object t below inside level =
-    record { trailer = true; flattens = false; leftover = leftoverOf inside; field = λ i path first handle w. objectField i first w }
+    objectSinkOver (leftoverOf inside)
 
 -- the ways out of a level don't depend on its fields
 abbrev pub exitSink : Sink → (inside : Bool) → W.Sink
 exitSink s inside =
-    record { trailer = trailerOf s; flattens = flattensOf s; leftover = leftoverOf inside; field = λ i path first handle w. [] }
+    record { trailer = takesTrailer s; flattens = flattensOf s; leftover = leftoverOf inside; field = λ i path first handle w. [] }
 
--- the position of a head that ends a walk is no later than the end
+-- the position of a head that ends a level or an element is no later than the end
 abbrev pub HeadIn : (end : ℕ) → Head → Type 0
 HeadIn end head.Ended = Unit
 HeadIn end head.Failed = Unit

@@ -6,14 +6,13 @@ ghost use Prim.Native.Nat.{ℕ, _+_, _*_, _≤_};
 ghost use lib.ListN.{length, take};
 ghost use Rattle.framing.specs.Walk.{tail, closing};
 ghost use Rattle.steps.specs.Held.{held, ran};
-ghost use Rattle.steps.specs.Views.{inner, trailerOf, leftoverOf, exitSink, HeadIn};
+ghost use Rattle.steps.specs.Views.{inner, takesTrailer, leftoverOf, exitSink, HeadIn};
 ghost use Rattle.steps.specs.Gives.{fieldsStop, levelStop};
 use crate::Head;
 use crate::Number;
 use crate::Sink;
-use crate::Tag;
 use crate::heads::number_at;
-use crate::leaves::put_leaf;
+use crate::leaves::put_tail;
 use crate::tally::ERRORS;
 use crate::tally::IMPLICIT;
 use crate::tally::NESTED;
@@ -21,13 +20,11 @@ use crate::tally::ROOT;
 use crate::tally::TRUNCATIONS;
 use crate::tally::count;
 
-const RAW_HANDLE: u32 = 4294967295;
-
 const TRAILER_BITS: u64 = 8;
 
 // Whether a walk takes the trailer behind an index terminator.
 fn takes_trailer(sink: Sink) -> bool
-    ensures { λ r. ⌜ r ≡ trailerOf sink ⌝ }
+    ensures { λ r. ⌜ r ≡ takesTrailer sink ⌝ }
 {
     match sink {
         Sink::Record { trailer } => trailer,
@@ -94,22 +91,7 @@ fn keep_tail(
     if at == end {
         return;
     }
-    let none = [0u8; 0];
-    put_leaf(
-        c,
-        bytes,
-        at,
-        end,
-        RAW_HANDLE,
-        Tag::Raw,
-        plen,
-        &none,
-        &none,
-        path,
-        words,
-        paths,
-        payloads,
-    );
+    put_tail(c, bytes, at, end, plen, path, words, paths, payloads);
 }
 
 // An element's fields that don't close.

@@ -81,44 +81,35 @@ pub fn put_field<'a>(
     ensures out { λ _. ⌜ ((o : ℕ) → held (now (c .exit)) (now (words .exit)) (now (paths .exit)) (now (payloads .exit)) ≡ ran (flatField (pools (now (names .entry)) (now (pool .entry))) index (take plen (now (path .entry))) first handle (inner (now (bytes .entry)) «from» end o) kind) (held (now (c .entry)) (now (words .entry)) (now (paths .entry)) (now (payloads .entry)))) ⌝ }
     ensures kept { λ _. ⌜ take plen (now (path .exit)) ≡ take plen (now (path .entry)) ⌝ }
 {
-    match kind {
-        Kind::Object => object_field(c, bytes, from, end, index, first, words),
-        Kind::Nothing => (),
-        Kind::Leaf(label) => {
-            put_leaf(
-                c,
-                bytes,
-                from,
-                end,
-                handle,
-                Tag::Label(label),
-                plen,
-                names,
-                pool,
-                path,
-                words,
-                paths,
-                payloads,
-            );
+    let label = match kind {
+        Kind::Object => {
+            return object_field(c, bytes, from, end, index, first, words);
         }
-        Kind::Deep(label) => {
+        Kind::Nothing => {
+            return;
+        }
+        Kind::Leaf(named) => named,
+        Kind::Deep(named) => {
             count(&mut *c, TRUNCATIONS, 1);
-            put_leaf(
-                c,
-                bytes,
-                from,
-                end,
-                handle,
-                Tag::Label(label),
-                plen,
-                names,
-                pool,
-                path,
-                words,
-                paths,
-                payloads,
-            );
+            named
         }
-        Kind::Array(_, _) => (),
-    }
+        Kind::Array(_, _) => {
+            return;
+        }
+    };
+    put_leaf(
+        c,
+        bytes,
+        from,
+        end,
+        handle,
+        Tag::Label(label),
+        plen,
+        names,
+        pool,
+        path,
+        words,
+        paths,
+        payloads,
+    );
 }

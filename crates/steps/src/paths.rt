@@ -5,8 +5,8 @@ ghost use Prim.Native.Nat.{_+_, _≤_};
 ghost use lib.ListN.{length, take};
 ghost use Rattle.bits.specs.Runs.{put, store};
 ghost use Rattle.schema.specs.Decimals.{decimal};
-ghost use Rattle.schema.specs.Labels.{dot, labelBytes, labelLength};
-ghost use Rattle.steps.specs.Paths.{pools, Lies, tagBytes, tagLength, TagLies, Entered, Grew};
+ghost use Rattle.schema.specs.Labels.{dot, labelBytes, labelLength, LabelLies};
+ghost use Rattle.steps.specs.Paths.{pools, tagBytes, tagLength, TagLies, Entered, Grew};
 use crate::Sink;
 use crate::Tag;
 use crate::runs::copy_run;
@@ -59,7 +59,7 @@ fn write_label<'a>(
     names: &'a [u8],
     pool: &'a [u8],
 )
-    requires { ⌜ (Lies (pools (now names) (now pool)) label) × (at + labelLength handle label ≤ 1024) ⌝ }
+    requires { ⌜ (LabelLies (pools (now names) (now pool)) label) × (at + labelLength handle label ≤ 1024) ⌝ }
     ensures out { λ _. ⌜ now (path .exit) ≡ put (now (path .entry)) at (labelBytes (pools (now (names .entry)) (now (pool .entry))) handle label) ⌝ }
     ensures sized { λ _. ⌜ length (now (path .entry)) ≡ 1024 ⌝ }
 {
@@ -109,7 +109,7 @@ pub fn grow_label<'a>(
     names: &'a [u8],
     pool: &'a [u8],
 ) -> usize
-    requires { ⌜ (plen ≤ 1024) × Lies (pools (now names) (now pool)) label ⌝ }
+    requires { ⌜ (plen ≤ 1024) × LabelLies (pools (now names) (now pool)) label ⌝ }
     ensures { λ r. ⌜ Grew (dot (take plen (now (path .entry))) (labelBytes (pools (now (names .entry)) (now (pool .entry))) handle label)) (now (c .entry)) (now (c .exit)) plen r (now (path .entry)) (now (path .exit)) ⌝ }
 {
     let room = path_room(path);

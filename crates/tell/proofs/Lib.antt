@@ -1,2 +1,1 @@
-pub mod FloatLaws
 pub mod SignLaws

@@ -3,6 +3,8 @@
 // is exact. A value of 2^53 or more has no decimals here.
 ghost use Prim.Native.Nat.{_≤_};
 use crate::say;
+use words::double_bits;
+use words::single_bits;
 
 fn say_thousandths(x: u64) {
     let rest = x % 1000;
@@ -41,21 +43,6 @@ fn say_float(negative: bool, fraction: u64, hidden: u64, exponent: u64, bias: u6
         return;
     }
     say_quotient(hidden + fraction, bias - exponent);
-}
-
-// A NaN, which no answer holds, has the pattern of the quiet one.
-fn double_bits(x: f64) -> u64 {
-    if x != x {
-        return 0x7ff8_0000_0000_0000;
-    }
-    f64::to_bits(x)
-}
-
-fn single_bits(x: f32) -> u32 {
-    if x != x {
-        return 0x7fc0_0000;
-    }
-    f32::to_bits(x)
 }
 
 // A line with a name, the pattern and the value.

@@ -1,36 +1,20 @@
 // What is printed: words, numbers and columns.
 ghost use mathlib.Core.Path.{_≡_};
-ghost use Prim.Native.Nat.{_≤_};
-use libc::STDOUT_FILENO;
+pub use words::equal;
+pub use words::hex;
+pub use words::least;
+pub use words::number;
+pub use words::pattern;
+pub use words::text;
+pub use words::wide;
 
 // The widest column.
 pub const COLUMN: usize = 64;
-
-pub fn text(s: &[u8]) {
-    io::write_all(STDOUT_FILENO, s);
-}
-
-pub fn number(x: u64) {
-    io::print_decimal(STDOUT_FILENO, x);
-}
-
-pub fn wide(x: u32) -> u64
-    ensures { λ r. ⌜ r ≡ x ⌝ }
-{
-    x as u64
-}
 
 pub fn index(x: u32) -> usize
     ensures { λ r. ⌜ r ≡ x ⌝ }
 {
     x as usize
-}
-
-pub fn least(a: usize, b: usize) -> usize
-    ensures { λ r. ⌜ r ≤ a ⌝ }
-    ensures { λ r. ⌜ r ≤ b ⌝ }
-{
-    if a < b { a } else { b }
 }
 
 // The first n bytes, all where there are fewer.
@@ -68,27 +52,6 @@ pub fn named(name: &[u8], x: u64) {
     left(name, 24);
     number(x);
     text(b"\n");
-}
-
-// The low bits of x, in so many hexadecimal digits.
-pub fn pattern(x: u64, digits: usize) {
-    io::print_hex(STDOUT_FILENO, x, digits);
-}
-
-fn byte(x: u8) -> u64 {
-    x as u64
-}
-
-// The bytes in hex, or `-` for none.
-pub fn hex(s: &[u8]) {
-    if s.len() == 0 {
-        text(b"-");
-    }
-    let mut i = 0;
-    while i < s.len() {
-        pattern(byte(s[i]), 2);
-        i += 1;
-    }
 }
 
 // The 32 bits of a two's complement number, as a number with its sign.
@@ -133,19 +96,4 @@ pub fn part(s: &[u8], a: u32, n: u32) -> &[u8] {
         return &s[..0];
     }
     &s[start..end]
-}
-
-// Whether the two have the same bytes.
-pub fn equal(a: &[u8], b: &[u8]) -> bool {
-    if a.len() != b.len() {
-        return false;
-    }
-    let mut i = 0;
-    while i < a.len() {
-        if a[i] != b[i] {
-            return false;
-        }
-        i += 1;
-    }
-    true
 }

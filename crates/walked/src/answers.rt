@@ -6,6 +6,7 @@ use array::StructArray;
 use array::Verdict;
 use recorded::fields;
 use recorded::say;
+use words::wide;
 
 pub struct Answer {
     // 0 for a walk, or the refusal's number by document 01.
@@ -29,10 +30,6 @@ pub struct Recorded {
     pub payloads: usize,
     // The place after all of it.
     pub end: usize,
-}
-
-fn wide(x: u32) -> u64 {
-    x as u64
 }
 
 fn is_partial(v: Verdict) -> u64 {

@@ -25,25 +25,22 @@ use Rattle.steps.proofs.paths.grow_label.Reads as grow-label-reads
 use Rattle.cycle.proofs.+walk_field+walk_fields+walk_level.{statement}
 use Rattle.cycle.proofs.+walk_field+walk_fields+walk_level.Tie.{close}
 use borrow.Author.Needs.{needs}
-use Prim.Native.Nat.{_+_, _*_, _-_, _/_, _%_}
+use Prim.Native.Nat.{_+_, _*_, _-_, _/_}
 use native.Mathlib.Omega.{arith}
-use mathlib.Core.Path.{_≡_, refl, sym, ap, subst, _∙_}
+use mathlib.Core.Path.{_≡_, refl, sym, ap, _∙_}
 use mathlib.Core.List.{List}
-use lib.ListN.{length, take, drop}
+use lib.ListN.{length, take}
 use Rattle.schema.specs.Tables.{tables}
-use Rattle.schema.specs.Labels.{dot, labelBytes}
+use Rattle.schema.specs.Labels.{dot}
 use Rattle.framing.specs.Events.{Trace}
 use Rattle.framing.specs.Paths.{grown, noted}
-use Rattle.outputs.specs.World.{World}
 use Rattle.steps.specs.Held.{held, ran}
-use Rattle.steps.specs.Paths.{pools}
-use Rattle.steps.specs.Views.{inner}
-use Rattle.steps.specs.Kinds.{kindOf, KindLies}
 use Rattle.cycle.specs.Cycle.{place}
+use Rattle.steps.proofs.CaseLaws.{not-go, not-closed, not-array}
 use Rattle.steps.proofs.ShiftLaws.{part-bytes}
 use Rattle.steps.proofs.WalkLaws.{level-head-in, element-head-in, field-head-in, element-next, field-next}
-use Rattle.steps.proofs.FieldKindLaws.{pool-bytes, pool-lies, kind-tables, kind-lies, kind-pools, flat-pools, array-below}
-use Rattle.cycle.proofs.CycleLaws.{Fielding, fields-begin, fields-turn, fields-shut, fields-end, Leveling, prefix, level-end, level-begin, elements-end, elements-turn, elements-open, field-put, field-walked, not-go, not-closed, not-array, child-inside, ready-child, ready-part}
+use Rattle.steps.proofs.FieldKindLaws.{pool-bytes, pool-lies, kind-pools, flat-pools, array-below}
+use Rattle.cycle.proofs.CycleLaws.{kind-is, kind-ready, Fielding, fields-begin, fields-turn, fields-shut, fields-end, Leveling, prefix, level-end, level-begin, elements-end, elements-turn, elements-open, field-put, field-walked, ready-child, ready-part}
 
 abbrev μ-walk-field : Measures 10 walk-field-kinds.ps ℕ
 μ-walk-field κs a =
@@ -82,13 +79,42 @@ walk-level-below t =
     and 10 walk-level-kinds.ps (falls 10 walk-level-kinds.ps _<_ μ-walk-level t) walk-level.Pre
 
 abbrev walk-field-claims : ℕ → walk-field-lts.Claims
-walk-field-claims t = (kind-of-reads.Asked, kind-of-reads.Learnt, put-field-reads.Asked, put-field-reads.Learnt, grow-label-reads.Asked, grow-label-reads.Learnt, walk-level-below t, walk-level.Post)
+walk-field-claims t = (
+  kind-of-reads.Asked,
+  kind-of-reads.Learnt,
+  put-field-reads.Asked,
+  put-field-reads.Learnt,
+  grow-label-reads.Asked,
+  grow-label-reads.Learnt,
+  walk-level-below t,
+  walk-level.Post,
+)
 
 abbrev walk-fields-claims : ℕ → walk-fields-lts.Claims
-walk-fields-claims t = (field-head-reads.Asked, field-head-reads.Learnt, stop-fields-reads.Asked, stop-fields-reads.Learnt, walk-field-below t, walk-field.Post, still-first-reads.Asked, still-first-reads.Learnt)
+walk-fields-claims t = (
+  field-head-reads.Asked,
+  field-head-reads.Learnt,
+  stop-fields-reads.Asked,
+  stop-fields-reads.Learnt,
+  walk-field-below t,
+  walk-field.Post,
+  still-first-reads.Asked,
+  still-first-reads.Learnt,
+)
 
 abbrev walk-level-claims : ℕ → walk-level-lts.Claims
-walk-level-claims t = (level-head-reads.Asked, level-head-reads.Learnt, stop-level-reads.Asked, stop-level-reads.Learnt, element-head-reads.Asked, element-head-reads.Learnt, enter-reads.Asked, enter-reads.Learnt, walk-fields-below t, walk-fields.Post)
+walk-level-claims t = (
+  level-head-reads.Asked,
+  level-head-reads.Learnt,
+  stop-level-reads.Asked,
+  stop-level-reads.Learnt,
+  element-head-reads.Asked,
+  element-head-reads.Learnt,
+  enter-reads.Asked,
+  enter-reads.Learnt,
+  walk-fields-below t,
+  walk-fields.Post,
+)
 
 walk-field-sub-width : (t : ℕ) → walk-field-lts.Need-sub-width (walk-field-claims t) (walk-field-at t) walk-field.Post
 walk-field-sub-width t c =
@@ -107,7 +133,10 @@ walk-field-put-field-requires : (t : ℕ) → walk-field-lts.Need-put-field-requ
 walk-field-put-field-requires t c κs =
     let at-after-kind-of = c .before .before .before .before .before .before in
     let at-start = at-after-kind-of .before .before .before .before .before .before .before .before .before in
-    (at-start .pre .1 .ordered, at-start .pre .1 .inside, at-start .pre .1 .short, at-start .pre .1 .path, kind-pools (at-start .args .rows .now) (at-start .args .names .now) (at-start .args .declared .now) (at-start .args .pool .now) (at-after-kind-of .kind-of .result) (subst (KindLies (tables (at-start .args .rows .now) (at-start .args .names .now) (at-start .args .declared .now) (at-start .args .pool .now))) (sym (at-after-kind-of .kind-of .ensures ∙ (kind-tables (at-start .args .sink) (at-start .args .rows .now) (at-start .args .names .now) (at-start .args .declared .now) (at-start .args .pool .now) (at-start .args .below) (at-start .args .level) (at-start .args .handle) (at-start .args .end - at-start .args .from)))) (kind-lies (at-start .args .sink) (tables (at-start .args .rows .now) (at-start .args .names .now) (at-start .args .declared .now) (at-start .args .pool .now)) (at-start .args .below) (at-start .args .level) (at-start .args .handle) (at-start .args .end - at-start .args .from) (at-start .pre .1 .leaf-lies) (at-start .pre .1 .container-lies))))
+    let a = at-start .args in
+    let ready = at-start .pre .1 in
+    let lies = kind-ready (a .rows .now) (a .names .now) (a .declared .now) (a .pool .now) ready _ _ _ _ _ (at-after-kind-of .kind-of .ensures) in
+    (ready .ordered, ready .inside, ready .short, ready .path, kind-pools (a .rows .now) (a .names .now) (a .declared .now) (a .pool .now) (at-after-kind-of .kind-of .result) lies)
 
 walk-field-same-length : (t : ℕ) → walk-field-lts.Need-same-length (walk-field-claims t) (walk-field-at t) walk-field.Post
 walk-field-same-length t c = search needs
@@ -124,14 +153,22 @@ walk-field-returns t c =
     let at-at-match-keys2 = at-after-put-field .before .before .before .before .before .before in
     let at-after-kind-of = at-at-match-keys2 .before in
     let at-start = at-after-kind-of .before .before .before .before .before .before .before .before .before in
-    field-put (place (at-start .args .sink) (tables (at-start .args .rows .now) (at-start .args .names .now) (at-start .args .declared .now) (at-start .args .pool .now)) (at-start .args .below) (at-start .args .level) (at-start .args .bytes .now) (at-start .args .end) (take (at-start .args .plen) (at-start .args .path .now))) (at-start .args .index) (at-start .args .first) (at-start .args .handle) (at-start .args .from) (held (at-start .args .c .now) (at-start .args .words .now) (at-start .args .paths .now) (at-start .args .payloads .now)) (at-start .pre .1 .ordered) (at-after-kind-of .kind-of .result) (at-after-kind-of .kind-of .ensures ∙ (kind-tables (at-start .args .sink) (at-start .args .rows .now) (at-start .args .names .now) (at-start .args .declared .now) (at-start .args .pool .now) (at-start .args .below) (at-start .args .level) (at-start .args .handle) (at-start .args .end - at-start .args .from))) (not-array (at-after-kind-of .kind-of .result) (at-at-match-keys2 .match .keys2)) (held (at-after-put-field .put-field .last .0) (at-after-put-field .put-field .last .1 .1 .1 .1 .1 .1 .1 .1 .1 .1 .1 .1 .0) (at-after-put-field .put-field .last .1 .1 .1 .1 .1 .1 .1 .1 .1 .1 .1 .1 .1 .0) (at-after-put-field .put-field .last .1 .1 .1 .1 .1 .1 .1 .1 .1 .1 .1 .1 .1 .1 .0)) (take (at-start .args .plen) (at-after-put-field .put-field .last .1 .1 .1 .1 .1 .1 .1 .1 .1 .1 .1 .0)) (λ o. at-after-put-field .put-field .ensures .0 o ∙ ap (λ (u : Trace). ran u (held (at-start .args .c .now) (at-start .args .words .now) (at-start .args .paths .now) (at-start .args .payloads .now))) (flat-pools (at-start .args .rows .now) (at-start .args .names .now) (at-start .args .declared .now) (at-start .args .pool .now) (at-start .args .index) (take (at-start .args .plen) (at-start .args .path .now)) (at-start .args .first) (at-start .args .handle) (inner (at-start .args .bytes .now) (at-start .args .from) (at-start .args .end) o) (at-after-kind-of .kind-of .result))) (at-after-put-field .put-field .ensures .1)
+    let a = at-start .args in
+    let k = kind-is (a .rows .now) (a .names .now) (a .declared .now) (a .pool .now) _ _ _ _ _ (at-after-kind-of .kind-of .ensures) in
+    let put = at-after-put-field .put-field .ensures in
+    let x = held (a .c .now) (a .words .now) (a .paths .now) (a .payloads .now) in
+    field-put _ _ _ _ _ _ (at-start .pre .1 .ordered) _ k (not-array (at-after-kind-of .kind-of .result) (at-at-match-keys2 .match .keys2)) _ _
+    (λ o. put .0 o ∙ ap (λ (u : Trace). ran u x) (flat-pools (a .rows .now) (a .names .now) (a .declared .now) (a .pool .now) _ _ _ _ _ _)) (put .1)
 
 walk-field-grow-label-requires : (t : ℕ) → walk-field-lts.Need-grow-label-requires (walk-field-claims t) (walk-field-at t) walk-field.Post
 walk-field-grow-label-requires t c κs =
     let at-after-kind = c .before .before .before in
     let at-after-kind-of = at-after-kind .before .before in
     let at-start = at-after-kind-of .before .before .before .before .before .before .before .before .before in
-    (at-start .pre .1 .path, pool-lies (at-start .args .rows .now) (at-start .args .names .now) (at-start .args .declared .now) (at-start .args .pool .now) (at-after-kind .kind .given .0 .1 .0) (subst (KindLies (tables (at-start .args .rows .now) (at-start .args .names .now) (at-start .args .declared .now) (at-start .args .pool .now))) (sym (sym (at-after-kind .kind .given .1) ∙ (at-after-kind-of .kind-of .ensures ∙ (kind-tables (at-start .args .sink) (at-start .args .rows .now) (at-start .args .names .now) (at-start .args .declared .now) (at-start .args .pool .now) (at-start .args .below) (at-start .args .level) (at-start .args .handle) (at-start .args .end - at-start .args .from))))) (kind-lies (at-start .args .sink) (tables (at-start .args .rows .now) (at-start .args .names .now) (at-start .args .declared .now) (at-start .args .pool .now)) (at-start .args .below) (at-start .args .level) (at-start .args .handle) (at-start .args .end - at-start .args .from) (at-start .pre .1 .leaf-lies) (at-start .pre .1 .container-lies))))
+    let a = at-start .args in
+    let ready = at-start .pre .1 in
+    let lies = kind-ready (a .rows .now) (a .names .now) (a .declared .now) (a .pool .now) ready _ _ _ _ _ (sym (at-after-kind .kind .given .1) ∙ at-after-kind-of .kind-of .ensures) in
+    (ready .path, pool-lies (a .rows .now) (a .names .now) (a .declared .now) (a .pool .now) _ lies)
 
 walk-field-add-z : (t : ℕ) → walk-field-lts.Need-add-z (walk-field-claims t) (walk-field-at t) walk-field.Post
 walk-field-add-z t c =
@@ -163,7 +200,7 @@ walk-field-sub-walk-level-2 t c =
     let at-after-kind = c .before .before .before .before .before .before in
     let at-after-kind-of = at-after-kind .before .before in
     let at-start = at-after-kind-of .before .before .before .before .before .before .before .before .before in
-    omega (arith, array-below (at-start .args .sink) (tables (at-start .args .rows .now) (at-start .args .names .now) (at-start .args .declared .now) (at-start .args .pool .now)) (at-start .args .below) (at-start .args .level) (at-start .args .handle) (at-start .args .end - at-start .args .from) (at-after-kind .kind .given .0 .0) (at-after-kind .kind .given .0 .1 .0) (sym (at-after-kind .kind .given .1) ∙ (at-after-kind-of .kind-of .ensures ∙ (kind-tables (at-start .args .sink) (at-start .args .rows .now) (at-start .args .names .now) (at-start .args .declared .now) (at-start .args .pool .now) (at-start .args .below) (at-start .args .level) (at-start .args .handle) (at-start .args .end - at-start .args .from)))))
+    omega (arith, array-below _ _ _ _ _ _ _ _ (sym (at-after-kind .kind .given .1) ∙ at-after-kind-of .kind-of .ensures))
 
 walk-field-walk-level-requires : (t : ℕ) → walk-field-lts.Need-walk-level-requires (walk-field-claims t) (walk-field-at t) walk-field.Post
 walk-field-walk-level-requires t c κs =
@@ -171,7 +208,8 @@ walk-field-walk-level-requires t c κs =
     let at-after-kind = at-after-grow-label .before .before .before .before in
     let at-after-kind-of = at-after-kind .before .before in
     let at-start = at-after-kind-of .before .before .before .before .before .before .before .before .before in
-    let n = array-below (at-start .args .sink) (tables (at-start .args .rows .now) (at-start .args .names .now) (at-start .args .declared .now) (at-start .args .pool .now)) (at-start .args .below) (at-start .args .level) (at-start .args .handle) (at-start .args .end - at-start .args .from) (at-after-kind .kind .given .0 .0) (at-after-kind .kind .given .0 .1 .0) (sym (at-after-kind .kind .given .1) ∙ (at-after-kind-of .kind-of .ensures ∙ (kind-tables (at-start .args .sink) (at-start .args .rows .now) (at-start .args .names .now) (at-start .args .declared .now) (at-start .args .pool .now) (at-start .args .below) (at-start .args .level) (at-start .args .handle) (at-start .args .end - at-start .args .from)))) in (omega (arith, at-start .pre .0), ready-child (at-start .args .bytes .now) (at-start .args .from) (at-start .args .end) (at-start .args .plen) (at-after-grow-label .grow-label .result) (tables (at-start .args .rows .now) (at-start .args .names .now) (at-start .args .declared .now) (at-start .args .pool .now)) (at-start .args .spans .now) (at-start .pre .1) (at-after-grow-label .grow-label .ensures .within))
+    let n = array-below _ _ _ _ _ _ _ _ (sym (at-after-kind .kind .given .1) ∙ at-after-kind-of .kind-of .ensures) in
+    (omega (arith, at-start .pre .0), ready-child _ _ _ _ _ _ _ (at-start .pre .1) (at-after-grow-label .grow-label .ensures .within))
 
 walk-field-same-length-4 : (t : ℕ) → walk-field-lts.Need-same-length-4 (walk-field-claims t) (walk-field-at t) walk-field.Post
 walk-field-same-length-4 t c = search needs
@@ -190,11 +228,26 @@ walk-field-returns-2 t c =
     let at-after-kind-of = at-after-kind .before .before in
     let at-after-shared-slice-known = at-after-kind-of .before .before .before .before .before .before .before .before in
     let at-start = at-after-shared-slice-known .before in
-    field-walked (place (at-start .args .sink) (tables (at-start .args .rows .now) (at-start .args .names .now) (at-start .args .declared .now) (at-start .args .pool .now)) (at-start .args .below) (at-start .args .level) (at-start .args .bytes .now) (at-start .args .end) (take (at-start .args .plen) (at-start .args .path .now))) (at-start .args .index) (at-start .args .first) (at-start .args .handle) (at-start .args .from) (held (at-start .args .c .now) (at-start .args .words .now) (at-start .args .paths .now) (at-start .args .payloads .now)) (at-start .pre .1 .ordered) (at-after-kind .kind .given .0 .0) (at-after-kind .kind .given .0 .1 .0) (sym (at-after-kind .kind .given .1) ∙ (at-after-kind-of .kind-of .ensures ∙ (kind-tables (at-start .args .sink) (at-start .args .rows .now) (at-start .args .names .now) (at-start .args .declared .now) (at-start .args .pool .now) (at-start .args .below) (at-start .args .level) (at-start .args .handle) (at-start .args .end - at-start .args .from)))) (held (at-after-grow-label .grow-label .last .0) (at-start .args .words .now) (at-start .args .paths .now) (at-start .args .payloads .now)) (held (at-after-walk-level .walk-level .last .0) (at-after-walk-level .walk-level .last .1 .1 .1 .1 .1 .1 .1 .1 .1 .1 .1 .1 .1 .1 .1 .0) (at-after-walk-level .walk-level .last .1 .1 .1 .1 .1 .1 .1 .1 .1 .1 .1 .1 .1 .1 .1 .1 .0) (at-after-walk-level .walk-level .last .1 .1 .1 .1 .1 .1 .1 .1 .1 .1 .1 .1 .1 .1 .1 .1 .1 .0)) (take (at-after-grow-label .grow-label .result) (at-after-grow-label .grow-label .last .1 .0)) (take (at-start .args .plen) (at-after-walk-level .walk-level .last .1 .1 .1 .1 .1 .1 .1 .1 .1 .1 .1 .1 .1 .1 .0)) (place (at-start .args .sink) (tables (at-start .args .rows .now) (at-start .args .names .now) (at-start .args .declared .now) (at-start .args .pool .now)) (at-start .args .below - 1) (at-after-kind .kind .given .0 .0) (take ((at-start .args .end + 7) / 8 - at-start .args .from / 8) (drop (at-start .args .from / 8) (at-start .args .bytes .now))) (at-start .args .from % 8 + (at-start .args .end - at-start .args .from)) (take (at-after-grow-label .grow-label .result) (at-after-grow-label .grow-label .last .1 .0))) (at-start .args .from % 8) (take (at-after-grow-label .grow-label .result) (at-after-walk-level .walk-level .last .1 .1 .1 .1 .1 .1 .1 .1 .1 .1 .1 .1 .1 .1 .0)) (at-after-grow-label .grow-label .ensures .counts (at-start .args .words .now) (at-start .args .paths .now) (at-start .args .payloads .now) ∙ ap (λ (l : List ℕ). ran (noted (dot (take (at-start .args .plen) (at-start .args .path .now)) l)) (held (at-start .args .c .now) (at-start .args .words .now) (at-start .args .paths .now) (at-start .args .payloads .now))) (pool-bytes (at-start .args .rows .now) (at-start .args .names .now) (at-start .args .declared .now) (at-start .args .pool .now) (at-start .args .handle) (at-after-kind .kind .given .0 .1 .0))) (at-after-grow-label .grow-label .ensures .is ∙ ap (λ (l : List ℕ). grown (take (at-start .args .plen) (at-start .args .path .now)) (dot (take (at-start .args .plen) (at-start .args .path .now)) l)) (pool-bytes (at-start .args .rows .now) (at-start .args .names .now) (at-start .args .declared .now) (at-start .args .pool .now) (at-start .args .handle) (at-after-kind .kind .given .0 .1 .0))) (at-after-walk-level .walk-level .ensures) refl (λ o. part-bytes (at-start .args .bytes .now) (at-start .args .from) (at-start .args .end) o ((at-start .args .end + 7) / 8 - at-start .args .from / 8) (λ i. at-after-shared-slice-known .shared-slice-known .given i .fits) (at-start .pre .1 .ordered) (omega (arith, at-start .pre .1 .ordered, at-start .pre .1 .inside, at-start .pre .1 .short))) (prefix (at-start .args .plen) (at-after-grow-label .grow-label .result) (at-after-walk-level .walk-level .last .1 .1 .1 .1 .1 .1 .1 .1 .1 .1 .1 .1 .1 .1 .0) (at-after-grow-label .grow-label .last .1 .0) (at-after-grow-label .grow-label .ensures .more) (at-after-walk-level .walk-level .ensures .kept) ∙ at-after-grow-label .grow-label .ensures .kept)
+    let a = at-start .args in
+    let ready = at-start .pre .1 in
+    let grew = at-after-grow-label .grow-label .ensures in
+    let ran-level = at-after-walk-level .walk-level .ensures in
+    let bytes = pool-bytes (a .rows .now) (a .names .now) (a .declared .now) (a .pool .now) (a .handle) (at-after-kind .kind .given .0 .1 .0) in
+    let path = take (a .plen) (a .path .now) in
+    let x = held (a .c .now) (a .words .now) (a .paths .now) (a .payloads .now) in
+    let k = kind-is (a .rows .now) (a .names .now) (a .declared .now) (a .pool .now) _ _ _ _ _ (sym (at-after-kind .kind .given .1) ∙ at-after-kind-of .kind-of .ensures) in
+    field-walked _ _ _ _ _ _ (ready .ordered) _ _ k _ _ _ _ _ _ _
+    (grew .counts (a .words .now) (a .paths .now) (a .payloads .now) ∙ ap (λ (l : List ℕ). ran (noted (dot path l)) x) bytes)
+    (grew .is ∙ ap (λ (l : List ℕ). grown path (dot path l)) bytes) ran-level refl
+    (λ o. part-bytes _ _ _ o ((a .end + 7) / 8 - a .from / 8) (λ i. at-after-shared-slice-known .shared-slice-known .given i .fits) (ready .ordered)
+    (omega (arith, ready .ordered, ready .inside, ready .short)))
+    (prefix _ _ _ _ (grew .more) (ran-level .kept) ∙ grew .kept)
 
 abbrev walk-fields-Inv-loop : walk-fields-lts.InvT-loop
 walk-fields-Inv-loop c₀ bytes from end sink below level plen index rows spans names declared pool path₀ words₀ paths₀ payloads₀ first₀ at₀ left₀ c path words paths payloads first at left =
-    Fielding (place sink (tables rows names declared pool) below level bytes end (take plen path₀)) index «from» (held c₀ words₀ paths₀ payloads₀) (held c words paths payloads) (take plen path) at left first × (length words ≡ length words₀) × (length paths ≡ length paths₀) × (length payloads ≡ length payloads₀)
+    Fielding (place sink (tables rows names declared pool) below level bytes end (take plen path₀)) index «from»
+    (held c₀ words₀ paths₀ payloads₀) (held c words paths payloads) (take plen path) at left first
+    × (length words ≡ length words₀) × (length paths ≡ length paths₀) × (length payloads ≡ length payloads₀)
 
 abbrev walk-fields-μ-loop : walk-fields-lts.MeasureT-loop
 walk-fields-μ-loop c₀ bytes from end sink below level plen index rows spans names declared pool path₀ words₀ paths₀ payloads₀ first₀ at₀ left₀ c path words paths payloads first at left =
@@ -203,7 +256,7 @@ walk-fields-μ-loop c₀ bytes from end sink below level plen index rows spans n
 walk-fields-loop-holds : (t : ℕ) → walk-fields-lts.Need-loop-holds (walk-fields-claims t) (walk-fields-at t) walk-fields.Post walk-fields-Inv-loop walk-fields-μ-loop
 walk-fields-loop-holds t c =
     let at-start = c .before .before .before .before .before .before .before .before in
-    (fields-begin (place (at-start .args .sink) (tables (at-start .args .rows .now) (at-start .args .names .now) (at-start .args .declared .now) (at-start .args .pool .now)) (at-start .args .below) (at-start .args .level) (at-start .args .bytes .now) (at-start .args .end) (take (at-start .args .plen) (at-start .args .path .now))) (at-start .args .index) (at-start .args .from) (held (at-start .args .c .now) (at-start .args .words .now) (at-start .args .paths .now) (at-start .args .payloads .now)), refl, refl, refl)
+    (fields-begin _ _ _ _, refl, refl, refl)
 
 walk-fields-field-head-requires : (t : ℕ) → walk-fields-lts.Need-field-head-requires (walk-fields-claims t) (walk-fields-at t) walk-fields.Post walk-fields-Inv-loop walk-fields-μ-loop
 walk-fields-field-head-requires t c κs =
@@ -234,7 +287,8 @@ walk-fields-returns t c =
     let at-after-field-head = at-after-h .before .before in
     let at-at-loop = at-after-field-head .before in
     let at-start = at-at-loop .before .before .before .before .before .before .before .before .before in
-    fields-shut (place (at-start .args .sink) (tables (at-start .args .rows .now) (at-start .args .names .now) (at-start .args .declared .now) (at-start .args .pool .now)) (at-start .args .below) (at-start .args .level) (at-start .args .bytes .now) (at-start .args .end) (take (at-start .args .plen) (at-start .args .path .now))) (at-start .args .index) (at-start .args .from) (held (at-start .args .c .now) (at-start .args .words .now) (at-start .args .paths .now) (at-start .args .payloads .now)) (held (at-at-loop .loop .c) (at-at-loop .loop .words) (at-at-loop .loop .paths) (at-at-loop .loop .payloads)) (take (at-start .args .plen) (at-at-loop .loop .path)) (at-at-loop .loop .at) (at-at-loop .loop .left) (at-at-loop .loop .first) (at-start .pre .1 .ordered) (at-at-loop .loop .inv .0) (sym (at-after-field-head .field-head .ensures) ∙ at-after-h .h .given .1)
+    fields-shut _ _ _ _ _ _ _ _ _ (at-start .pre .1 .ordered) (at-at-loop .loop .inv .0)
+    (sym (at-after-field-head .field-head .ensures) ∙ at-after-h .h .given .1)
 
 walk-fields-enum-known-h-2 : (t : ℕ) → walk-fields-lts.Need-enum-known-h-2 (walk-fields-claims t) (walk-fields-at t) walk-fields.Post walk-fields-Inv-loop walk-fields-μ-loop
 walk-fields-enum-known-h-2 t c = search needs
@@ -244,7 +298,8 @@ walk-fields-stop-fields-requires t c κs =
     let at-after-field-head = c .before .before .before .before .before .before .before in
     let at-at-loop = at-after-field-head .before in
     let at-start = at-at-loop .before .before .before .before .before .before .before .before .before in
-    (field-head-in (at-start .args .bytes .now) (at-start .args .end) (at-at-loop .loop .left) (at-at-loop .loop .at) (at-after-field-head .field-head .result) (sym (at-after-field-head .field-head .ensures)), at-start .pre .1 .inside, at-start .pre .1 .short, at-start .pre .1 .path)
+    let ready = at-start .pre .1 in
+    (field-head-in _ _ _ _ _ (sym (at-after-field-head .field-head .ensures)), ready .inside, ready .short, ready .path)
 
 walk-fields-same-length-4 : (t : ℕ) → walk-fields-lts.Need-same-length-4 (walk-fields-claims t) (walk-fields-at t) walk-fields.Post walk-fields-Inv-loop walk-fields-μ-loop
 walk-fields-same-length-4 t c = search needs
@@ -263,7 +318,10 @@ walk-fields-returns-2 t c =
     let at-after-field-head = at-at-match-keys2 .before in
     let at-at-loop = at-after-field-head .before in
     let at-start = at-at-loop .before .before .before .before .before .before .before .before .before in
-    fields-end (place (at-start .args .sink) (tables (at-start .args .rows .now) (at-start .args .names .now) (at-start .args .declared .now) (at-start .args .pool .now)) (at-start .args .below) (at-start .args .level) (at-start .args .bytes .now) (at-start .args .end) (take (at-start .args .plen) (at-start .args .path .now))) (at-start .args .index) (at-start .args .from) (held (at-start .args .c .now) (at-start .args .words .now) (at-start .args .paths .now) (at-start .args .payloads .now)) (held (at-at-loop .loop .c) (at-at-loop .loop .words) (at-at-loop .loop .paths) (at-at-loop .loop .payloads)) (take (at-start .args .plen) (at-at-loop .loop .path)) (at-at-loop .loop .at) (at-at-loop .loop .left) (at-at-loop .loop .first) (at-start .pre .1 .ordered) (at-at-loop .loop .inv .0) (at-after-field-head .field-head .result) (sym (at-after-field-head .field-head .ensures)) (not-go (at-after-field-head .field-head .result) (at-at-match2-keys2 .match2 .keys2)) (not-closed (at-after-field-head .field-head .result) (at-at-match-keys2 .match .keys2)) (held (at-after-stop-fields .stop-fields .last .0) (at-after-stop-fields .stop-fields .last .1 .1 .1 .1 .1 .1 .1 .0) (at-after-stop-fields .stop-fields .last .1 .1 .1 .1 .1 .1 .1 .1 .0) (at-after-stop-fields .stop-fields .last .1 .1 .1 .1 .1 .1 .1 .1 .1 .0)) (take (at-start .args .plen) (at-after-stop-fields .stop-fields .last .1 .1 .1 .1 .1 .1 .0)) (at-after-stop-fields .stop-fields .ensures .0) (at-after-stop-fields .stop-fields .ensures .1)
+    let h = at-after-field-head .field-head .result in
+    let stop = at-after-stop-fields .stop-fields .ensures in
+    fields-end _ _ _ _ _ _ _ _ _ (at-start .pre .1 .ordered) (at-at-loop .loop .inv .0) h (sym (at-after-field-head .field-head .ensures))
+    (not-go h (at-at-match2-keys2 .match2 .keys2)) (not-closed h (at-at-match-keys2 .match .keys2)) _ _ (stop .0) (stop .1)
 
 walk-fields-walk-field-requires : (t : ℕ) → walk-fields-lts.Need-walk-field-requires (walk-fields-claims t) (walk-fields-at t) walk-fields.Post walk-fields-Inv-loop walk-fields-μ-loop
 walk-fields-walk-field-requires t c κs =
@@ -271,7 +329,9 @@ walk-fields-walk-field-requires t c κs =
     let at-after-field-head = at-after-h2 .before .before .before in
     let at-at-loop = at-after-field-head .before in
     let at-start = at-at-loop .before .before .before .before .before .before .before .before .before in
-    let n = (field-next (at-start .args .bytes .now) (at-start .args .end) (at-at-loop .loop .left) (at-at-loop .loop .at) (sym (at-after-field-head .field-head .ensures) ∙ at-after-h2 .h2 .given .1)) in let z = (at-at-loop .loop .inv .0) .later in (omega (arith, at-start .pre .0), ready-part (at-start .args .bytes .now) (at-start .args .from) (at-start .args .end) _ _ (at-start .args .plen) (at-start .args .plen) (tables (at-start .args .rows .now) (at-start .args .names .now) (at-start .args .declared .now) (at-start .args .pool .now)) (at-start .args .spans .now) (at-start .pre .1) (n .2) (n .3) (at-start .pre .1 .path))
+    let n = field-next _ _ _ _ (sym (at-after-field-head .field-head .ensures) ∙ at-after-h2 .h2 .given .1) in
+    let z = at-at-loop .loop .inv .0 .later in
+    (omega (arith, at-start .pre .0), ready-part _ _ _ _ _ _ _ _ _ (at-start .pre .1) (n .2) (n .3) (at-start .pre .1 .path))
 
 walk-fields-still-first-requires : (t : ℕ) → walk-fields-lts.Need-still-first-requires (walk-fields-claims t) (walk-fields-at t) walk-fields.Post walk-fields-Inv-loop walk-fields-μ-loop
 walk-fields-still-first-requires t c κs =
@@ -279,7 +339,7 @@ walk-fields-still-first-requires t c κs =
     let at-after-field-head = at-after-h2 .before .before .before in
     let at-at-loop = at-after-field-head .before in
     let at-start = at-at-loop .before .before .before .before .before .before .before .before .before in
-    (field-next (at-start .args .bytes .now) (at-start .args .end) (at-at-loop .loop .left) (at-at-loop .loop .at) (sym (at-after-field-head .field-head .ensures) ∙ at-after-h2 .h2 .given .1)) .2
+    (field-next _ _ _ _ (sym (at-after-field-head .field-head .ensures) ∙ at-after-h2 .h2 .given .1)) .2
 
 walk-fields-sub-left : (t : ℕ) → walk-fields-lts.Need-sub-left (walk-fields-claims t) (walk-fields-at t) walk-fields.Post walk-fields-Inv-loop walk-fields-μ-loop
 walk-fields-sub-left t c =
@@ -287,7 +347,8 @@ walk-fields-sub-left t c =
     let at-after-field-head = at-after-h2 .before .before .before in
     let at-at-loop = at-after-field-head .before in
     let at-start = at-at-loop .before .before .before .before .before .before .before .before .before in
-    let n = (field-next (at-start .args .bytes .now) (at-start .args .end) (at-at-loop .loop .left) (at-at-loop .loop .at) (sym (at-after-field-head .field-head .ensures) ∙ at-after-h2 .h2 .given .1)) in omega arith
+    let n = field-next _ _ _ _ (sym (at-after-field-head .field-head .ensures) ∙ at-after-h2 .h2 .given .1) in
+    omega arith
 
 walk-fields-loop-less : (t : ℕ) → walk-fields-lts.Need-loop-less (walk-fields-claims t) (walk-fields-at t) walk-fields.Post walk-fields-Inv-loop walk-fields-μ-loop
 walk-fields-loop-less t c =
@@ -295,7 +356,8 @@ walk-fields-loop-less t c =
     let at-after-field-head = at-after-h2 .before .before .before in
     let at-at-loop = at-after-field-head .before in
     let at-start = at-at-loop .before .before .before .before .before .before .before .before .before in
-    let n = (field-next (at-start .args .bytes .now) (at-start .args .end) (at-at-loop .loop .left) (at-at-loop .loop .at) (sym (at-after-field-head .field-head .ensures) ∙ at-after-h2 .h2 .given .1)) in omega arith
+    let n = field-next _ _ _ _ (sym (at-after-field-head .field-head .ensures) ∙ at-after-h2 .h2 .given .1) in
+    omega arith
 
 walk-fields-loop-again : (t : ℕ) → walk-fields-lts.Need-loop-again (walk-fields-claims t) (walk-fields-at t) walk-fields.Post walk-fields-Inv-loop walk-fields-μ-loop
 walk-fields-loop-again t c =
@@ -304,11 +366,20 @@ walk-fields-loop-again t c =
     let at-after-field-head = at-after-h2 .before .before .before in
     let at-at-loop = at-after-field-head .before in
     let at-start = at-at-loop .before .before .before .before .before .before .before .before .before in
-    (fields-turn (place (at-start .args .sink) (tables (at-start .args .rows .now) (at-start .args .names .now) (at-start .args .declared .now) (at-start .args .pool .now)) (at-start .args .below) (at-start .args .level) (at-start .args .bytes .now) (at-start .args .end) (take (at-start .args .plen) (at-start .args .path .now))) (at-start .args .index) (at-start .args .from) (held (at-start .args .c .now) (at-start .args .words .now) (at-start .args .paths .now) (at-start .args .payloads .now)) (held (at-at-loop .loop .c) (at-at-loop .loop .words) (at-at-loop .loop .paths) (at-at-loop .loop .payloads)) (take (at-start .args .plen) (at-at-loop .loop .path)) (at-at-loop .loop .at) (at-at-loop .loop .left) (at-at-loop .loop .first) (at-start .pre .1 .ordered) (at-at-loop .loop .inv .0) (sym (at-after-field-head .field-head .ensures) ∙ at-after-h2 .h2 .given .1) (held (at-after-walk-field .walk-field .last .0) (at-after-walk-field .walk-field .last .1 .1 .1 .1 .1 .1 .1 .1 .1 .1 .1 .1 .1 .1 .1 .1 .1 .0) (at-after-walk-field .walk-field .last .1 .1 .1 .1 .1 .1 .1 .1 .1 .1 .1 .1 .1 .1 .1 .1 .1 .1 .0) (at-after-walk-field .walk-field .last .1 .1 .1 .1 .1 .1 .1 .1 .1 .1 .1 .1 .1 .1 .1 .1 .1 .1 .1 .0)) (take (at-start .args .plen) (at-after-walk-field .walk-field .last .1 .1 .1 .1 .1 .1 .1 .1 .1 .1 .1 .1 .1 .1 .1 .1 .0)) (c .still-first .result) (at-after-walk-field .walk-field .ensures) (c .still-first .ensures), at-after-walk-field .walk-field .kept .1 .1 .1 .1 .1 .1 .1 .1 .1 .1 .1 .1 .1 .1 .1 .1 .1 .0 ∙ at-at-loop .loop .inv .1, at-after-walk-field .walk-field .kept .1 .1 .1 .1 .1 .1 .1 .1 .1 .1 .1 .1 .1 .1 .1 .1 .1 .1 .0 ∙ at-at-loop .loop .inv .2, at-after-walk-field .walk-field .kept .1 .1 .1 .1 .1 .1 .1 .1 .1 .1 .1 .1 .1 .1 .1 .1 .1 .1 .1 .0 ∙ at-at-loop .loop .inv .3)
+    let kept = at-after-walk-field .walk-field .kept .1 .1 .1 .1 .1 .1 .1 .1 .1 .1 .1 .1 .1 .1 .1 .1 .1 in
+    let inv = at-at-loop .loop .inv in (
+      fields-turn _ _ _ _ _ _ _ _ _ (at-start .pre .1 .ordered) (inv .0) (sym (at-after-field-head .field-head .ensures) ∙ at-after-h2 .h2 .given .1) _ _ _
+          (at-after-walk-field .walk-field .ensures) (c .still-first .ensures),
+      kept .0 ∙ inv .1,
+      kept .1 .0 ∙ inv .2,
+      kept .1 .1 .0 ∙ inv .3,
+    )
 
 abbrev walk-level-Inv-loop : walk-level-lts.InvT-loop
 walk-level-Inv-loop c₀ bytes from end sink inside below level plen rows spans names declared pool path₀ words₀ paths₀ payloads₀ total first at₀ left₀ c path words paths payloads at left =
-    Leveling (place sink (tables rows names declared pool) below level bytes end (take plen path₀)) inside «from» total (held c₀ words₀ paths₀ payloads₀) (held c words paths payloads) (take plen path) at left × (length words ≡ length words₀) × (length paths ≡ length paths₀) × (length payloads ≡ length payloads₀)
+    Leveling (place sink (tables rows names declared pool) below level bytes end (take plen path₀)) inside «from» total
+    (held c₀ words₀ paths₀ payloads₀) (held c words paths payloads) (take plen path) at left
+    × (length words ≡ length words₀) × (length paths ≡ length paths₀) × (length payloads ≡ length payloads₀)
 
 abbrev walk-level-μ-loop : walk-level-lts.MeasureT-loop
 walk-level-μ-loop c₀ bytes from end sink inside below level plen rows spans names declared pool path₀ words₀ paths₀ payloads₀ total first at₀ left₀ c path words paths payloads at left =
@@ -326,7 +397,8 @@ walk-level-stop-level-requires : (t : ℕ) → walk-level-lts.Need-stop-level-re
 walk-level-stop-level-requires t c κs =
     let at-after-level-head = c .before .before .before .before .before .before in
     let at-start = at-after-level-head .before .before .before .before .before .before .before .before .before in
-    (level-head-in (at-start .args .bytes .now) (at-start .args .from) (at-start .args .end) (at-after-level-head .level-head .result) (sym (at-after-level-head .level-head .ensures)), at-start .pre .1 .inside, at-start .pre .1 .short, at-start .pre .1 .path)
+    let ready = at-start .pre .1 in
+    (level-head-in _ _ _ _ (sym (at-after-level-head .level-head .ensures)), ready .inside, ready .short, ready .path)
 
 walk-level-same-length : (t : ℕ) → walk-level-lts.Need-same-length (walk-level-claims t) (walk-level-at t) walk-level.Post walk-level-Inv-loop walk-level-μ-loop
 walk-level-same-length t c = search needs
@@ -343,14 +415,17 @@ walk-level-returns t c =
     let at-at-match-keys2 = at-after-stop-level .before .before .before .before .before .before in
     let at-after-level-head = at-at-match-keys2 .before in
     let at-start = at-after-level-head .before .before .before .before .before .before .before .before .before in
-    level-end (place (at-start .args .sink) (tables (at-start .args .rows .now) (at-start .args .names .now) (at-start .args .declared .now) (at-start .args .pool .now)) (at-start .args .below) (at-start .args .level) (at-start .args .bytes .now) (at-start .args .end) (take (at-start .args .plen) (at-start .args .path .now))) (at-start .args .inside) (at-start .args .from) (at-start .pre .1 .ordered) (at-after-level-head .level-head .result) (sym (at-after-level-head .level-head .ensures)) (not-go (at-after-level-head .level-head .result) (at-at-match-keys2 .match .keys2)) (held (at-start .args .c .now) (at-start .args .words .now) (at-start .args .paths .now) (at-start .args .payloads .now)) (held (at-after-stop-level .stop-level .last .0) (at-after-stop-level .stop-level .last .1 .1 .1 .1 .1 .1 .1 .1 .0) (at-after-stop-level .stop-level .last .1 .1 .1 .1 .1 .1 .1 .1 .1 .0) (at-after-stop-level .stop-level .last .1 .1 .1 .1 .1 .1 .1 .1 .1 .1 .0)) (take (at-start .args .plen) (at-after-stop-level .stop-level .last .1 .1 .1 .1 .1 .1 .1 .0)) (at-after-stop-level .stop-level .ensures .0) (at-after-stop-level .stop-level .ensures .1)
+    let h = at-after-level-head .level-head .result in
+    let stop = at-after-stop-level .stop-level .ensures in
+    level-end _ _ _ (at-start .pre .1 .ordered) h (sym (at-after-level-head .level-head .ensures)) (not-go h (at-at-match-keys2 .match .keys2)) _ _ _
+    (stop .0) (stop .1)
 
 walk-level-loop-holds : (t : ℕ) → walk-level-lts.Need-loop-holds (walk-level-claims t) (walk-level-at t) walk-level.Post walk-level-Inv-loop walk-level-μ-loop
 walk-level-loop-holds t c =
     let at-after-o = c .before in
     let at-after-level-head = at-after-o .before .before in
     let at-start = at-after-level-head .before .before .before .before .before .before .before .before .before in
-    (level-begin (place (at-start .args .sink) (tables (at-start .args .rows .now) (at-start .args .names .now) (at-start .args .declared .now) (at-start .args .pool .now)) (at-start .args .below) (at-start .args .level) (at-start .args .bytes .now) (at-start .args .end) (take (at-start .args .plen) (at-start .args .path .now))) (at-start .args .inside) (at-start .args .from) (at-start .pre .1 .ordered) (sym (at-after-level-head .level-head .ensures) ∙ at-after-o .o .given .1) (held (at-start .args .c .now) (at-start .args .words .now) (at-start .args .paths .now) (at-start .args .payloads .now)), refl, refl, refl)
+    (level-begin _ _ _ (at-start .pre .1 .ordered) (sym (at-after-level-head .level-head .ensures) ∙ at-after-o .o .given .1) _, refl, refl, refl)
 
 walk-level-element-head-requires : (t : ℕ) → walk-level-lts.Need-element-head-requires (walk-level-claims t) (walk-level-at t) walk-level.Post walk-level-Inv-loop walk-level-μ-loop
 walk-level-element-head-requires t c κs =
@@ -366,7 +441,8 @@ walk-level-stop-level-requires-2 t c κs =
     let at-at-loop = at-after-element-head .before in
     let at-after-o = at-at-loop .before .before in
     let at-start = at-after-o .before .before .before .before .before .before .before .before .before .before .before in
-    (element-head-in (at-start .args .bytes .now) (at-start .args .end) (at-after-o .o .given .0 .0) (at-at-loop .loop .left) (at-at-loop .loop .at) (at-after-element-head .element-head .result) (sym (at-after-element-head .element-head .ensures)), at-start .pre .1 .inside, at-start .pre .1 .short, at-start .pre .1 .path)
+    let ready = at-start .pre .1 in
+    (element-head-in _ _ _ _ _ _ (sym (at-after-element-head .element-head .ensures)), ready .inside, ready .short, ready .path)
 
 walk-level-same-length-4 : (t : ℕ) → walk-level-lts.Need-same-length-4 (walk-level-claims t) (walk-level-at t) walk-level.Post walk-level-Inv-loop walk-level-μ-loop
 walk-level-same-length-4 t c = search needs
@@ -385,7 +461,10 @@ walk-level-returns-2 t c =
     let at-at-loop = at-after-element-head .before in
     let at-after-o = at-at-loop .before .before in
     let at-start = at-after-o .before .before .before .before .before .before .before .before .before .before .before in
-    elements-end (place (at-start .args .sink) (tables (at-start .args .rows .now) (at-start .args .names .now) (at-start .args .declared .now) (at-start .args .pool .now)) (at-start .args .below) (at-start .args .level) (at-start .args .bytes .now) (at-start .args .end) (take (at-start .args .plen) (at-start .args .path .now))) (at-start .args .inside) (at-start .args .from) (at-start .pre .1 .ordered) (at-after-o .o .given .0 .0) (held (at-start .args .c .now) (at-start .args .words .now) (at-start .args .paths .now) (at-start .args .payloads .now)) (held (at-at-loop .loop .c) (at-at-loop .loop .words) (at-at-loop .loop .paths) (at-at-loop .loop .payloads)) (take (at-start .args .plen) (at-at-loop .loop .path)) (at-at-loop .loop .at) (at-at-loop .loop .left) (at-at-loop .loop .inv .0) (at-after-element-head .element-head .result) (sym (at-after-element-head .element-head .ensures)) (not-go (at-after-element-head .element-head .result) (at-at-match2-keys2 .match2 .keys2)) (held (at-after-stop-level2 .stop-level2 .last .0) (at-after-stop-level2 .stop-level2 .last .1 .1 .1 .1 .1 .1 .1 .1 .0) (at-after-stop-level2 .stop-level2 .last .1 .1 .1 .1 .1 .1 .1 .1 .1 .0) (at-after-stop-level2 .stop-level2 .last .1 .1 .1 .1 .1 .1 .1 .1 .1 .1 .0)) (take (at-start .args .plen) (at-after-stop-level2 .stop-level2 .last .1 .1 .1 .1 .1 .1 .1 .0)) (at-after-stop-level2 .stop-level2 .ensures .0) (at-after-stop-level2 .stop-level2 .ensures .1)
+    let h = at-after-element-head .element-head .result in
+    let stop = at-after-stop-level2 .stop-level2 .ensures in
+    elements-end _ _ _ (at-start .pre .1 .ordered) _ _ _ _ _ _ (at-at-loop .loop .inv .0) h (sym (at-after-element-head .element-head .ensures))
+    (not-go h (at-at-match2-keys2 .match2 .keys2)) _ _ (stop .0) (stop .1)
 
 walk-level-enter-requires : (t : ℕ) → walk-level-lts.Need-enter-requires (walk-level-claims t) (walk-level-at t) walk-level.Post walk-level-Inv-loop walk-level-μ-loop
 walk-level-enter-requires t c κs =
@@ -400,7 +479,9 @@ walk-level-walk-fields-requires t c κs =
     let at-at-loop = at-after-element-head .before in
     let at-after-o = at-at-loop .before .before in
     let at-start = at-after-o .before .before .before .before .before .before .before .before .before .before .before in
-    let n = (element-next (at-start .args .bytes .now) (at-start .args .end) (at-after-o .o .given .0 .0) (at-at-loop .loop .left) (at-at-loop .loop .at) (sym (at-after-element-head .element-head .ensures) ∙ at-after-h .h .given .1)) in let z = (at-at-loop .loop .inv .0) .later in (omega (arith, at-start .pre .0), ready-part (at-start .args .bytes .now) (at-start .args .from) (at-start .args .end) _ _ (at-start .args .plen) (at-after-enter .enter .result) (tables (at-start .args .rows .now) (at-start .args .names .now) (at-start .args .declared .now) (at-start .args .pool .now)) (at-start .args .spans .now) (at-start .pre .1) (n .2) (omega arith) (at-after-enter .enter .ensures .within))
+    let n = element-next _ _ _ _ _ (sym (at-after-element-head .element-head .ensures) ∙ at-after-h .h .given .1) in
+    let z = at-at-loop .loop .inv .0 .later in
+    (omega (arith, at-start .pre .0), ready-part _ _ _ _ _ _ _ _ _ (at-start .pre .1) (n .2) (omega arith) (at-after-enter .enter .ensures .within))
 
 walk-level-enum-known-w : (t : ℕ) → walk-level-lts.Need-enum-known-w (walk-level-claims t) (walk-level-at t) walk-level.Post walk-level-Inv-loop walk-level-μ-loop
 walk-level-enum-known-w t c = search needs
@@ -435,7 +516,12 @@ walk-level-returns-3 t c =
     let at-at-loop = at-after-element-head .before in
     let at-after-o = at-at-loop .before .before in
     let at-start = at-after-o .before .before .before .before .before .before .before .before .before .before .before in
-    elements-open (place (at-start .args .sink) (tables (at-start .args .rows .now) (at-start .args .names .now) (at-start .args .declared .now) (at-start .args .pool .now)) (at-start .args .below) (at-start .args .level) (at-start .args .bytes .now) (at-start .args .end) (take (at-start .args .plen) (at-start .args .path .now))) (at-start .args .inside) (at-start .args .from) (at-start .pre .1 .ordered) (at-after-o .o .given .0 .0) (held (at-start .args .c .now) (at-start .args .words .now) (at-start .args .paths .now) (at-start .args .payloads .now)) (held (at-at-loop .loop .c) (at-at-loop .loop .words) (at-at-loop .loop .paths) (at-at-loop .loop .payloads)) (take (at-start .args .plen) (at-at-loop .loop .path)) (at-at-loop .loop .at) (at-at-loop .loop .left) (at-at-loop .loop .inv .0) (at-after-h .h .given .0 .0) (at-after-h .h .given .0 .1 .0) (at-after-h .h .given .0 .1 .1 .0) (sym (at-after-element-head .element-head .ensures) ∙ at-after-h .h .given .1) (held (at-after-enter .enter .last .0) (at-at-loop .loop .words) (at-at-loop .loop .paths) (at-at-loop .loop .payloads)) (held (at-after-walk-fields .walk-fields .last .0) (at-after-walk-fields .walk-fields .last .1 .1 .1 .1 .1 .1 .1 .1 .1 .1 .1 .1 .1 .1 .1 .0) (at-after-walk-fields .walk-fields .last .1 .1 .1 .1 .1 .1 .1 .1 .1 .1 .1 .1 .1 .1 .1 .1 .0) (at-after-walk-fields .walk-fields .last .1 .1 .1 .1 .1 .1 .1 .1 .1 .1 .1 .1 .1 .1 .1 .1 .1 .0)) (take (at-after-enter .enter .result) (at-after-enter .enter .last .1 .0)) (take (at-start .args .plen) (at-after-walk-fields .walk-fields .last .1 .1 .1 .1 .1 .1 .1 .1 .1 .1 .1 .1 .1 .1 .0)) (at-after-enter .enter .ensures .counts (at-at-loop .loop .words) (at-at-loop .loop .paths) (at-at-loop .loop .payloads)) (at-after-enter .enter .ensures .is) (at-after-walk-fields .walk-fields .result) (take (at-after-enter .enter .result) (at-after-walk-fields .walk-fields .last .1 .1 .1 .1 .1 .1 .1 .1 .1 .1 .1 .1 .1 .1 .0)) (at-after-walk-fields .walk-fields .ensures) (prefix (at-start .args .plen) (at-after-enter .enter .result) (at-after-walk-fields .walk-fields .last .1 .1 .1 .1 .1 .1 .1 .1 .1 .1 .1 .1 .1 .1 .0) (at-after-enter .enter .last .1 .0) (at-after-enter .enter .ensures .more) (at-after-walk-fields .walk-fields .ensures .kept) ∙ at-after-enter .enter .ensures .kept) (c .enum-told .given .1)
+    let entered = at-after-enter .enter .ensures in
+    let loop = at-at-loop .loop in
+    let fields = at-after-walk-fields .walk-fields .ensures in
+    elements-open _ _ _ (at-start .pre .1 .ordered) _ _ _ _ _ _ (loop .inv .0) _ _ _ (sym (at-after-element-head .element-head .ensures) ∙ at-after-h .h .given .1)
+    _ _ _ _ (entered .counts (loop .words) (loop .paths) (loop .payloads)) (entered .is) _ _ fields
+    (prefix _ _ _ _ (entered .more) (fields .kept) ∙ entered .kept) (c .enum-told .given .1)
 
 walk-level-sub-left : (t : ℕ) → walk-level-lts.Need-sub-left (walk-level-claims t) (walk-level-at t) walk-level.Post walk-level-Inv-loop walk-level-μ-loop
 walk-level-sub-left t c =
@@ -444,7 +530,8 @@ walk-level-sub-left t c =
     let at-at-loop = at-after-element-head .before in
     let at-after-o = at-at-loop .before .before in
     let at-start = at-after-o .before .before .before .before .before .before .before .before .before .before .before in
-    let n = (element-next (at-start .args .bytes .now) (at-start .args .end) (at-after-o .o .given .0 .0) (at-at-loop .loop .left) (at-at-loop .loop .at) (sym (at-after-element-head .element-head .ensures) ∙ at-after-h .h .given .1)) in omega arith
+    let n = element-next _ _ _ _ _ (sym (at-after-element-head .element-head .ensures) ∙ at-after-h .h .given .1) in
+    omega arith
 
 walk-level-loop-less : (t : ℕ) → walk-level-lts.Need-loop-less (walk-level-claims t) (walk-level-at t) walk-level.Post walk-level-Inv-loop walk-level-μ-loop
 walk-level-loop-less t c =
@@ -453,7 +540,8 @@ walk-level-loop-less t c =
     let at-at-loop = at-after-element-head .before in
     let at-after-o = at-at-loop .before .before in
     let at-start = at-after-o .before .before .before .before .before .before .before .before .before .before .before in
-    let n = (element-next (at-start .args .bytes .now) (at-start .args .end) (at-after-o .o .given .0 .0) (at-at-loop .loop .left) (at-at-loop .loop .at) (sym (at-after-element-head .element-head .ensures) ∙ at-after-h .h .given .1)) in omega arith
+    let n = element-next _ _ _ _ _ (sym (at-after-element-head .element-head .ensures) ∙ at-after-h .h .given .1) in
+    omega arith
 
 walk-level-loop-again : (t : ℕ) → walk-level-lts.Need-loop-again (walk-level-claims t) (walk-level-at t) walk-level.Post walk-level-Inv-loop walk-level-μ-loop
 walk-level-loop-again t c =
@@ -465,7 +553,17 @@ walk-level-loop-again t c =
     let at-at-loop = at-after-element-head .before in
     let at-after-o = at-at-loop .before .before in
     let at-start = at-after-o .before .before .before .before .before .before .before .before .before .before .before in
-    (elements-turn (place (at-start .args .sink) (tables (at-start .args .rows .now) (at-start .args .names .now) (at-start .args .declared .now) (at-start .args .pool .now)) (at-start .args .below) (at-start .args .level) (at-start .args .bytes .now) (at-start .args .end) (take (at-start .args .plen) (at-start .args .path .now))) (at-start .args .inside) (at-start .args .from) (at-start .pre .1 .ordered) (at-after-o .o .given .0 .0) (held (at-start .args .c .now) (at-start .args .words .now) (at-start .args .paths .now) (at-start .args .payloads .now)) (held (at-at-loop .loop .c) (at-at-loop .loop .words) (at-at-loop .loop .paths) (at-at-loop .loop .payloads)) (take (at-start .args .plen) (at-at-loop .loop .path)) (at-at-loop .loop .at) (at-at-loop .loop .left) (at-at-loop .loop .inv .0) (at-after-h .h .given .0 .0) (at-after-h .h .given .0 .1 .0) (at-after-h .h .given .0 .1 .1 .0) (sym (at-after-element-head .element-head .ensures) ∙ at-after-h .h .given .1) (held (at-after-enter .enter .last .0) (at-at-loop .loop .words) (at-at-loop .loop .paths) (at-at-loop .loop .payloads)) (held (at-after-walk-fields .walk-fields .last .0) (at-after-walk-fields .walk-fields .last .1 .1 .1 .1 .1 .1 .1 .1 .1 .1 .1 .1 .1 .1 .1 .0) (at-after-walk-fields .walk-fields .last .1 .1 .1 .1 .1 .1 .1 .1 .1 .1 .1 .1 .1 .1 .1 .1 .0) (at-after-walk-fields .walk-fields .last .1 .1 .1 .1 .1 .1 .1 .1 .1 .1 .1 .1 .1 .1 .1 .1 .1 .0)) (take (at-after-enter .enter .result) (at-after-enter .enter .last .1 .0)) (take (at-start .args .plen) (at-after-walk-fields .walk-fields .last .1 .1 .1 .1 .1 .1 .1 .1 .1 .1 .1 .1 .1 .1 .0)) (at-after-enter .enter .ensures .counts (at-at-loop .loop .words) (at-at-loop .loop .paths) (at-at-loop .loop .payloads)) (at-after-enter .enter .ensures .is) (at-after-walk-fields .walk-fields .result) (take (at-after-enter .enter .result) (at-after-walk-fields .walk-fields .last .1 .1 .1 .1 .1 .1 .1 .1 .1 .1 .1 .1 .1 .1 .0)) (at-after-walk-fields .walk-fields .ensures) (prefix (at-start .args .plen) (at-after-enter .enter .result) (at-after-walk-fields .walk-fields .last .1 .1 .1 .1 .1 .1 .1 .1 .1 .1 .1 .1 .1 .1 .0) (at-after-enter .enter .last .1 .0) (at-after-enter .enter .ensures .more) (at-after-walk-fields .walk-fields .ensures .kept) ∙ at-after-enter .enter .ensures .kept) _ (at-after-w .w .given .1), at-after-walk-fields .walk-fields .kept .1 .1 .1 .1 .1 .1 .1 .1 .1 .1 .1 .1 .1 .1 .1 .0 ∙ at-at-loop .loop .inv .1, at-after-walk-fields .walk-fields .kept .1 .1 .1 .1 .1 .1 .1 .1 .1 .1 .1 .1 .1 .1 .1 .1 .0 ∙ at-at-loop .loop .inv .2, at-after-walk-fields .walk-fields .kept .1 .1 .1 .1 .1 .1 .1 .1 .1 .1 .1 .1 .1 .1 .1 .1 .1 .0 ∙ at-at-loop .loop .inv .3)
+    let entered = at-after-enter .enter .ensures in
+    let loop = at-at-loop .loop in
+    let fields = at-after-walk-fields .walk-fields .ensures in
+    let kept = at-after-walk-fields .walk-fields .kept .1 .1 .1 .1 .1 .1 .1 .1 .1 .1 .1 .1 .1 .1 .1 in (
+      elements-turn _ _ _ (at-start .pre .1 .ordered) _ _ _ _ _ _ (loop .inv .0) _ _ _ (sym (at-after-element-head .element-head .ensures) ∙ at-after-h .h .given .1)
+          _ _ _ _ (entered .counts (loop .words) (loop .paths) (loop .payloads)) (entered .is) _ _ fields
+          (prefix _ _ _ _ (entered .more) (fields .kept) ∙ entered .kept) _ (at-after-w .w .given .1),
+      kept .0 ∙ loop .inv .1,
+      kept .1 .0 ∙ loop .inv .2,
+      kept .1 .1 .0 ∙ loop .inv .3,
+    )
 
 pub +walk-field+walk-fields+walk-level-spec : {M : Type 1} → statement M
 +walk-field+walk-fields+walk-level-spec =

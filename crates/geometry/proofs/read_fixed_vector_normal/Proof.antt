@@ -7,14 +7,14 @@ use Rattle.geometry.proofs.PartLaws.{below-integers}
 use Rattle.geometry.proofs.read_fixed_vector_normal.Statement.{statement}
 use Rattle.geometry.proofs.read_fixed_vector_normal.Tie as tie
 
-read-three-requires : tie.Need-read-three-requires
-read-three-requires c κs = search needs
+three-shorts-requires : tie.Need-three-shorts-requires
+three-shorts-requires c κs = search needs
 
 normal-of-requires : tie.Need-normal-of-requires
-normal-of-requires c κs = below-integers _ _ 65536 (omega arith) (omega arith) (c .read-three .ensures)
+normal-of-requires c κs = below-integers _ _ 65536 (omega arith) (omega arith) (c .three-shorts .ensures)
 
 returns : tie.Need-returns
-returns c = c .normal-of .ensures ∙ ap normalOf (c .before .read-three .ensures)
+returns c = c .normal-of .ensures ∙ ap normalOf (c .before .three-shorts .ensures)
 
 pub read-fixed-vector-normal-spec : {M : Type 1} → statement M
-read-fixed-vector-normal-spec = tie.close (tie.spec read-three-requires normal-of-requires returns)
+read-fixed-vector-normal-spec = tie.close (tie.spec three-shorts-requires normal-of-requires returns)

@@ -1,9 +1,10 @@
-use Rattle.recorded.proofs.FillLaws.{filled}
+use Prim.Native.Nat.{ℕ}
+use Rattle.bits.proofs.RunLaws.{length-filled}
 use Rattle.replay.proofs.room.Statement.{statement}
 use Rattle.replay.proofs.room.Tie as tie
 
 returns : tie.Need-returns
-returns c = filled 4194304 0
+returns c = length-filled {A = ℕ} 4194304 0
 
 pub room-spec : {M : Type 1} → statement M
 room-spec = tie.close (tie.spec returns)

@@ -1,7 +1,7 @@
 -- `passes::has_room` meets its contract: the first output that is too short decides, else the last test.
 use borrow.Author.Needs.{needs}
 use Rattle.array.specs.Refusals.{roomIn}
-use Rattle.array.specs.Passing.{roomBy}
+use Rattle.outputs.specs.Answers.{roomBy}
 use Rattle.array.proofs.PassLaws.{few-leaves, few-paths, payloads-decide}
 use Rattle.array.proofs.passes.has_room.Statement.{statement}
 use Rattle.array.proofs.passes.has_room.Tie as tie

@@ -1,11 +1,11 @@
 use native.Mathlib.Omega.{arith}
-use mathlib.Core.Path.{_≡_, refl, sym, ap, _∙_}
+use mathlib.Core.Path.{_≡_, refl, _∙_}
 use mathlib.Core.List.{List}
-use Prim.Native.Nat.{ℕ, _-_, _*_, _/_, _^_, _≤_}
-use lib.ListN.{length, length-set}
+use Prim.Native.Nat.{ℕ, _-_, _*_, _/_, _≤_}
+use lib.ListN.{length}
 use Rattle.bits.specs.Bits.{num, field}
 use Rattle.bits.specs.Runs.{put, bytesOf}
-use Rattle.bits.proofs.RunLaws.{put-none, words-more}
+use Rattle.bits.proofs.RunLaws.{put-no-bytes, words-more}
 use Rattle.bits.proofs.copy.copy_words.Statement.{statement}
 use Rattle.bits.proofs.copy.copy_words.Tie as tie
 
@@ -21,7 +21,7 @@ abbrev μ-loop : tie.MeasureT-loop
 μ-loop s at d₀ count words k₀ d k = words - k
 
 loop-holds : tie.Need-loop-holds Inv-loop μ-loop
-loop-holds c = record { below = omega arith; same = refl; now-is = put-none _ _ _ }
+loop-holds c = record { below = omega arith; same = refl; now-is = put-no-bytes _ _ _ }
 
 mul-word-at : tie.Need-mul-word-at Inv-loop μ-loop
 mul-word-at c = omega arith

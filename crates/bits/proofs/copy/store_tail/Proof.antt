@@ -1,11 +1,11 @@
 use native.Mathlib.Omega.{arith}
-use mathlib.Core.Path.{_≡_, refl, sym, _∙_}
+use mathlib.Core.Path.{_≡_, refl, sym}
 use mathlib.Core.List.{List}
 use Prim.Native.Nat.{ℕ, _-_, _*_, _/_, _^_, _≤_}
 use native.Mathlib.Nat.{div-one}
 use lib.ListN.{length, length-set}
 use Rattle.bits.specs.Runs.{put, bytesOf}
-use Rattle.bits.proofs.RunLaws.{put-none, tail-step}
+use Rattle.bits.proofs.RunLaws.{put-no-bytes, tail-step}
 use Rattle.bits.proofs.copy.store_tail.Statement.{statement}
 use Rattle.bits.proofs.copy.store_tail.Tie as tie
 
@@ -22,7 +22,7 @@ abbrev μ-loop : tie.MeasureT-loop
 μ-loop d₀ i n w v₀ j₀ d v j = n - j
 
 loop-holds : tie.Need-loop-holds Inv-loop μ-loop
-loop-holds c = record { below = omega arith; same = refl; now-is = put-none _ _ _; left-is = sym (div-one _) }
+loop-holds c = record { below = omega arith; same = refl; now-is = put-no-bytes _ _ _; left-is = sym (div-one _) }
 
 cast-d : tie.Need-cast-d Inv-loop μ-loop
 cast-d c = omega arith

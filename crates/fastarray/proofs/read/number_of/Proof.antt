@@ -6,7 +6,7 @@ use native.Mathlib.Omega.{arith}
 use Rattle.bits.proofs.PackedLaws.{whole-within}
 use Rattle.bits.specs.declared.Packed.{Packed}
 use Rattle.bits.specs.declared.Packed.the-variants.{Whole}
-use Rattle.fastarray.specs.Body.{window, asNumber, numberAt}
+use Rattle.fastarray.specs.Body.{window, asNumber, packedAt}
 use Rattle.fastarray.specs.Parts.{takenOf}
 use Rattle.fastarray.proofs.ReadLaws.{window-packed}
 use Rattle.fastarray.proofs.read.number_of.Statement.{statement}
@@ -22,7 +22,7 @@ ends : (c : tie.After-packed-at) (v n : ℕ) → c .packed-at .result ≡ Whole 
 ends c v n e = whole-within _ _ _ (omega arith) v n (sym (c .packed-at .ensures) ∙ e)
 
 found-is : (c : tie.After-packed-at) (r : Packed) → c .packed-at .result ≡ r
-    → takenOf (asNumber (c .before .before .args .at) r) ≡ takenOf (numberAt (window (c .before .before .args .s .now) (c .before .before .args .end)) (c .before .before .args .end) (c .before .before .args .at))
+    → takenOf (asNumber (c .before .before .args .at) r) ≡ takenOf (packedAt (window (c .before .before .args .s .now) (c .before .before .args .end)) (c .before .before .args .end) (c .before .before .args .at))
 found-is c r e = sym (ap (λ (x : Packed). takenOf (asNumber (c .before .before .args .at) x)) (window-packed _ _ _ ∙ sym (c .packed-at .ensures) ∙ e))
 
 mul-next : tie.Need-mul-next

@@ -6,7 +6,7 @@ use mathlib.Core.List.{[], _∷_}
 use lib.IntN.{ℤ}
 use mir.Facts.{toZ-ofZ}
 use Rattle.bits.specs.Runs.{store}
-use Rattle.fastarray.proofs.StoreLaws.{store-one, store-not}
+use Rattle.bits.proofs.RunLaws.{put-one, store-fits, store-out}
 use Rattle.fastarray.proofs.store.store_deleted.Statement.{statement}
 use Rattle.fastarray.proofs.store.store_deleted.Tie as tie
 
@@ -20,10 +20,10 @@ same-length : tie.Need-same-length
 same-length c = search needs
 
 returns : tie.Need-returns
-returns c = store-one _ _ _ (omega arith) ∙ ap (λ (z : ℤ). store (c .before .args .d .now) (c .before .args .k) (z ∷ [])) (toZ-ofZ (c .before .fits .id))
+returns c = put-one _ _ _ (omega arith) ∙ sym (store-fits _ _ _ (omega arith)) ∙ ap (λ (z : ℤ). store (c .before .args .d .now) (c .before .args .k) (z ∷ [])) (toZ-ofZ (c .before .fits .id))
 
 returns-2 : tie.Need-returns-2
-returns-2 c = sym (store-not _ _ _ (omega arith))
+returns-2 c = sym (store-out _ _ _ (omega arith))
 
 pub store-deleted-spec : {M : Type 1} → statement M
 store-deleted-spec = tie.close (tie.spec mul-id slice-set-from-id same-length returns returns-2)

@@ -1,9 +1,9 @@
 -- `fastarray::store_item` meets its contract: the stores of a record that fits are its run.
 use borrow.Author.Needs.{needs}
-use mathlib.Core.Path.{sym}
+use mathlib.Core.Path.{sym, _∙_}
 use native.Mathlib.Omega.{arith}
 use lib.ListN.{length-set}
-use Rattle.fastarray.proofs.StoreLaws.{store-two, store-not}
+use Rattle.bits.proofs.RunLaws.{put-two, store-fits, store-out}
 use Rattle.fastarray.proofs.store.store_item.Statement.{statement}
 use Rattle.fastarray.proofs.store.store_item.Tie as tie
 
@@ -32,10 +32,10 @@ same-length : tie.Need-same-length
 same-length c = search needs
 
 returns : tie.Need-returns
-returns c = store-two _ _ _ _ (omega arith)
+returns c = put-two _ _ _ _ (omega arith) ∙ sym (store-fits _ _ _ (omega arith))
 
 returns-2 : tie.Need-returns-2
-returns-2 c = sym (store-not _ _ _ (omega arith))
+returns-2 c = sym (store-out _ _ _ (omega arith))
 
 pub store-item-spec : {M : Type 1} → statement M
 store-item-spec = tie.close (tie.spec mul-i add-if1 mul-d slice-write-d add-d mul-d-2 slice-write-d-2 same-length returns returns-2)

@@ -13,12 +13,12 @@ read-together-requires c κs = search needs
 returns : tie.Need-returns
 returns c = one-read _ _ _ (c .before .if1 .taken) (c .read-together .ensures)
 
-read-three-requires : tie.Need-read-three-requires
-read-three-requires c κs = search needs
+three-bits-requires : tie.Need-three-bits-requires
+three-bits-requires c κs = search needs
 
 returns-2 : tie.Need-returns-2
-returns-2 c = three-reads _ _ _ (c .before .if1 .left) (c .read-three .ensures)
+returns-2 c = three-reads _ _ _ (c .before .if1 .left) (c .three-bits .ensures)
 
 pub read-components-spec : {M : Type 1} → statement M
 read-components-spec =
-    tie.close (tie.spec mul-if1 read-together-requires returns read-three-requires returns-2)
+    tie.close (tie.spec mul-if1 read-together-requires returns three-bits-requires returns-2)

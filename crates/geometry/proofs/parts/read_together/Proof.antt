@@ -1,8 +1,10 @@
--- `geometry::parts::read_together` meets its contract: the three numbers are the fields of the one.
+-- `geometry::parts::read_together` meets its contract: skipping the bits tells what the read does, and the three numbers are the fields of the one.
 use borrow.Author.Needs.{needs}
-use mathlib.Core.Path.{ap, _∙_}
-use Rattle.geometry.proofs.PartLaws.{size-pos, apart, together-refused}
+use mathlib.Core.Path.{refl, sym, ap, _∙_}
+use native.Mathlib.Omega.{arith}
 use Rattle.geometry.specs.Parts.{together}
+use Rattle.geometry.proofs.PartLaws.{together-refused}
+use Rattle.geometry.proofs.RoomLaws.{room-there, bits-there, read-refused}
 use Rattle.geometry.proofs.parts.read_together.Statement.{statement}
 use Rattle.geometry.proofs.parts.read_together.Tie as tie
 
@@ -12,44 +14,31 @@ mul-count c = search needs
 cast-count : tie.Need-cast-count
 cast-count c = search needs
 
-read-bits-requires : tie.Need-read-bits-requires
-read-bits-requires c κs = search needs
+skip-bits-requires : tie.Need-skip-bits-requires
+skip-bits-requires c κs = search needs
 
-enum-known-read : tie.Need-enum-known-read
-enum-known-read c = search needs
+enum-known-room : tie.Need-enum-known-room
+enum-known-room c = search needs
 
-shl-size : tie.Need-shl-size
-shl-size c = search needs
+add-first : tie.Need-add-first
+add-first c = let d = room-there _ _ _ (c .before .before .before .before .skip-bits .ensures) (c .before .before .room .given .1) in omega arith
 
-rem-x : tie.Need-rem-x
-rem-x c = size-pos _ (c .before .before .before .before .before .pre)
+field-of-requires : tie.Need-field-of-requires
+field-of-requires c κs = let d = room-there _ _ _ (c .before .before .before .before .skip-bits .ensures) (c .before .before .room .given .1) in omega arith
 
-shr-y : tie.Need-shr-y
-shr-y c = search needs
+cut-apart-requires : tie.Need-cut-apart-requires
+cut-apart-requires c κs = search needs
 
-rem-y : tie.Need-rem-y
-rem-y c = size-pos _ (c .before .before .before .before .before .pre)
-
-mul-z : tie.Need-mul-z
-mul-z c = search needs
-
-cast-z : tie.Need-cast-z
-cast-z c = search needs
-
-shr-z : tie.Need-shr-z
-shr-z c = search needs
-
-rem-z : tie.Need-rem-z
-rem-z c = size-pos _ (c .before .before .before .before .before .pre)
-
-enum-known-read-2 : tie.Need-enum-known-read-2
-enum-known-read-2 c = search needs
+enum-known-room-2 : tie.Need-enum-known-room-2
+enum-known-room-2 c = search needs
 
 returns : tie.Need-returns
-returns c = apart _ (c .before .before .before .before .before .pre) (c .before .read .given .1) ∙ ap (together _) (c .before .before .before .read-bits .ensures)
+returns c =
+    let d = room-there _ _ _ (c .before .before .before .before .before .before .skip-bits .ensures) (c .before .before .before .before .room .given .1) in
+    c .cut-apart .ensures ∙ ap (together _) (bits-there _ _ (d .0) _ _ _ (omega arith) (d .1) refl (d .3) (c .before .field-of .ensures))
 
 returns-2 : tie.Need-returns-2
-returns-2 c = together-refused _ (c .before .read2 .given .1) ∙ ap (together _) (c .before .before .before .read-bits .ensures)
+returns-2 c = together-refused _ (sym (read-refused _ _ _ (omega arith) (c .before .before .before .skip-bits .ensures) (c .before .room2 .given .1)))
 
 pub read-together-spec : {M : Type 1} → statement M
 read-together-spec =
@@ -57,16 +46,11 @@ read-together-spec =
     (tie.spec
     mul-count
     cast-count
-    read-bits-requires
-    enum-known-read
-    shl-size
-    rem-x
-    shr-y
-    rem-y
-    mul-z
-    cast-z
-    shr-z
-    rem-z
-    enum-known-read-2
+    skip-bits-requires
+    enum-known-room
+    add-first
+    field-of-requires
+    cut-apart-requires
+    enum-known-room-2
     returns
     returns-2)

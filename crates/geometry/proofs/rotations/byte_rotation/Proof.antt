@@ -6,14 +6,14 @@ use Rattle.geometry.proofs.PartLaws.{below-axes}
 use Rattle.geometry.proofs.rotations.byte_rotation.Statement.{statement}
 use Rattle.geometry.proofs.rotations.byte_rotation.Tie as tie
 
-read-three-requires : tie.Need-read-three-requires
-read-three-requires c κs = search needs
+three-axes-requires : tie.Need-three-axes-requires
+three-axes-requires c κs = search needs
 
 of-bytes-requires : tie.Need-of-bytes-requires
-of-bytes-requires c κs = below-axes _ _ 8 (c .read-three .ensures)
+of-bytes-requires c κs = below-axes _ _ 8 (c .three-axes .ensures)
 
 returns : tie.Need-returns
-returns c = c .of-bytes .ensures ∙ ap (rotationOf 8) (c .before .read-three .ensures)
+returns c = c .of-bytes .ensures ∙ ap (rotationOf 8) (c .before .three-axes .ensures)
 
 pub byte-rotation-spec : {M : Type 1} → statement M
-byte-rotation-spec = tie.close (tie.spec read-three-requires of-bytes-requires returns)
+byte-rotation-spec = tie.close (tie.spec three-axes-requires of-bytes-requires returns)

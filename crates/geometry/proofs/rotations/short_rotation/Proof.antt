@@ -6,14 +6,14 @@ use Rattle.geometry.proofs.PartLaws.{below-axes}
 use Rattle.geometry.proofs.rotations.short_rotation.Statement.{statement}
 use Rattle.geometry.proofs.rotations.short_rotation.Tie as tie
 
-read-three-requires : tie.Need-read-three-requires
-read-three-requires c κs = search needs
+three-axes-requires : tie.Need-three-axes-requires
+three-axes-requires c κs = search needs
 
 of-shorts-requires : tie.Need-of-shorts-requires
-of-shorts-requires c κs = below-axes _ _ 16 (c .read-three .ensures)
+of-shorts-requires c κs = below-axes _ _ 16 (c .three-axes .ensures)
 
 returns : tie.Need-returns
-returns c = c .of-shorts .ensures ∙ ap (rotationOf 16) (c .before .read-three .ensures)
+returns c = c .of-shorts .ensures ∙ ap (rotationOf 16) (c .before .three-axes .ensures)
 
 pub short-rotation-spec : {M : Type 1} → statement M
-short-rotation-spec = tie.close (tie.spec read-three-requires of-shorts-requires returns)
+short-rotation-spec = tie.close (tie.spec three-axes-requires of-shorts-requires returns)

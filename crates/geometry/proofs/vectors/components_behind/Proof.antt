@@ -6,23 +6,23 @@ use Rattle.geometry.proofs.VectorLaws.{divisor-pos, singles-behind, dou
 use Rattle.geometry.proofs.vectors.components_behind.Statement.{statement}
 use Rattle.geometry.proofs.vectors.components_behind.Tie as tie
 
-read-three-requires : tie.Need-read-three-requires
-read-three-requires c κs = search needs
+three-singles-requires : tie.Need-three-singles-requires
+three-singles-requires c κs = search needs
 
 singles-requires : tie.Need-singles-requires
-singles-requires c κs = below-bits _ _ 32 (c .read-three .ensures)
+singles-requires c κs = below-bits _ _ 32 (c .three-singles .ensures)
 
 returns : tie.Need-returns
-returns c = singles-behind _ _ _ _ _ (c .before .before .before .if1 .taken) (c .before .before .if2 .taken) (c .before .read-three .ensures) (c .singles .ensures)
+returns c = singles-behind _ _ _ _ _ (c .before .before .before .if1 .taken) (c .before .before .if2 .taken) (c .before .three-singles .ensures) (c .singles .ensures)
 
-read-three-requires-2 : tie.Need-read-three-requires-2
-read-three-requires-2 c κs = search needs
+three-bits-requires : tie.Need-three-bits-requires
+three-bits-requires c κs = search needs
 
 doubles-requires : tie.Need-doubles-requires
 doubles-requires c κs = search needs
 
 returns-2 : tie.Need-returns-2
-returns-2 c = doubles-behind _ _ _ _ _ (c .before .before .before .if1 .taken) (c .before .before .if2 .left) (c .before .read-three2 .ensures) (c .doubles .ensures)
+returns-2 c = doubles-behind _ _ _ _ _ (c .before .before .before .if1 .taken) (c .before .before .if2 .left) (c .before .three-bits .ensures) (c .doubles .ensures)
 
 divisor-of-requires : tie.Need-divisor-of-requires
 divisor-of-requires c κs = search needs
@@ -40,10 +40,10 @@ pub components-behind-spec : {M : Type 1} → statement M
 components-behind-spec =
     tie.close
     (tie.spec
-    read-three-requires
+    three-singles-requires
     singles-requires
     returns
-    read-three-requires-2
+    three-bits-requires
     doubles-requires
     returns-2
     divisor-of-requires

@@ -1,6 +1,7 @@
 -- `recorded::answers::refused` meets its contract: each arm has the numbers of its form, and a cursor that stays fits in 64 bits as it is.
 use borrow.Author.Needs.{needs}
 use native.Mathlib.Omega.{arith}
+use Rattle.bitio.specs.Refusals.{numbered, standsAfter}
 use Rattle.recorded.proofs.RefusalLaws.{for-form}
 use Rattle.recorded.proofs.answers.refused.Statement.{statement}
 use Rattle.recorded.proofs.answers.refused.Tie as tie
@@ -54,25 +55,25 @@ answer-of-requires-7 : tie.Need-answer-of-requires-7
 answer-of-requires-7 c κs = search needs
 
 returns : tie.Need-returns
-returns c = for-form _ _ (c .before .enum-told .given .1) (c .answer-of .ensures .0) (omega arith)
+returns c = for-form numbered standsAfter _ _ (c .before .enum-told .given .1) (c .answer-of .ensures .0) (omega arith)
 
 returns-2 : tie.Need-returns-2
-returns-2 c = for-form _ _ (c .before .before .r .given .1) (c .answer-of2 .ensures .0) (omega arith)
+returns-2 c = for-form numbered standsAfter _ _ (c .before .before .r .given .1) (c .answer-of2 .ensures .0) (omega arith)
 
 returns-3 : tie.Need-returns-3
-returns-3 c = for-form _ _ (c .before .before .before .r2 .given .1) (c .answer-of3 .ensures .0) (omega arith)
+returns-3 c = for-form numbered standsAfter _ _ (c .before .before .before .r2 .given .1) (c .answer-of3 .ensures .0) (omega arith)
 
 returns-4 : tie.Need-returns-4
-returns-4 c = for-form _ _ (c .before .before .before .r3 .given .1) (c .answer-of4 .ensures .0) (omega arith)
+returns-4 c = for-form numbered standsAfter _ _ (c .before .before .before .r3 .given .1) (c .answer-of4 .ensures .0) (omega arith)
 
 returns-5 : tie.Need-returns-5
-returns-5 c = for-form _ _ (c .before .enum-told2 .given .1) (c .answer-of5 .ensures .0) (omega arith)
+returns-5 c = for-form numbered standsAfter _ _ (c .before .enum-told2 .given .1) (c .answer-of5 .ensures .0) (omega arith)
 
 returns-6 : tie.Need-returns-6
-returns-6 c = for-form _ _ (c .before .enum-told3 .given .1) (c .answer-of6 .ensures .0) (omega arith)
+returns-6 c = for-form numbered standsAfter _ _ (c .before .enum-told3 .given .1) (c .answer-of6 .ensures .0) (omega arith)
 
 returns-7 : tie.Need-returns-7
-returns-7 c = for-form _ _ (c .before .before .r4 .given .1) (c .answer-of7 .ensures .0) (omega arith)
+returns-7 c = for-form numbered standsAfter _ _ (c .before .before .r4 .given .1) (c .answer-of7 .ensures .0) (omega arith)
 
 pub refused-spec : {M : Type 1} → statement M
 refused-spec =

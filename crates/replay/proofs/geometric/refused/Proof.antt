@@ -1,7 +1,8 @@
 -- `replay::geometric::refused` meets its contract: each arm has the numbers of its form, and a cursor that stays fits in 64 bits as it is.
 use borrow.Author.Needs.{needs}
 use native.Mathlib.Omega.{arith}
-use Rattle.replay.proofs.RefusalLaws.{for-shape}
+use Rattle.geometry.specs.Refusals.{numbered, standsAfter}
+use Rattle.recorded.proofs.RefusalLaws.{for-form}
 use Rattle.replay.proofs.geometric.refused.Statement.{statement}
 use Rattle.replay.proofs.geometric.refused.Tie as tie
 
@@ -30,16 +31,16 @@ answer-of-requires-3 : tie.Need-answer-of-requires-3
 answer-of-requires-3 c κs = search needs
 
 returns : tie.Need-returns
-returns c = for-shape _ _ (c .before .before .r .given .1) (c .refused .ensures .0) (c .refused .ensures .1)
+returns c = for-form numbered standsAfter _ _ (c .before .before .r .given .1) (c .refused .ensures .0) (c .refused .ensures .1)
 
 returns-2 : tie.Need-returns-2
-returns-2 c = for-shape _ _ (c .before .enum-told .given .1) (c .answer-of .ensures .0) (omega arith)
+returns-2 c = for-form numbered standsAfter _ _ (c .before .enum-told .given .1) (c .answer-of .ensures .0) (omega arith)
 
 returns-3 : tie.Need-returns-3
-returns-3 c = for-shape _ _ (c .before .before .r2 .given .1) (c .answer-of2 .ensures .0) (omega arith)
+returns-3 c = for-form numbered standsAfter _ _ (c .before .before .r2 .given .1) (c .answer-of2 .ensures .0) (omega arith)
 
 returns-4 : tie.Need-returns-4
-returns-4 c = for-shape _ _ (c .before .enum-told2 .given .1) (c .answer-of3 .ensures .0) (omega arith)
+returns-4 c = for-form numbered standsAfter _ _ (c .before .enum-told2 .given .1) (c .answer-of3 .ensures .0) (omega arith)
 
 pub refused-spec : {M : Type 1} → statement M
 refused-spec = tie.close (tie.spec enum-known-r refused-requires enum-told answer-of-requires enum-known-r-2 answer-of-requires-2 enum-told-2 answer-of-requires-3 returns returns-2 returns-3 returns-4)

@@ -17,14 +17,8 @@ returns c = (λ o inside. tail-object _ inside _ _ _ o _ _ (c .enum-told2 .given
 returns-2 : tie.Need-returns-2
 returns-2 c = (λ o inside. tail-end _ inside _ _ _ o _ _ _ (c .before .enum-told .given .1) (c .if1 .taken), refl)
 
-slice-aggregate-put-leaf : tie.Need-slice-aggregate-put-leaf
-slice-aggregate-put-leaf c = search needs
-
-slice-aggregate-put-leaf-2 : tie.Need-slice-aggregate-put-leaf-2
-slice-aggregate-put-leaf-2 c = search needs
-
-put-leaf-requires : tie.Need-put-leaf-requires
-put-leaf-requires c κs = search needs
+put-tail-requires : tie.Need-put-tail-requires
+put-tail-requires c κs = search needs
 
 same-length : tie.Need-same-length
 same-length c = search needs
@@ -37,8 +31,8 @@ same-length-3 c = search needs
 
 returns-3 : tie.Need-returns-3
 returns-3 c =
-    let p = c .before .before .before .before .before .before .put-leaf .ensures in
-    (λ o inside. tail-kept _ inside _ _ _ o _ _ _ (c .before .before .before .before .before .before .before .before .before .before .before .before .before .before .before .enum-told .given .1) _ _ (c .before .before .before .before .before .before .before .before .before .before .before .before .before .before .before .before .before .before .before .before .before .pre .0) (c .before .before .before .before .before .before .before .before .before .before .before .before .before .before .if1 .left) (p .0 o), p .1)
+    let p = c .before .before .before .before .before .before .put-tail .ensures in
+    (λ o inside. tail-kept _ inside _ _ _ o _ _ _ (c .before .before .before .before .before .before .before .before .before .before .before .before .before .enum-told .given .1) _ _ (c .before .before .before .before .before .before .before .before .before .before .before .before .before .before .before .before .before .before .before .pre .0) (c .before .before .before .before .before .before .before .before .before .before .before .before .if1 .left) (p .0 o), p .1)
 
 pub keep-tail-spec : {M : Type 1} → statement M
 keep-tail-spec =
@@ -48,9 +42,7 @@ keep-tail-spec =
     enum-told-2
     returns
     returns-2
-    slice-aggregate-put-leaf
-    slice-aggregate-put-leaf-2
-    put-leaf-requires
+    put-tail-requires
     same-length
     same-length-2
     same-length-3

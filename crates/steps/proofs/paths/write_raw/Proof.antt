@@ -2,7 +2,7 @@
 use borrow.Author.Needs.{needs}
 use native.Mathlib.Omega.{arith}
 use lib.ListN.{length-set}
-use Rattle.steps.proofs.StoreLaws.{put-four}
+use Rattle.bits.proofs.RunLaws.{put-four}
 use Rattle.steps.proofs.paths.write_raw.Statement.{statement}
 use Rattle.steps.proofs.paths.write_raw.Tie as tie
 

@@ -1,11 +1,11 @@
 -- A pair that fits is written by two stores, and one that does not is not written.
 use borrow.Author.Needs.{needs}
-use mathlib.Core.Path.{sym}
+use mathlib.Core.Path.{sym, _∙_}
 use native.Mathlib.Omega.{arith}
 use Prim.Native.Nat.{_+_, _≤_}
 use lib.ListN.{length, length-set}
-use Rattle.bits.proofs.RunLaws.{store-out}
-use Rattle.steps.proofs.StoreLaws.{fitting, past, store-two}
+use Rattle.bits.proofs.RunLaws.{put-two, store-fits, store-out}
+use Rattle.steps.proofs.StoreLaws.{fitting, past}
 use Rattle.steps.proofs.runs.store_pair.Statement.{statement}
 use Rattle.steps.proofs.runs.store_pair.Tie as tie
 
@@ -37,7 +37,7 @@ same-length : tie.Need-same-length
 same-length c = search needs
 
 returns-2 : tie.Need-returns-2
-returns-2 c = store-two _ _ _ _ (room c)
+returns-2 c = put-two _ _ _ _ (room c) ∙ sym (store-fits _ _ _ (room c))
 
 pub store-pair-spec : {M : Type 1} → statement M
 store-pair-spec =

@@ -1,11 +1,11 @@
 -- A record that fits is written by five stores, and one that does not is not written.
 use borrow.Author.Needs.{needs}
-use mathlib.Core.Path.{sym}
+use mathlib.Core.Path.{sym, _∙_}
 use native.Mathlib.Omega.{arith}
 use Prim.Native.Nat.{_+_, _≤_}
 use lib.ListN.{length, length-set}
-use Rattle.bits.proofs.RunLaws.{store-out}
-use Rattle.steps.proofs.StoreLaws.{fitting, past, store-five}
+use Rattle.bits.proofs.RunLaws.{put-five, store-fits, store-out}
+use Rattle.steps.proofs.StoreLaws.{fitting, past}
 use Rattle.steps.proofs.runs.store_record.Statement.{statement}
 use Rattle.steps.proofs.runs.store_record.Tie as tie
 
@@ -64,7 +64,7 @@ same-length : tie.Need-same-length
 same-length c = search needs
 
 returns-2 : tie.Need-returns-2
-returns-2 c = store-five _ _ _ _ _ _ _ (room c)
+returns-2 c = put-five _ _ _ _ _ _ _ (room c) ∙ sym (store-fits _ _ _ (room c))
 
 pub store-record-spec : {M : Type 1} → statement M
 store-record-spec =

@@ -1,9 +1,10 @@
-use Rattle.vrf.proofs.FillLaws.{filled}
+use Prim.Native.Nat.{ℕ}
+use Rattle.bits.proofs.RunLaws.{length-filled}
 use Rattle.vrf.proofs.walk.path_room.Statement.{statement}
 use Rattle.vrf.proofs.walk.path_room.Tie as tie
 
 returns : tie.Need-returns
-returns c = filled 2097152 0
+returns c = length-filled {A = ℕ} 2097152 0
 
 pub path-room-spec : {M : Type 1} → statement M
 path-room-spec = tie.close (tie.spec returns)

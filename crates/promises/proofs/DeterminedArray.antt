@@ -1,0 +1,45 @@
+-- Each public call of array is determined by its contract.
+use Prim.Native.Nat.{ℕ}
+use mathlib.Core.Path.{_≡_}
+use mathlib.Core.List.{List}
+use Rattle.schema.specs.Tables.{Tables}
+use Rattle.framing.specs.Counters.{isClean}
+use Rattle.outputs.specs.Answers.{Lent}
+use Rattle.array.specs.Calls.{structCall, exactCall, Judges, Decodes, DecodesPairs}
+use Rattle.array.specs.Merges.{merge}
+use Rattle.array.specs.Refusals.{countersOf, sumsOf}
+use Rattle.array.proofs.Promises as A
+use Rattle.array.proofs.Promises.{one-struct, one-object, one-merged}
+use Rattle.array.specs.declared.ArrayDecodeStats.{ArrayDecodeStats}
+use Rattle.promises.specs.Determining.{Determines, DeterminesAll}
+use Rattle.promises.proofs.Determined.{one-equal}
+
+-- ---- walks
+
+-- `decode_struct_array` has one answer and leaves its three buffers in one state, under any tables.
+pub one-decode-struct-array : (bytes : List ℕ) (bits : ℕ) (t : Tables) (levels root : ℕ) (b : Lent)
+    → DeterminesAll (Decodes (structCall bytes bits t levels root) b)
+one-decode-struct-array bytes bits t levels root b = one-struct (structCall bytes bits t levels root) b
+
+-- `decode_struct_array_exact` has one answer and leaves its three buffers in one state.
+pub one-decode-struct-array-exact : (bytes : List ℕ) (bits : ℕ) (declared pool : List ℕ) (b : Lent)
+    → DeterminesAll (Decodes (exactCall bytes bits declared pool) b)
+one-decode-struct-array-exact bytes bits declared pool b = one-struct (exactCall bytes bits declared pool) b
+
+-- `decode_object_ref_array` has one answer and leaves its pairs in one state.
+pub one-decode-object-ref-array : (bytes : List ℕ) (bits : ℕ) (pairs : List ℕ) → DeterminesAll (DecodesPairs bytes bits pairs)
+one-decode-object-ref-array bytes bits pairs = one-object bytes bits pairs
+
+-- ---- counters
+
+-- `is_clean` has one answer.
+pub one-is-clean : (stats : ArrayDecodeStats) → Determines (λ r. r ≡ isClean (countersOf stats))
+one-is-clean stats = one-equal (isClean (countersOf stats))
+
+-- `verdict` has one answer.
+pub one-verdict : (stats : ArrayDecodeStats) → Determines (Judges (countersOf stats))
+one-verdict stats = A.one-verdict (countersOf stats)
+
+-- `merge_from` has one answer.
+pub one-merge-from : (left right : ArrayDecodeStats) → Determines (λ r. sumsOf r ≡ merge (countersOf left) (countersOf right))
+one-merge-from left right = one-merged (countersOf left) (countersOf right)

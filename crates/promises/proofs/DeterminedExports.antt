@@ -1,0 +1,115 @@
+-- Each call for C is determined by its contract.
+use Prim.Native.Nat.{ℕ}
+use mathlib.Core.Path.{_≡_, sym, _∙_}
+use mathlib.Core.List.{List}
+use Rattle.bitio.specs.Copies.{copyAnswer, copyTarget}
+use Rattle.bitio.specs.Numbers.{readIntPacked, readSerializedInt}
+use Rattle.bitio.specs.Reads.{readBits}
+use Rattle.schema.specs.Tables.{Tables}
+use Rattle.schema.specs.TwelveLevels.{fillAnswer, filledRows, filledNames}
+use Rattle.framing.specs.Sinks.{object}
+use Rattle.outputs.specs.Answers.{Call, Lent}
+use Rattle.array.specs.Calls.{structCall, exactCall}
+use Rattle.array.specs.Merges.{merge}
+use Rattle.fastarray.specs.Answers as F
+use Rattle.geometry.specs.Movements.{readMovement}
+use Rattle.geometry.specs.Rotations.{readRotation}
+use Rattle.geometry.specs.Vectors.{readVector, readNormal}
+use Rattle.exports.specs.MoveResults.{vectorResult, rotationResult, movementResult, rotationKind, locationKind}
+use Rattle.exports.specs.ReadResults.{cursorOf, bitsResult, packedResult, serializedResult, copyResult}
+use Rattle.exports.specs.WalkResults.{Walks, WalksPairs, countersIn, mergeResult, Judges, schemaResult, modeOf, DecodesBody}
+use Rattle.exports.specs.declared.VrfCounters.{VrfCounters}
+use Rattle.exports.specs.declared.VrfCursor.{VrfCursor}
+use Rattle.promises.specs.Determining.{Determines, DeterminesAll}
+use Rattle.promises.proofs.Determined.{one-equal, both-equal, three-equal}
+
+-- ---- walks
+
+-- The contract of a struct or exact walk, and that of an object walk.
+one-walk : (c : Call) (b : Lent) → DeterminesAll (Walks c b)
+one-walk c b r s x y f g = (f .says ∙ sym (g .says), f .buffers ∙ sym (g .buffers))
+
+one-pairs : (bytes : List ℕ) (bits : ℕ) (b : List ℕ) → DeterminesAll (WalksPairs bytes bits b)
+one-pairs bytes bits b r s x y f g = (f .says ∙ sym (g .says), f .buffer ∙ sym (g .buffer))
+
+-- `vrf_struct_array` has one answer and leaves its three buffers in one state, under any tables.
+pub one-vrf-struct-array : (bytes : List ℕ) (bits : ℕ) (t : Tables) (levels root : ℕ) (b : Lent)
+    → DeterminesAll (Walks (structCall bytes bits t levels root) b)
+one-vrf-struct-array bytes bits t levels root b = one-walk (structCall bytes bits t levels root) b
+
+-- `vrf_struct_array_exact` has one answer and leaves its three buffers in one state.
+pub one-vrf-struct-array-exact : (bytes : List ℕ) (bits : ℕ) (declared pool : List ℕ) (b : Lent)
+    → DeterminesAll (Walks (exactCall bytes bits declared pool) b)
+one-vrf-struct-array-exact bytes bits declared pool b = one-walk (exactCall bytes bits declared pool) b
+
+-- `vrf_object_array` has one answer and leaves its pairs in one state.
+pub one-vrf-object-array : (bytes : List ℕ) (bits : ℕ) (pairs : List ℕ) → DeterminesAll (WalksPairs bytes bits pairs)
+one-vrf-object-array bytes bits pairs = one-pairs bytes bits pairs
+
+-- `vrf_merge` has one answer.
+pub one-vrf-merge : (left right : VrfCounters) → Determines (λ r. r ≡ mergeResult (merge (countersIn left) (countersIn right)))
+one-vrf-merge left right = one-equal (mergeResult (merge (countersIn left) (countersIn right)))
+
+-- `vrf_verdict` has one answer: any walk and any number of bits tell its number.
+pub one-vrf-verdict : (counters : VrfCounters) → Determines (Judges (countersIn counters))
+one-vrf-verdict counters r s f g = f object 0 ∙ sym (g object 0)
+
+-- ---- the schema, and the fast array
+
+-- `vrf_schema` has one answer and leaves both buffers in one state.
+pub one-vrf-schema : (rows names : List ℕ)
+    → DeterminesAll (λ r (end : List ℕ × List ℕ). (r ≡ schemaResult (fillAnswer rows names)) × (end .0 ≡ filledRows rows names) × (end .1 ≡ filledNames rows names))
+one-vrf-schema rows names = three-equal (schemaResult (fillAnswer rows names)) (filledRows rows names) (filledNames rows names)
+
+-- `vrf_fast_array` has one answer and leaves its three buffers in one state.
+pub one-vrf-fast-array : (payload : List ℕ) (bits checksum : ℕ) (l : F.Lent) → DeterminesAll (DecodesBody (F.call payload bits (modeOf checksum)) l)
+one-vrf-fast-array payload bits checksum l r s x y f g =
+    let d = f .deleted ∙ sym (g .deleted) in
+    let i′ = f .items ∙ sym (g .items) in
+    let k = f .fields ∙ sym (g .fields) in
+    (f .says ∙ sym (g .says), λ i. record { deleted = d i; items = i′ i; fields = k i })
+
+-- ---- reads
+
+-- `vrf_read_bits` has one answer.
+pub one-vrf-read-bits : (bytes : List ℕ) (cursor : VrfCursor) (count : ℕ)
+    → Determines (λ r. r ≡ bitsResult (cursor .pos) (readBits bytes (cursorOf cursor) count))
+one-vrf-read-bits bytes cursor count = one-equal (bitsResult (cursor .pos) (readBits bytes (cursorOf cursor) count))
+
+-- `vrf_read_packed` has one answer.
+pub one-vrf-read-packed : (bytes : List ℕ) (cursor : VrfCursor)
+    → Determines (λ r. r ≡ packedResult (cursor .pos) (readIntPacked bytes (cursorOf cursor)))
+one-vrf-read-packed bytes cursor = one-equal (packedResult (cursor .pos) (readIntPacked bytes (cursorOf cursor)))
+
+-- `vrf_read_serialized` has one answer.
+pub one-vrf-read-serialized : (bytes : List ℕ) (cursor : VrfCursor) (maximum : ℕ)
+    → Determines (λ r. r ≡ serializedResult (cursor .pos) (readSerializedInt bytes (cursorOf cursor) maximum))
+one-vrf-read-serialized bytes cursor maximum = one-equal (serializedResult (cursor .pos) (readSerializedInt bytes (cursorOf cursor) maximum))
+
+-- `vrf_copy_bits` has one answer and leaves its target in one state.
+pub one-vrf-copy-bits : (bytes : List ℕ) (cursor : VrfCursor) (count : ℕ) (target : List ℕ)
+    → DeterminesAll
+    (λ r end. (r ≡ copyResult (cursor .pos) (copyAnswer bytes (cursorOf cursor) count target)) × (end ≡ copyTarget bytes (cursorOf cursor) count target))
+one-vrf-copy-bits bytes cursor count target =
+    both-equal (copyResult (cursor .pos) (copyAnswer bytes (cursorOf cursor) count target)) (copyTarget bytes (cursorOf cursor) count target)
+
+-- ---- vectors, rotations, movement
+
+-- `vrf_vector` has one answer.
+pub one-vrf-vector : (bytes : List ℕ) (cursor : VrfCursor) (scale : ℕ)
+    → Determines (λ r. r ≡ vectorResult (cursor .pos) (readVector bytes (cursorOf cursor) scale))
+one-vrf-vector bytes cursor scale = one-equal (vectorResult (cursor .pos) (readVector bytes (cursorOf cursor) scale))
+
+-- `vrf_normal` has one answer.
+pub one-vrf-normal : (bytes : List ℕ) (cursor : VrfCursor) → Determines (λ r. r ≡ vectorResult (cursor .pos) (readNormal bytes (cursorOf cursor)))
+one-vrf-normal bytes cursor = one-equal (vectorResult (cursor .pos) (readNormal bytes (cursorOf cursor)))
+
+-- `vrf_rotation` has one answer.
+pub one-vrf-rotation : (bytes : List ℕ) (cursor : VrfCursor) (width : ℕ)
+    → Determines (λ r. r ≡ rotationResult (cursor .pos) (readRotation bytes (cursorOf cursor) width))
+one-vrf-rotation bytes cursor width = one-equal (rotationResult (cursor .pos) (readRotation bytes (cursorOf cursor) width))
+
+-- `vrf_movement` has one answer.
+pub one-vrf-movement : (bytes : List ℕ) (count rotation location : ℕ)
+    → Determines (λ r. r ≡ movementResult (readMovement bytes count (rotationKind rotation) (locationKind location)))
+one-vrf-movement bytes count rotation location = one-equal (movementResult (readMovement bytes count (rotationKind rotation) (locationKind location)))

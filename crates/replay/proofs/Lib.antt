@@ -1,2 +1,0 @@
-pub mod RefusalLaws
-pub mod FloatLaws
