@@ -1,11 +1,11 @@
 /* Walks an array of combat rounds and prints what it holds.
  *
- *     rt staticlib exports
- *     cc host/c/example.c -Ihost/c target/staticlib/libexports.a -o example
+ *     tools/staticlib
+ *     cc host/c/example.c -Ihost/c target/native/libexports.a -o example
  *     ./example                 a small window that stands below
  *     ./example FILE [BITS]     the first BITS bits of a file, or all of it
  *
- * The library is for x86-64; on another machine name a compiler for x86-64 in the place of cc. */
+ * tools/staticlib makes the library for the machine at hand; the one for x86-64 is also what `rt staticlib exports` writes. */
 #include "vrf.h"
 
 #include <errno.h>

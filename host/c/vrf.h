@@ -1,14 +1,14 @@
 /* The proved array walkers and bit reader, for C.
  *
- * libexports.a holds these functions (x86-64, System V calling convention). Build it with `rt staticlib exports`; see example.c
- * for a program that uses it. Each function is proved, for all inputs: it ends, it stays inside what is lent, and its answer and
- * the final contents of every lent buffer are those of a definition that depends on the inputs alone. The contracts stand in
+ * libexports.a holds these functions, with the machine's own calling convention for C. Build it with tools/staticlib; see example.c
+ * for a program that uses it. Each function is proved, whatever it is handed: it ends, it stays inside what is lent, and what it
+ * answers and leaves in the lent buffers is what a definition makes of the inputs and of nothing else. The contracts stand in
  * crates/exports/src/lib.rt. There is no state: calls from several threads don't meet.
  *
  * What you hand in
  *   A slice is a pointer and a length. Lengths count elements of the pointer's type, not bytes: a buffer of 170 uint32_t has
  *   the length 170. A `const` slice is read; the others are lent for the time of the call and may be written.
- *   A bit count says how many bits of the bytes belong to the payload. Bit k is bit k % 8 of byte k / 8, the lowest first.
+ *   A bit count says how many bits of the bytes belong to the payload. A byte holds eight, its lowest bit first.
  *
  * What you owe, since nothing here can check it
  *   - A length is real: so many elements stand behind the pointer, and all of them may be read (lent ones: written).
@@ -20,7 +20,8 @@
  *   stack.
  *
  * What you get
- *   A struct by value. `refusal` is 0 if the call is accepted, else the number of a refusal. A refused call has written nothing.
+ *   A struct by value (vrf_verdict: a number). `refusal` is 0 if the call is accepted, else the number of a refusal. A refused call
+ *   has written nothing.
  *   Behind it stand the values that the refusal names (below), then what only an accepted call gives. In a refused answer all that
  *   isn't named is 0, but for `position`; so a `verdict` of 0 says "clean" only where `refusal` is 0 too.
  *

@@ -1,0 +1,89 @@
+//! Sums of counters, and verdicts.
+use crate::answer::{Difference, Outcome, refused};
+use crate::faults;
+use crate::walk::port_counters;
+use decode::array::ArrayDecodeStats;
+use oracle::answers::counters;
+use vrf_proved::exact::{self, Verdict};
+
+#[derive(Clone, Debug)]
+pub struct MergeCase {
+    pub left: [u64; 7],
+    pub right: [u64; 7],
+}
+
+fn of_rust(c: [u64; 7]) -> ArrayDecodeStats {
+    ArrayDecodeStats {
+        elements_decoded: c[0],
+        fields_emitted: c[1],
+        truncations: c[2],
+        errors: c[3],
+        unconsumed_nested_bits: c[4],
+        unconsumed_root_bits: c[5],
+        implicit_terminations: c[6],
+    }
+}
+
+fn of_port(c: [u64; 7]) -> vrf_proved::ArrayDecodeStats {
+    vrf_proved::ArrayDecodeStats {
+        elements_decoded: c[0],
+        fields_emitted: c[1],
+        truncations: c[2],
+        errors: c[3],
+        unconsumed_nested_bits: c[4],
+        unconsumed_root_bits: c[5],
+        implicit_terminations: c[6],
+    }
+}
+
+impl MergeCase {
+    pub fn line(&self) -> String {
+        format!("merge {:?} {:?}", self.left, self.right)
+    }
+
+    pub fn check(&self) -> Result<Outcome, Difference> {
+        let fits = self.left.iter().zip(self.right).all(|(a, b)| a.checked_add(b).is_some());
+        // Where a sum doesn't fit the Rust panics or wraps: the rules say refusal 4.
+        let expected = if fits {
+            let mut sum = of_rust(self.left);
+            sum.merge_from(&of_rust(self.right));
+            Ok(counters(&sum))
+        } else {
+            Err(refused(4, [0; 3]))
+        };
+        let mut answer = exact::merge(&of_port(self.left), &of_port(self.right)).map(|s| port_counters(&s));
+        faults::merge(&mut answer);
+        if answer != expected {
+            return Err(Difference::new("merge", format!("{expected:?}"), format!("{answer:?}")));
+        }
+        let clean = of_rust(self.left).is_clean();
+        let verdict = exact::verdict(&of_port(self.left));
+        if (verdict == Verdict::Clean) != clean {
+            return Err(Difference::new(
+                "verdict of the left",
+                format!("clean: {clean}"),
+                format!("{verdict:?}"),
+            ));
+        }
+        self.dropin(fits)?;
+        Ok(if fits { Outcome::Accepted } else { Outcome::Refused })
+    }
+
+    /// The drop-in's sum: the Rust's where it fits; else every counter stays at its largest at most, and the sum is not clean.
+    fn dropin(&self, fits: bool) -> Result<(), Difference> {
+        let mut sum = of_port(self.left);
+        sum.merge_from(&of_port(self.right));
+        let mut expected: [u64; 7] = std::array::from_fn(|i| self.left[i].saturating_add(self.right[i]));
+        if !fits {
+            expected[3] = expected[3].saturating_add(1);
+        }
+        if port_counters(&sum) == expected && sum.is_clean() == expected[2..].iter().all(|c| *c == 0) {
+            return Ok(());
+        }
+        Err(Difference::new(
+            "the drop-in's merge_from",
+            format!("{expected:?}"),
+            format!("{sum:?}"),
+        ))
+    }
+}

@@ -1,0 +1,99 @@
+//! The port's calls over watched buffers. Faults come in here and nowhere else.
+use crate::answer::{ReadAnswer, Value};
+use crate::faults;
+use crate::lent::Lent;
+use vrf_proved::exact::{self, Buffers, Cursor, FastArray, LocationScale, Movement, Objects, Read, Refusal, RotationWidth, Tables, Walk};
+
+/// The buffers of all calls, kept from case to case.
+#[derive(Default)]
+pub struct Desk {
+    pub leaves: Lent<u32>,
+    pub paths: Lent<u8>,
+    pub payloads: Lent<u8>,
+    pub pairs: Lent<u32>,
+    pub deleted: Lent<i32>,
+    pub items: Lent<u32>,
+    pub fields: Lent<u32>,
+    pub target: Lent<u8>,
+}
+
+impl Desk {
+    fn buffers(&mut self) -> Buffers<'_> {
+        Buffers {
+            leaves: self.leaves.cells(),
+            paths: self.paths.cells(),
+            payloads: self.payloads.cells(),
+        }
+    }
+
+    pub fn struct_array(&mut self, bytes: &[u8], bits: u32, tables: Tables<'_>) -> Result<Walk, Refusal> {
+        let mut r = exact::struct_array(bytes, bits, tables, self.buffers());
+        faults::walk(&mut r, self.buffers());
+        r
+    }
+
+    pub fn struct_array_exact(&mut self, bytes: &[u8], bits: u32, declared: &[u32], pool: &[u8]) -> Result<Walk, Refusal> {
+        let mut r = exact::struct_array_exact(bytes, bits, declared, pool, self.buffers());
+        faults::walk(&mut r, self.buffers());
+        r
+    }
+
+    pub fn object_array(&mut self, bytes: &[u8], bits: u32) -> Result<Objects, Refusal> {
+        let mut r = exact::object_array(bytes, bits, self.pairs.cells());
+        faults::objects(&mut r, self.pairs.cells());
+        r
+    }
+
+    pub fn fast_array(&mut self, bytes: &[u8], bits: u32, flags: bool) -> Result<FastArray, Refusal> {
+        let (deleted, items, fields) = (self.deleted.cells(), self.items.cells(), self.fields.cells());
+        let mut r = exact::fast_array(bytes, bits, flags, deleted, items, fields);
+        faults::fast(&mut r, deleted, fields);
+        r
+    }
+
+    pub fn copy_bits(&mut self, bytes: &[u8], cursor: Cursor, count: u64) -> ReadAnswer {
+        let target = self.target.cells();
+        let mut r = of(exact::copy_bits(bytes, cursor, count, target), |()| Value::Copied);
+        faults::copy(&mut r, count, target);
+        r
+    }
+}
+
+fn of<T>(r: Read<T>, value: impl FnOnce(T) -> Value) -> ReadAnswer {
+    let mut a = ReadAnswer {
+        result: r.result.map(value),
+        position: r.position,
+    };
+    faults::read(&mut a);
+    a
+}
+
+pub fn read_bits(bytes: &[u8], cursor: Cursor, count: u64) -> ReadAnswer {
+    of(exact::read_bits(bytes, cursor, count), Value::Number)
+}
+
+pub fn read_packed(bytes: &[u8], cursor: Cursor) -> ReadAnswer {
+    of(exact::read_packed(bytes, cursor), Value::Number)
+}
+
+pub fn read_serialized(bytes: &[u8], cursor: Cursor, maximum: u32) -> ReadAnswer {
+    of(exact::read_serialized(bytes, cursor, maximum), Value::Number)
+}
+
+pub fn vector(bytes: &[u8], cursor: Cursor, scale: u32) -> ReadAnswer {
+    of(exact::vector(bytes, cursor, scale), |v| Value::Doubles(v.map(f64::to_bits)))
+}
+
+pub fn normal(bytes: &[u8], cursor: Cursor) -> ReadAnswer {
+    of(exact::normal(bytes, cursor), |v| Value::Doubles(v.map(f64::to_bits)))
+}
+
+pub fn rotation(bytes: &[u8], cursor: Cursor, width: u32) -> ReadAnswer {
+    of(exact::rotation(bytes, cursor, width), |v| Value::Floats(v.map(f32::to_bits)))
+}
+
+pub fn movement(bytes: &[u8], count: u64, rotation: RotationWidth, location: LocationScale) -> Read<Movement> {
+    let mut r = exact::movement(bytes, count, rotation, location);
+    faults::movement(&mut r);
+    r
+}

@@ -1,0 +1,119 @@
+//! What walks count, and the sum of two counts.
+
+use crate::exact::{self, Refusal, Verdict};
+use crate::raw;
+
+/// What walks counted. The first two say how much was done, the last five what is damaged or missing.
+#[derive(Debug, Clone, Default, PartialEq, Eq)]
+pub struct ArrayDecodeStats {
+    /// Elements, of all levels.
+    pub elements_decoded: u64,
+    /// Leaves, kept tails among them; in an object walk pairs.
+    pub fields_emitted: u64,
+    /// More stood there than is allowed: elements, fields, levels.
+    pub truncations: u64,
+    /// What can't be read; the rest of that array is lost.
+    pub errors: u64,
+    /// Bits inside payloads that were stepped past.
+    pub unconsumed_nested_bits: u64,
+    /// Bits behind the root array.
+    pub unconsumed_root_bits: u64,
+    /// Arrays and elements that the window's end cuts off.
+    pub implicit_terminations: u64,
+}
+
+impl ArrayDecodeStats {
+    /// Adds `other`, counter by counter. A counter that would pass 2^64 - 1 stays there, and one more error is counted, so that
+    /// such a sum is never clean.
+    ///
+    /// ```
+    /// use vrf_proved::ArrayDecodeStats;
+    ///
+    /// let mut season = ArrayDecodeStats { elements_decoded: 40, ..Default::default() };
+    /// season.merge_from(&ArrayDecodeStats { elements_decoded: 2, implicit_terminations: 1, ..Default::default() });
+    /// assert_eq!((season.elements_decoded, season.is_clean()), (42, false));
+    ///
+    /// let mut full = ArrayDecodeStats { elements_decoded: u64::MAX, ..Default::default() };
+    /// full.merge_from(&ArrayDecodeStats { elements_decoded: 1, ..Default::default() });
+    /// assert_eq!((full.elements_decoded, full.errors), (u64::MAX, 1));
+    /// ```
+    pub fn merge_from(&mut self, other: &Self) {
+        if self.try_merge_from(other).is_err() {
+            *self = self.saturated(other);
+            self.count_error();
+        }
+    }
+
+    /// The same, but a sum that would pass 2^64 - 1 is refused with 4 and `self` stays as it is.
+    ///
+    /// ```
+    /// use vrf_proved::ArrayDecodeStats;
+    ///
+    /// let mut full = ArrayDecodeStats { errors: u64::MAX, ..Default::default() };
+    /// let refusal = full.try_merge_from(&ArrayDecodeStats { errors: 1, ..Default::default() }).unwrap_err();
+    /// assert_eq!((refusal.number, full.errors), (4, u64::MAX));
+    /// assert!(full.try_merge_from(&ArrayDecodeStats { fields_emitted: 1, ..Default::default() }).is_ok());
+    /// ```
+    pub fn try_merge_from(&mut self, other: &Self) -> Result<(), Refusal> {
+        *self = exact::merge(self, other)?;
+        Ok(())
+    }
+
+    /// Whether nothing is damaged or missing: the last five counters are 0.
+    ///
+    /// ```
+    /// use vrf_proved::ArrayDecodeStats;
+    ///
+    /// assert!(ArrayDecodeStats { elements_decoded: 3, fields_emitted: 9, ..Default::default() }.is_clean());
+    /// assert!(!ArrayDecodeStats { unconsumed_root_bits: 8, ..Default::default() }.is_clean());
+    /// ```
+    #[must_use]
+    pub fn is_clean(&self) -> bool {
+        exact::verdict(self) == Verdict::Clean
+    }
+
+    /// One error more, as for a call that was refused.
+    pub(crate) fn count_error(&mut self) {
+        self.errors = self.errors.saturating_add(1);
+    }
+
+    fn saturated(&self, other: &Self) -> Self {
+        Self {
+            elements_decoded: self.elements_decoded.saturating_add(other.elements_decoded),
+            fields_emitted: self.fields_emitted.saturating_add(other.fields_emitted),
+            truncations: self.truncations.saturating_add(other.truncations),
+            errors: self.errors.saturating_add(other.errors),
+            unconsumed_nested_bits: self.unconsumed_nested_bits.saturating_add(other.unconsumed_nested_bits),
+            unconsumed_root_bits: self.unconsumed_root_bits.saturating_add(other.unconsumed_root_bits),
+            implicit_terminations: self.implicit_terminations.saturating_add(other.implicit_terminations),
+        }
+    }
+}
+
+impl From<&ArrayDecodeStats> for raw::VrfCounters {
+    fn from(s: &ArrayDecodeStats) -> Self {
+        Self {
+            elements: s.elements_decoded,
+            fields: s.fields_emitted,
+            truncations: s.truncations,
+            errors: s.errors,
+            nested_bits: s.unconsumed_nested_bits,
+            root_bits: s.unconsumed_root_bits,
+            implicit_terminations: s.implicit_terminations,
+        }
+    }
+}
+
+impl From<raw::VrfCounters> for ArrayDecodeStats {
+    fn from(c: raw::VrfCounters) -> Self {
+        Self {
+            elements_decoded: c.elements,
+            fields_emitted: c.fields,
+            truncations: c.truncations,
+            errors: c.errors,
+            unconsumed_nested_bits: c.nested_bits,
+            unconsumed_root_bits: c.root_bits,
+            implicit_terminations: c.implicit_terminations,
+        }
+    }
+}
