@@ -1,5 +1,6 @@
 // The command line. A word that is missing, or longer than a path, counts as an empty one, which nothing here is called.
 ghost use Prim.Native.Nat.{_≤_};
+use crate::walk::Way;
 use fastarray::ChecksumMode;
 use geometry::RotatorQuantization;
 use geometry::VectorQuantization;
@@ -8,9 +9,8 @@ use tell::say;
 
 // What is to be made of a window.
 pub enum Job {
-    // A struct walk from this level, or without a schema.
-    Struct(u32),
-    Exact,
+    // A walk that gives leaves.
+    Leaves(Way),
     Objects,
     FastArray(ChecksumMode),
     Movement(VectorQuantization, RotatorQuantization),
@@ -48,17 +48,17 @@ fn walk_asked() -> Asked {
     let n = os::arg(2, &mut word);
     let kind = &word[..n];
     if say::equal(kind, b"none") {
-        return Asked::Window(Job::Struct(schema::ABSENT));
+        return Asked::Window(Job::Leaves(Way::Levels(schema::ABSENT)));
     }
     if say::equal(kind, b"exact") {
-        return Asked::Window(Job::Exact);
+        return Asked::Window(Job::Leaves(Way::Exact));
     }
     if say::equal(kind, b"objects") {
         return Asked::Window(Job::Objects);
     }
     let level = levels::level_of(kind);
     if level < schema::twelve::LEVELS {
-        return Asked::Window(Job::Struct(level));
+        return Asked::Window(Job::Leaves(Way::Levels(level)));
     }
     Asked::Usage
 }
@@ -143,8 +143,7 @@ pub fn file_place(job: Job) -> usize
     ensures { λ r. ⌜ r ≤ 4 ⌝ }
 {
     match job {
-        Job::Struct(_) => 3,
-        Job::Exact => 3,
+        Job::Leaves(_) => 3,
         Job::Objects => 3,
         Job::FastArray(_) => 3,
         Job::Movement(_, _) => 4,

@@ -1,59 +1,68 @@
-// The file with the window. No window is longer than 65,536 bytes; one byte more tells a file that is.
+// The file with the window. What is wrong with it is said on standard error.
 ghost use mathlib.Core.Path.{_≡_};
 ghost use lib.ListN.{length};
-use tell::say;
+use words::error;
+use words::input;
+use words::input::Input;
 
-const LONGEST: usize = 65536;
-
-pub fn room() -> [u8; 65537]
-    ensures { λ r. ⌜ 65537 ≡ length r ⌝ }
+// No window is longer.
+pub fn room() -> [u8; 65536]
+    ensures { λ r. ⌜ 65536 ≡ length r ⌝ }
 {
-    [0; 65537]
+    [0; 65536]
 }
 
 fn complain(path: &[u8], why: &[u8]) {
-    say::text(path);
-    say::text(b": ");
-    say::text(why);
-    say::text(b"\n");
+    error::text(path);
+    error::text(b": ");
+    error::text(why);
+    error::text(b"\n");
 }
 
-// Whether a read fails. At the end of the file none does.
-fn is_unreadable(fd: i32) -> bool {
-    let mut one = [0u8; 1];
-    let got = libc::read(fd, &mut one);
-    got < 0
+// A read that failed, just before this call: errno still says why.
+fn say_unread(path: &[u8]) {
+    os::fail(path);
+    complain(
+        path,
+        b"the file was not read to its end, so nothing is said of its window",
+    );
 }
 
 // The open file to the front of the buffer. How many bytes it has, or 0 where that is said to be wrong.
 fn read(path: &[u8], fd: i32, buf: &mut [u8]) -> usize {
-    let n = io::read_full(fd, buf);
-    if n == 0 {
-        if is_unreadable(fd) {
-            complain(path, b"the file can't be read");
-        } else {
-            complain(path, b"the file is empty: there is no window in it");
+    let got = input::whole(fd, buf);
+    match got {
+        Input::Whole(n) => {
+            if n == 0 {
+                complain(path, b"the file is empty: there is no window in it");
+            }
+            return n;
         }
-        return 0;
-    }
-    if LONGEST < n {
-        complain(
+        Input::Longer => complain(
             path,
             b"the file has more than 65536 bytes; a window has at most 524288 bits",
-        );
-        return 0;
+        ),
+        Input::Changed => complain(
+            path,
+            b"the file's length is not that of the bytes read: it changed, or its end came early; nothing is said of its window",
+        ),
+        Input::Failed => say_unread(path),
     }
-    n
+    0
 }
 
 // The file that is named at the place, to the front of the buffer. How many bytes it has, or 0 where that is said to be wrong.
 pub fn load(at: usize, buf: &mut [u8]) -> usize {
     let mut word = io::buffer();
     let n = os::arg(at, &mut word);
+    if os::errno() != 0 {
+        os::fail(b"FILE");
+        return 0;
+    }
     let path = &word[..n];
     let fd = os::open_read(path);
     if fd < 0 {
-        complain(path, b"there is no such file, or it can't be opened");
+        os::fail(path);
         return 0;
     }
     let got = read(path, fd, buf);

@@ -2,7 +2,7 @@
 // FILE [BITS]` a fast-array body, `vrf movement SCALE WIDTH FILE [BITS]` a movement record. `vrf schema` prints the levels.
 //
 // The window is the first BITS bits of the file, without BITS all of it. Walks print a line for each leaf, the seven counters
-// and the verdict. The exit status is always 0: what went wrong is said in words.
+// and the verdict. The exit status is always 0: what went wrong is said in words, on standard error, and then there is no verdict.
 mod args;
 mod fast;
 mod file;
@@ -14,26 +14,25 @@ use args::Count;
 use args::Job;
 use tell::levels;
 use tell::say;
-use walk::Way;
+use words::error;
 
 fn usage() {
-    say::text(b"usage: vrf walk KIND FILE [BITS]\n");
-    say::text(b"       vrf fastarray absent|present FILE [BITS]\n");
-    say::text(b"       vrf movement SCALE WIDTH FILE [BITS]\n");
-    say::text(b"       vrf schema\n");
-    say::text(
+    error::text(b"usage: vrf walk KIND FILE [BITS]\n");
+    error::text(b"       vrf fastarray absent|present FILE [BITS]\n");
+    error::text(b"       vrf movement SCALE WIDTH FILE [BITS]\n");
+    error::text(b"       vrf schema\n");
+    error::text(
         b"KIND is none, exact, objects or a level's name, which vrf schema prints; absent or present is the checksum\n",
     );
-    say::text(
+    error::text(
         b"flag of each item; SCALE is 1, 10 or 100 and WIDTH 8 or 16. The window is the first BITS bits of the file,\n",
     );
-    say::text(b"without BITS all of it.\n");
+    error::text(b"without BITS all of it.\n");
 }
 
 fn run(job: Job, bytes: &[u8], bits: u32) {
     match job {
-        Job::Struct(root) => walk::leaves(Way::Levels(root), bytes, bits),
-        Job::Exact => walk::leaves(Way::Exact, bytes, bits),
+        Job::Leaves(way) => walk::leaves(way, bytes, bits),
         Job::Objects => walk::objects(bytes, bits),
         Job::FastArray(mode) => fast::body(mode, bytes, bits),
         Job::Movement(scale, width) => movement::record(scale, width, bytes, bits),

@@ -13,7 +13,7 @@ const LEAF_SIZE: usize = 5;
 
 const PAIR_SIZE: usize = 2;
 
-// A struct walk from a level, or an exact one.
+// A struct walk from a level, or without a schema; or an exact one.
 pub enum Way {
     Levels(u32),
     Exact,
@@ -22,7 +22,8 @@ pub enum Way {
 // ---- rooms
 
 // A field takes 16 bits at least, so that no window has more than 32,768 leaves, nor more payload bytes than bytes. Paths can
-// need more than there is: that is refusal 3, said with the needs.
+// need more than there is, a MiB, which is 32 bytes for each of the most leaves: that is refusal 3, said with the needs. With these
+// rooms `vrf` runs on a stack of 2 MiB.
 
 fn leaf_room() -> [u32; 163840]
     ensures { λ r. ⌜ 163840 ≡ length r ⌝ }
@@ -30,10 +31,10 @@ fn leaf_room() -> [u32; 163840]
     [0; 163840]
 }
 
-fn path_room() -> [u8; 2097152]
-    ensures { λ r. ⌜ 2097152 ≡ length r ⌝ }
+fn path_room() -> [u8; 1048576]
+    ensures { λ r. ⌜ 1048576 ≡ length r ⌝ }
 {
-    [0; 2097152]
+    [0; 1048576]
 }
 
 fn payload_room() -> [u8; 65536]

@@ -1,1 +1,4 @@
 pub mod FloatLaws
+pub mod InputLaws
+pub mod OutputLaws
+pub mod SignLaws

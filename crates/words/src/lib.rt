@@ -1,19 +1,29 @@
-// What the programs share: text, numbers and bytes on standard output; comparison of bytes; floats as patterns.
+// What the programs share: a file read to its end; text, numbers and bytes on standard output, errors on standard error;
+// comparison of bytes; floats as patterns.
 ghost use mathlib.Core.Path.{_≡_};
 ghost use Prim.Native.Nat.{_≤_};
-use libc::STDOUT_FILENO;
+
+pub mod error;
+pub mod input;
+mod output;
+
+// ---- answers, on standard output
 
 pub fn text(s: &[u8]) {
-    io::write_all(STDOUT_FILENO, s);
+    output::answer(s);
 }
 
 pub fn number(x: u64) {
-    io::print_decimal(STDOUT_FILENO, x);
+    let mut digits = [0u8; 20];
+    let n = io::decimal(x, &mut digits);
+    text(&digits[..n]);
 }
 
 // The low bits of x, in so many hexadecimal digits.
 pub fn pattern(x: u64, digits: usize) {
-    io::print_hex(STDOUT_FILENO, x, digits);
+    let mut out = [0u8; 16];
+    let n = io::hex(x, digits, &mut out);
+    text(&out[..n]);
 }
 
 fn byte(x: u8) -> u64 {
@@ -31,6 +41,8 @@ pub fn hex(s: &[u8]) {
         i += 1;
     }
 }
+
+// ---- numbers, bytes, patterns
 
 pub fn wide(x: u32) -> u64
     ensures { λ r. ⌜ r ≡ x ⌝ }

@@ -4,7 +4,7 @@ use Rattle.vrf.proofs.walk.path_room.Statement.{statement}
 use Rattle.vrf.proofs.walk.path_room.Tie as tie
 
 returns : tie.Need-returns
-returns c = length-filled {A = ℕ} 2097152 0
+returns c = length-filled {A = ℕ} 1048576 0
 
 pub path-room-spec : {M : Type 1} → statement M
 path-room-spec = tie.close (tie.spec returns)
