@@ -15,8 +15,8 @@ import struct
 import sys
 
 MAGIC = b"VRFCASE1"
-# What the replay holds of a file at once, less the size in front of a case.
-LARGEST = 4194304 - 4
+# The most bytes of a case that the replay takes.
+LARGEST = 1310720
 # The numbers that it takes of a case of kind L: of rows, of declared names.
 ROW_ROOM, DECLARED_ROOM = 2600, 2100
 # The refusal numbers of document 01, how many values its table names, and how many numbers the oracle prints.
@@ -272,7 +272,7 @@ def fast(words, answer):
 # ---- walks
 
 # What the replay holds of a walk's outputs; a walk that needs more is compared by its needs alone.
-LEAF_ROOM, PATH_ROOM = 32768, 1048576
+LEAF_ROOM, PATH_ROOM = 32768, 262144
 ABSENT = 4294967295
 
 

@@ -1,21 +1,22 @@
 #!/usr/bin/env python3
-"""How much stack the deepest walk takes.
+"""How much stack the program `replay` takes, and the deepest walk in it.
 
-    stack.py [--run COMMAND] [PROGRAM]
+    stack.py [PROGRAM]
 
 Makes two files of one recorded case each, a struct walk of one level and one of twelve, and finds by bisection the least stack
 with which PROGRAM (target/bin/replay) ends on each of them. The difference is what eleven nested levels take; what the program
-itself holds is in both. On a machine that can't run the program by itself, COMMAND runs it, `{stack}` in it being the stack's
-size in bytes: `--run "qemu-x86_64 -s {stack}"`.
+itself holds, its rooms above all, is in both. On a machine other than x86-64 the toolchain's emulator runs the program, and is told
+the stack's size.
 """
 import os
+import platform
 import resource
+import shutil
 import struct
 import subprocess
 import sys
 import tempfile
 
-ABSENT = 4294967295
 LEVELS = 12
 # What a window of no nested array takes at least and the program's own rooms at most, in KiB.
 LEAST, MOST = 16, 8192
@@ -59,25 +60,33 @@ def case(levels):
     return b"VRFCASE1" + struct.pack("<I", len(body)) + body
 
 
-def ends(command, program, path, kib):
+def emulator():
+    """What runs an x86-64 program here with a stack of so many bytes, as a function to its words; none on x86-64."""
+    if platform.machine() == "x86_64":
+        return None
+    kit = os.path.dirname(os.path.dirname(os.path.realpath(shutil.which("rt"))))
+    own = os.path.join(kit, "on", platform.machine(), "toolchain")
+    lib = os.path.join(own, "lib")
+    loader = [os.path.join(lib, "ld-linux-x86-64.so.2"), "--library-path", lib]
+    return lambda size: [os.path.join(own, "bin", "qemu-x86_64"), "-s", str(size)] + loader
+
+
+def ends(program, path, kib):
     size = 1024 * kib
-    if command:
-        words = [w.replace("{stack}", str(size)) for w in command.split()] + [program, path]
-        limit = None
-    else:
-        words = [program, path]
-        limit = lambda: resource.setrlimit(resource.RLIMIT_STACK, (size, size))
+    emulated = emulator()
+    words = (emulated(size) if emulated else []) + [program, path]
+    limit = None if emulated else lambda: resource.setrlimit(resource.RLIMIT_STACK, (size, size))
     done = subprocess.run(words, preexec_fn=limit, capture_output=True)
     return done.returncode == 0 and b"1 cases" in done.stdout
 
 
-def least(command, program, path):
+def least(program, path):
     low, high = LEAST, MOST
-    if not ends(command, program, path, high):
+    if not ends(program, path, high):
         sys.exit("stack.py: the program doesn't end with %d KiB" % high)
     while high - low > 1:
         middle = (low + high) // 2
-        if ends(command, program, path, middle):
+        if ends(program, path, middle):
             high = middle
         else:
             low = middle
@@ -85,17 +94,13 @@ def least(command, program, path):
 
 
 def main():
-    words = sys.argv[1:]
-    command = ""
-    if words[:1] == ["--run"] and len(words) > 1:
-        command, words = words[1], words[2:]
-    program = words[0] if words else "target/bin/replay"
+    program = sys.argv[1] if len(sys.argv) > 1 else "target/bin/replay"
     sizes = []
     for levels in (1, LEVELS):
         with tempfile.NamedTemporaryFile(suffix=".bin") as f:
             f.write(case(levels))
             f.flush()
-            sizes.append(least(command, program, f.name))
+            sizes.append(least(program, f.name))
             print("a walk of %2d levels: the program ends with %d KiB of stack" % (levels, sizes[-1]))
     print("eleven more levels take %d KiB" % (sizes[1] - sizes[0]))
 

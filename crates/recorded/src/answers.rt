@@ -25,8 +25,10 @@ pub struct Expected {
 // Why a case can't be replayed.
 pub enum Fault {
     None,
-    // A read of the file fails.
+    // A read of the file fails; errno says why.
     Unread,
+    // The file's length is not what was read.
+    Changed,
     // The file ends inside the case.
     Cut,
     // The case is larger than the part of the file that is held at once.
@@ -45,6 +47,15 @@ pub enum Outcome {
     // The line that says so is printed.
     Differs,
     Damaged(Fault),
+}
+
+// The outcome of a case whose difference, if there is one, is printed.
+pub fn said(same: bool) -> Outcome {
+    if same {
+        Outcome::Same
+    } else {
+        Outcome::Differs
+    }
 }
 
 pub fn answer_of(number: u64, first: u64, second: u64, third: u64, cursor: u64) -> Answer

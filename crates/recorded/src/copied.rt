@@ -1,31 +1,16 @@
 // Kind C: a copy of bits to a target.
-ghost use mathlib.Core.Path.{_≡_};
-ghost use lib.ListN.{length};
 use crate::answers;
 use crate::answers::Answer;
 use crate::answers::Expected;
 use crate::answers::Fault;
 use crate::answers::Outcome;
 use crate::fields;
+use crate::patterns;
 use crate::say;
 use crate::windows;
 use crate::windows::Placed;
 use crate::windows::Window;
 use bitio::Copied;
-
-// Targets before the copy. The small one takes less time to make; a window has at most 65,536 bytes.
-
-fn small() -> [u8; 512]
-    ensures { λ r. ⌜ 512 ≡ length r ⌝ }
-{
-    [0xee; 512]
-}
-
-fn large() -> [u8; 131072]
-    ensures { λ r. ⌜ 131072 ≡ length r ⌝ }
-{
-    [0xee; 131072]
-}
 
 fn answer(bytes: &[u8], w: Window, count: u64, target: &mut [u8]) -> Answer {
     let placed = windows::place(bytes, w);
@@ -59,7 +44,7 @@ fn judge(s: &[u8], expected: Expected, after: &[u8], got: Answer, target: &[u8])
 }
 
 // The case, with the front of `space` as the target.
-fn replay_in(s: &[u8], at: usize, space: &mut [u8]) -> Outcome {
+pub fn replay(s: &[u8], at: usize, space: &mut [u8]) -> Outcome {
     let count = fields::number(s, at);
     let room = fields::number(s, count.next);
     let w = windows::of_case(s, room.next);
@@ -77,17 +62,7 @@ fn replay_in(s: &[u8], at: usize, space: &mut [u8]) -> Outcome {
         return Outcome::Damaged(Fault::Number);
     }
     let target = &mut space[0..n];
+    patterns::fill_bytes(target);
     let got = answer(bytes, w, count.value, target);
     judge(s, expected, after, got, target)
-}
-
-pub fn replay(s: &[u8], at: usize) -> Outcome {
-    let count = fields::number(s, at);
-    let room = fields::number(s, count.next);
-    if room.value <= 512 {
-        let mut space = small();
-        return replay_in(s, at, &mut space);
-    }
-    let mut space = large();
-    replay_in(s, at, &mut space)
 }

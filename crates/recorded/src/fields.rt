@@ -127,6 +127,26 @@ pub fn part(s: &[u8], a: usize, e: usize) -> &[u8] {
     &s[a..e]
 }
 
+// The place after so many u32.
+pub fn after_words(s: &[u8], at: usize, count: u64) -> usize {
+    if s.len() < at {
+        return past();
+    }
+    let n = count as usize;
+    if (s.len() - at) / 4 < n {
+        return past();
+    }
+    at + 4 * n
+}
+
+// These bytes, or none.
+pub fn unless(none: bool, s: &[u8]) -> &[u8] {
+    if none {
+        return &s[..0];
+    }
+    s
+}
+
 // All bytes from the place on.
 pub fn rest(s: &[u8], at: usize) -> &[u8] {
     if s.len() < at {

@@ -2,6 +2,7 @@
 use crate::answers::Answer;
 use crate::answers::Fault;
 use crate::fields;
+use words::error;
 pub use words::hex;
 pub use words::number;
 pub use words::text;
@@ -40,40 +41,57 @@ fn reason(f: Fault) {
     match f {
         Fault::None => {}
         Fault::Unread => {
-            text(b"the file can't be read on from here");
+            error::text(b"the file can't be read on from here");
+        }
+        Fault::Changed => {
+            error::text(b"the file ends there, and its length says otherwise");
         }
         Fault::Cut => {
-            text(b"the file ends inside of it");
+            error::text(b"the file ends inside of it");
         }
         Fault::Large => {
-            text(b"it has more than 4194300 bytes");
+            error::text(b"it has more than 1310720 bytes");
         }
         Fault::Kind => {
-            text(b"its kind is not known");
+            error::text(b"its kind is not known");
         }
         Fault::Layout => {
-            text(b"its parts do not fill it exactly");
+            error::text(b"its parts do not fill it exactly");
         }
         Fault::Number => {
-            text(b"a number in it is larger than its kind allows");
+            error::text(b"a number in it is larger than its kind allows");
         }
         Fault::List => {
-            text(b"it has rows of more than 2600 numbers, or declared names of more than 2100");
+            error::text(
+                b"it has rows of more than 2600 numbers, or declared names of more than 2100",
+            );
         }
     }
+}
+
+// A line on standard error.
+pub fn failed(why: &[u8]) {
+    error::text(b"replay: ");
+    error::text(why);
+    error::text(b"\n");
+}
+
+// That a read failed, and why. It goes by errno, so nothing else may be called between the read and this.
+pub fn unread() {
+    os::fail(b"replay: a read of the file fails");
 }
 
 // Why the replay stopped at the case of that number, counted from 1.
 pub fn fault(f: Fault, case_number: u64) {
     match f {
-        Fault::None => {
-            return;
+        Fault::Unread => {
+            unread();
         }
         _ => {}
     }
-    text(b"the file is damaged at case number ");
-    number(case_number);
-    text(b": ");
+    error::text(b"replay: stopped at case number ");
+    error::number(case_number);
+    error::text(b": ");
     reason(f);
-    text(b"\n");
+    error::text(b"\n");
 }

@@ -1,92 +1,99 @@
-// Kind F: a fast-array body.
+// Kind F: a fast-array body, with buffers that are exactly full, longer, and too short.
 ghost use mathlib.Core.Path.{_≡_};
-ghost use Prim.Native.Nat.{_≤_};
 ghost use lib.ListN.{length};
+use crate::ids;
 use fastarray::ChecksumMode;
 use fastarray::FastArray;
 use recorded::answers;
 use recorded::answers::Answer;
-use recorded::answers::Expected;
 use recorded::answers::Fault;
 use recorded::answers::Outcome;
+use recorded::answers::said;
 use recorded::fields;
 use recorded::lists;
+use recorded::patterns;
+use recorded::rooms;
+use recorded::rooms::Room;
 use recorded::say;
 use words::wide;
 
-// The call's inputs, without its bytes and buffers.
+// The call's inputs, without its buffers.
 struct Call {
     bits: u32,
     mode: ChecksumMode,
+    // The place of its bytes in the case.
+    bytes: usize,
 }
 
-// How much is lent of each buffer, in words.
-struct Room {
-    ids: usize,
+// What is recorded of a body: the answer, and where its lists stand. One that is refused has none.
+struct Recorded {
+    answer: Answer,
+    keys: usize,
+    deleted: usize,
     items: usize,
-    records: usize,
+    fields: usize,
+    end: usize,
 }
 
-// A count of records; what no window holds counts as none.
-fn counted(count: u64) -> usize
-    ensures { λ r. ⌜ r ≤ 32768 ⌝ }
+// Buffers for what a window of 524,288 bits can hold, and seven more: 16,379 deleted ids, or 13,103 items of two numbers.
+
+fn id_room() -> [i32; 16386]
+    ensures { λ r. ⌜ 16386 ≡ length r ⌝ }
 {
-    if 32768 < count {
-        return 0;
+    [0; 16386]
+}
+
+fn item_room() -> [u32; 26213]
+    ensures { λ r. ⌜ 26213 ≡ length r ⌝ }
+{
+    [0; 26213]
+}
+
+// ---- what is recorded, and what a call says
+
+fn recorded_body(s: &[u8], at: usize) -> Recorded {
+    let expected = answers::recorded(s, at);
+    let answer = expected.answer;
+    let keys = expected.next;
+    if answer.number != 0 {
+        return Recorded {
+            answer,
+            keys,
+            deleted: keys,
+            items: keys,
+            fields: keys,
+            end: keys,
+        };
     }
-    count as usize
-}
-
-// Room for exactly what a body needs.
-fn room_of(needs: Answer) -> Room {
-    let d = counted(needs.first);
-    let i = counted(needs.second);
-    let f = counted(needs.third);
-    Room {
-        ids: d,
-        items: 2 * i,
-        records: 3 * f,
+    let d = answer.first;
+    let i = answer.second;
+    let f = answer.third;
+    let deleted = fields::after_words(s, keys, 2);
+    let items = fields::after_words(s, deleted, d);
+    let half = fields::after_words(s, items, i);
+    let records = fields::after_words(s, half, i);
+    let third = fields::after_words(s, records, f);
+    let two_thirds = fields::after_words(s, third, f);
+    let end = fields::after_words(s, two_thirds, f);
+    Recorded {
+        answer,
+        keys,
+        deleted,
+        items,
+        fields: records,
+        end,
     }
 }
 
-// The bytes of the lists behind an answer.
-fn lists_size(a: Answer) -> usize {
-    if a.number != 0 {
-        return 0;
+// What the body has to answer where a buffer is short: the refusal for its needs.
+fn expected_of(a: Answer, short: bool) -> Answer {
+    if short {
+        return answers::answer_of(3, a.first, a.second, a.third, 0);
     }
-    let d = counted(a.first);
-    let i = counted(a.second);
-    let f = counted(a.third);
-    8 + 4 * d + 8 * i + 12 * f
+    a
 }
 
-// Buffers before the calls. The small ones take less time to make; a window of 524,288 bits needs no more than the large ones.
-
-fn small_ids() -> [i32; 16]
-    ensures { λ r. ⌜ 16 ≡ length r ⌝ }
-{
-    [7; 16]
-}
-
-fn small_words() -> [u32; 128]
-    ensures { λ r. ⌜ 128 ≡ length r ⌝ }
-{
-    [7; 128]
-}
-
-fn large_ids() -> [i32; 16384]
-    ensures { λ r. ⌜ 16384 ≡ length r ⌝ }
-{
-    [7; 16384]
-}
-
-fn large_words() -> [u32; 98304]
-    ensures { λ r. ⌜ 98304 ≡ length r ⌝ }
-{
-    [7; 98304]
-}
-
-// What a call says: of a body the deletes, items and fields and, as the cursor, the bits used.
+// Of a body the deletes, items and fields and, as the cursor, the bits used.
 fn answer_of(r: FastArray) -> Answer {
     match r {
         FastArray::Decoded(delta) => {
@@ -102,29 +109,14 @@ fn answer_of(r: FastArray) -> Answer {
     }
 }
 
-// The i32 at the place, 0 past the end.
-fn signed_at(s: &[u8], at: usize) -> i64 {
-    if s.len() < 4 {
-        return 0;
-    }
-    if s.len() - 4 < at {
-        return 0;
-    }
-    let raw = bits::load::load32(s, at);
-    bits::integer::signed(raw, 32)
-}
-
-fn signed(x: i32) -> i64 {
-    x as i64
-}
-
-// Whether the two keys stand at the front of the list.
+// Whether the two keys are these; a refusal has none.
 fn same_keys(list: &[u8], r: FastArray) -> bool {
     match r {
         FastArray::Decoded(delta) => {
             let key = delta.key;
             let base = delta.base;
-            signed(key) == signed_at(list, 0) && signed(base) == signed_at(list, 4)
+            ids::signed(key) == ids::signed_at(list, 0)
+                && ids::signed(base) == ids::signed_at(list, 4)
         }
         FastArray::TooLong => true,
         FastArray::NotFastArray => true,
@@ -132,135 +124,7 @@ fn same_keys(list: &[u8], r: FastArray) -> bool {
     }
 }
 
-// Whether the list holds these ids.
-fn same_ids(list: &[u8], ids: &[i32]) -> bool {
-    let n = list.len() / 4;
-    if n != ids.len() {
-        return false;
-    }
-    let mut i = 0;
-    while i < n {
-        let id = ids[i];
-        if signed(id) != signed_at(list, 4 * i) {
-            return false;
-        }
-        i += 1;
-    }
-    true
-}
-
-fn front_ids(s: &[i32], n: usize) -> &[i32] {
-    let end = lists::least(n, s.len());
-    &s[..end]
-}
-
-// Whether the list has the keys, and then what the fronts of the buffers hold.
-fn same_lists(
-    list: &[u8],
-    r: FastArray,
-    room: Room,
-    ids: &[i32],
-    items: &[u32],
-    records: &[u32],
-) -> bool {
-    let d = room.ids;
-    let i = room.items;
-    let f = room.records;
-    if 98304 < d {
-        return false;
-    }
-    if 98304 < i {
-        return false;
-    }
-    if 98304 < f {
-        return false;
-    }
-    let ids_end = 8 + 4 * d;
-    let items_end = ids_end + 4 * i;
-    let end = items_end + 4 * f;
-    same_keys(list, r)
-        && same_ids(fields::part(list, 8, ids_end), front_ids(ids, d))
-        && lists::same_words(
-            fields::part(list, ids_end, items_end),
-            lists::front(items, i),
-        )
-        && lists::same_words(fields::part(list, items_end, end), lists::front(records, f))
-}
-
-// The call, lent so much of the buffers.
-fn decode(
-    bytes: &[u8],
-    call: Call,
-    room: Room,
-    ids: &mut [i32],
-    items: &mut [u32],
-    records: &mut [u32],
-) -> FastArray {
-    let bits = call.bits;
-    let mode = call.mode;
-    let d = lists::least(room.ids, ids.len());
-    let i = lists::least(room.items, items.len());
-    let f = lists::least(room.records, records.len());
-    fastarray::decode_fast_array_delta(
-        bytes,
-        bits,
-        mode,
-        &mut ids[..d],
-        &mut items[..i],
-        &mut records[..f],
-    )
-}
-
-// n less k, or 0.
-fn less(n: usize, k: usize) -> usize {
-    if n < k { 0 } else { n - k }
-}
-
-// Whether the call was refused for these needs; nothing is asked where the buffer that lacks a record needs none.
-fn is_short(needed: u64, needs: Answer, r: FastArray) -> bool {
-    if needed == 0 {
-        return true;
-    }
-    let got = answer_of(r);
-    let short = answers::answer_of(3, needs.first, needs.second, needs.third, 0);
-    answers::same(short, got)
-}
-
-// Whether the call is refused for its needs where one of the buffers lacks one record of them.
-fn short_refused(
-    needs: Answer,
-    bytes: &[u8],
-    call: Call,
-    room: Room,
-    ids: &mut [i32],
-    items: &mut [u32],
-    records: &mut [u32],
-) -> bool {
-    let d = room.ids;
-    let i = room.items;
-    let f = room.records;
-    let few_ids = Room {
-        ids: less(d, 1),
-        items: i,
-        records: f,
-    };
-    let few_items = Room {
-        ids: d,
-        items: less(i, 2),
-        records: f,
-    };
-    let few_records = Room {
-        ids: d,
-        items: i,
-        records: less(f, 3),
-    };
-    let first = decode(bytes, call, few_ids, ids, items, records);
-    let second = decode(bytes, call, few_items, ids, items, records);
-    let third = decode(bytes, call, few_records, ids, items, records);
-    is_short(needs.first, needs, first)
-        && is_short(needs.second, needs, second)
-        && is_short(needs.third, needs, third)
-}
+// ---- a difference
 
 fn say_answer(a: Answer) {
     say::text(b"number ");
@@ -276,54 +140,169 @@ fn say_answer(a: Answer) {
     say::text(b" bits used");
 }
 
-fn differs(s: &[u8], expected: Answer, got: Answer, why: &[u8]) -> Outcome {
+fn differs(s: &[u8], expected: Answer, got: Answer, room: Room, why: &[u8]) -> bool {
     say::case(s);
     say_answer(expected);
     say::text(b", got ");
     say_answer(got);
     say::text(why);
-    Outcome::Differs
+    say::text(b", lent ");
+    say::number(room.first as u64);
+    say::text(b" ids, ");
+    say::number(room.second as u64);
+    say::text(b" and ");
+    say::number(room.third as u64);
+    say::text(b" numbers\n");
+    false
 }
 
-fn judge(s: &[u8], expected: Answer, got: Answer, listed: bool, short: bool) -> Outcome {
-    if !answers::same(expected, got) {
-        return differs(s, expected, got, b"\n");
-    }
-    if got.number != 0 {
-        return Outcome::Same;
-    }
-    if !listed {
-        return differs(s, expected, got, b", and other keys or records\n");
-    }
-    if !short {
-        return differs(
-            s,
-            expected,
-            got,
-            b", and no refusal where a record lacks room\n",
-        );
-    }
-    Outcome::Same
-}
-
-// The case, with the fronts of the three spaces as buffers.
-fn replay_with(
+// Whether a call answers and leaves what is recorded or, where a buffer is short, the refusal for its needs and nothing; the
+// line that says otherwise is printed.
+fn judge(
     s: &[u8],
-    expected: Expected,
-    bytes: &[u8],
+    want: Recorded,
+    short: bool,
+    r: FastArray,
+    deleted: &[i32],
+    items: &[u32],
+    records: &[u32],
+) -> bool {
+    let expected = expected_of(want.answer, short);
+    let got = answer_of(r);
+    let room = rooms::room_of(deleted.len(), items.len(), records.len());
+    let keys = fields::part(s, want.keys, want.deleted);
+    let id_list = fields::part(s, want.deleted, want.items);
+    let item_list = fields::part(s, want.items, want.fields);
+    let field_list = fields::part(s, want.fields, want.end);
+    if !answers::same(expected, got) {
+        return differs(s, expected, got, room, b"");
+    }
+    if !same_keys(keys, r) {
+        return differs(s, expected, got, room, b", and other keys");
+    }
+    if !ids::holds(deleted, fields::unless(short, id_list)) {
+        return differs(s, expected, got, room, b", and other deleted ids");
+    }
+    if !patterns::holds_words(items, fields::unless(short, item_list)) {
+        return differs(s, expected, got, room, b", and other items");
+    }
+    if !patterns::holds_words(records, fields::unless(short, field_list)) {
+        return differs(s, expected, got, room, b", and other fields");
+    }
+    true
+}
+
+// ---- the trials
+
+// The same of the call that is lent these buffers.
+fn gives(
+    s: &[u8],
     call: Call,
-    ids: &mut [i32],
+    want: Recorded,
+    short: bool,
+    deleted: &mut [i32],
+    items: &mut [u32],
+    records: &mut [u32],
+) -> bool {
+    ids::fill(deleted);
+    patterns::fill_words(items);
+    patterns::fill_words(records);
+    let bytes = fields::run(s, call.bytes);
+    let bits = call.bits;
+    let mode = call.mode;
+    let r = fastarray::decode_fast_array_delta(bytes, bits, mode, deleted, items, records);
+    judge(s, want, short, r, deleted, items, records)
+}
+
+// The same, lent so much of these.
+fn gives_in(
+    s: &[u8],
+    call: Call,
+    want: Recorded,
+    short: bool,
+    room: Room,
+    deleted: &mut [i32],
+    items: &mut [u32],
+    records: &mut [u32],
+) -> bool {
+    let d = lists::least(room.first, deleted.len());
+    let i = lists::least(room.second, items.len());
+    let f = lists::least(room.third, records.len());
+    let few_deleted = &mut deleted[..d];
+    let few_items = &mut items[..i];
+    let few_records = &mut records[..f];
+    gives(s, call, want, short, few_deleted, few_items, few_records)
+}
+
+// The same of the trial with this number, if there is one.
+fn passes(
+    s: &[u8],
+    call: Call,
+    want: Recorded,
+    needs: Room,
+    trial: usize,
+    deleted: &mut [i32],
+    items: &mut [u32],
+    records: &mut [u32],
+) -> bool {
+    if !rooms::is_tried(needs, trial) {
+        return true;
+    }
+    let room = rooms::lent(needs, trial);
+    let short = rooms::is_short(trial);
+    gives_in(s, call, want, short, room, deleted, items, records)
+}
+
+// The same of all trials, up to the first that fails.
+fn is_same(
+    s: &[u8],
+    call: Call,
+    want: Recorded,
+    needs: Room,
+    deleted: &mut [i32],
+    items: &mut [u32],
+    records: &mut [u32],
+) -> bool {
+    let mut trial: usize = 0;
+    while trial < rooms::TRIALS {
+        if !passes(s, call, want, needs, trial, deleted, items, records) {
+            return false;
+        }
+        trial += 1;
+    }
+    true
+}
+
+// The same of a body whose lists are larger than these: it is lent nothing.
+fn is_same_unlent(
+    s: &[u8],
+    call: Call,
+    want: Recorded,
+    deleted: &mut [i32],
+    items: &mut [u32],
+    records: &mut [u32],
+) -> bool {
+    let nothing = rooms::room_of(0, 0, 0);
+    gives_in(s, call, want, true, nothing, deleted, items, records)
+}
+
+// The case, with the fronts of these as buffers.
+fn replay_in(
+    s: &[u8],
+    call: Call,
+    want: Recorded,
+    deleted: &mut [i32],
     items: &mut [u32],
     records: &mut [u32],
 ) -> Outcome {
-    let answer = expected.answer;
-    let list = fields::rest(s, expected.next);
-    let room = room_of(answer);
-    let r = decode(bytes, call, room, ids, items, records);
-    let got = answer_of(r);
-    let listed = same_lists(list, r, room, ids, items, records);
-    let short = short_refused(answer, bytes, call, room, ids, items, records);
-    judge(s, answer, got, listed, short)
+    let id_list = fields::part(s, want.deleted, want.items);
+    let item_list = fields::part(s, want.items, want.fields);
+    let field_list = fields::part(s, want.fields, want.end);
+    let needs = rooms::room_of(id_list.len() / 4, item_list.len() / 4, field_list.len() / 4);
+    if rooms::has_room(needs, deleted.len(), items.len(), records.len()) {
+        return said(is_same(s, call, want, needs, deleted, items, records));
+    }
+    said(is_same_unlent(s, call, want, deleted, items, records))
 }
 
 fn mode_of(flag: u64) -> ChecksumMode {
@@ -334,32 +313,21 @@ fn mode_of(flag: u64) -> ChecksumMode {
     }
 }
 
-pub fn replay(s: &[u8], at: usize) -> Outcome {
+// The case, with the front of `records` for the fields.
+pub fn replay(s: &[u8], at: usize, records: &mut [u32]) -> Outcome {
     let flag = fields::number(s, at);
-    let bits = fields::number(s, flag.next);
-    let bytes = fields::run(s, bits.next);
-    let end = fields::after_run(s, bits.next);
-    let expected = answers::recorded(s, end);
-    let list = fields::rest(s, expected.next);
-    if s.len() < expected.next || list.len() != lists_size(expected.answer) {
+    let bit_count = fields::short_number(s, flag.next);
+    let bytes = bit_count.next;
+    let want = recorded_body(s, fields::after_run(s, bytes));
+    if want.end != s.len() {
         return Outcome::Damaged(Fault::Layout);
     }
-    let large = bits.value;
-    if 0xffff_ffff < large {
-        return Outcome::Damaged(Fault::Number);
-    }
     let call = Call {
-        bits: large as u32,
+        bits: bit_count.value,
         mode: mode_of(flag.value),
+        bytes,
     };
-    if large <= 640 {
-        let mut ids = small_ids();
-        let mut items = small_words();
-        let mut records = small_words();
-        return replay_with(s, expected, bytes, call, &mut ids, &mut items, &mut records);
-    }
-    let mut ids = large_ids();
-    let mut items = large_words();
-    let mut records = large_words();
-    replay_with(s, expected, bytes, call, &mut ids, &mut items, &mut records)
+    let mut deleted = id_room();
+    let mut items = item_room();
+    replay_in(s, call, want, &mut deleted, &mut items, records)
 }

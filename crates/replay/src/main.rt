@@ -6,7 +6,7 @@
 //     file   = "VRFCASE1" case*
 //     case   = size (u32: the bytes of what follows) kind (u8: a letter) length (u8) id (length bytes) fields
 //     run    = count, count bytes
-//     list   = a run of u32: of rows at most 2,600 of them, of declared names at most 2,100, of a walk's output at most 163,840
+//     list   = a run of u32: of rows at most 2,600 of them, of declared names at most 2,100
 //     window = skip, bits, run: the first `bits` bits of the bytes, read at bit `skip`
 //     answer = number, first, second, third, cursor
 //
@@ -29,34 +29,36 @@
 // An answer's number is 0 for an accepted read, whose first value is what was read (of a copy or a movement 0; of V, N and
 // R the three values are the bit patterns of the three floats), or a refusal's number by document 01, with the values of
 // its table in its order; values that it doesn't name are 0. The cursor is the one after the read, in the window; 0 where
-// no window was opened. A target holds 0xEE in each byte before the copy. A window of
-// more than 524,288 bits is refused by document 01 and read by the Rust, so a case with one differs.
+// no window was opened. A target holds 0xEE in each byte before the copy. A window of more than 524,288 bits is refused by
+// document 01 and read by the Rust, so a case with one differs.
 //
 // Tables are accepted (number 0) or refused (number 2). The Rust has no such tables: what is expected of them is derived
 // from document 01's layout by hand.
 //
 // Of a fast-array body the answer's values are the deletes, items and fields, and its cursor the bits used; the lists are,
-// in u32, the two keys, the deleted ids, the items and the fields, and none where it is refused. Each buffer is lent exactly
-// as large as needed; a further call for each buffer that needs something lacks one record there, and has to give 3.
+// in u32, the two keys, the deleted ids, the items and the fields, and none where it is refused. What is recorded of a walk
+// (tables, walk, counts) the crate `walked` says.
 //
-// What is recorded of a walk (tables, walk, counts) the crate `walked` says. Each output holds a pattern before the call, and is
-// lent exactly as large as needed, then a bit longer; a further call for each output that needs something lacks one number or
-// byte there, and has to give 3 with the needs and to write nothing.
+// Each output of a walk or a fast-array body holds a pattern before the call, and is lent exactly as large as needed, then a
+// bit longer; a further call for each output that needs something lacks one number or byte there, and has to give 3 with the
+// needs and to write nothing. Where the outputs are larger than the rooms here, the call is lent nothing, and has to give 3
+// with the needs.
 //
-// A difference is one line with both answers. At a case that breaks these rules the replay stops, says which case it is,
-// counted from 1, and the last line says that it stopped.
+// A difference is one line with both answers. At a case that breaks these rules, or can't be read, the replay stops, says on
+// standard error which case it is, counted from 1, and prints no count.
 //
-// A further kind is a row above, a file with `replay(s, at)` for its fields at byte `at` of the case s, and a line in
-// `replay_case`.
+// A further kind is a row above, a file with `replay(s, at, ..)` for its fields at byte `at` of the case s, lent what outputs it
+// has, and a line in `replay_case`.
 mod fast;
 mod geometric;
+mod ids;
 mod movement;
 mod normal;
 mod rotation;
+mod source;
 mod tables;
 mod vector;
 
-ghost use Prim.Native.Nat.{_≤_};
 ghost use mathlib.Core.Path.{_≡_};
 ghost use lib.ListN.{length};
 use recorded::answers::Fault;
@@ -64,48 +66,59 @@ use recorded::answers::Outcome;
 use recorded::copied;
 use recorded::fields;
 use recorded::fixed;
+use recorded::lists;
 use recorded::packed;
 use recorded::say;
 use recorded::serialized;
+use source::Started;
+use source::Taken;
 use walked::exact_walk;
 use walked::object_walk;
 use walked::struct_walk;
 
 // How far the replay has come.
 struct Progress {
-    // The bytes of the part that are done.
-    at: usize,
+    // The bytes of the file that were read.
+    read: u64,
     cases: u64,
     differ: u64,
+    goes_on: bool,
+    // Why it doesn't; none at the file's end.
     fault: Fault,
 }
 
-enum Next {
-    // The rest of the part is the front of the next one.
-    More,
+// What comes of the next case.
+enum Step {
+    // Its bytes in the file, with its size.
+    Same(u64),
+    Differs(u64),
+    End,
     Stop(Fault),
 }
 
-// The part of the file that is held at once. A case and its size have to fit (`say` names what is left for the case).
-fn room() -> [u8; 4194304]
-    ensures { λ r. ⌜ 4194304 ≡ length r ⌝ }
+// Outputs, made once and lent to each case: numbers of 32,768 leaves, path bytes, payload bytes, and seven more of each
+// (recorded::rooms). A copy's target is lent of the path bytes, a fast array's fields of the numbers.
+
+fn number_room() -> [u32; 163847]
+    ensures { λ r. ⌜ 163847 ≡ length r ⌝ }
 {
-    [0; 4194304]
+    [0; 163847]
 }
 
-fn reached(at: usize, cases: u64, differ: u64, fault: Fault) -> Progress
-    ensures { λ r. ⌜ r .at ≡ at ⌝ }
+fn path_room() -> [u8; 262151]
+    ensures { λ r. ⌜ 262151 ≡ length r ⌝ }
 {
-    Progress {
-        at,
-        cases,
-        differ,
-        fault,
-    }
+    [0; 262151]
+}
+
+fn payload_room() -> [u8; 65543]
+    ensures { λ r. ⌜ 65543 ≡ length r ⌝ }
+{
+    [0; 65543]
 }
 
 // One case, without its size.
-fn replay_case(s: &[u8]) -> Outcome {
+fn replay_case(s: &[u8], numbers: &mut [u32], paths: &mut [u8], payloads: &mut [u8]) -> Outcome {
     let at = fields::after_id(s);
     if s.len() < at {
         return Outcome::Damaged(Fault::Layout);
@@ -115,175 +128,160 @@ fn replay_case(s: &[u8]) -> Outcome {
         b'P' => packed::replay(s, at),
         b'I' => serialized::replay(s, at),
         b'G' => fixed::replay(s, at),
-        b'C' => copied::replay(s, at),
+        b'C' => copied::replay(s, at, paths),
         b'L' => tables::replay(s, at),
         b'V' => vector::replay(s, at),
         b'N' => normal::replay(s, at),
         b'R' => rotation::replay(s, at),
         b'M' => movement::replay(s, at),
-        b'F' => fast::replay(s, at),
-        b'S' => struct_walk::replay(s, at),
-        b'X' => exact_walk::replay(s, at),
-        b'O' => object_walk::replay(s, at),
+        b'F' => fast::replay(s, at, numbers),
+        b'S' => struct_walk::replay(s, at, numbers, paths, payloads),
+        b'X' => exact_walk::replay(s, at, numbers, paths, payloads),
+        b'O' => object_walk::replay(s, at, numbers, paths, payloads),
         _ => Outcome::Damaged(Fault::Kind),
     }
 }
 
-// The whole cases at the front of s, up to the first that is damaged.
-fn replay_part(s: &[u8], before: Progress) -> Progress
-    ensures { λ r. ⌜ r .at ≤ length (now (s .entry)) ⌝ }
-{
-    let mut at: usize = 0;
-    let mut cases = before.cases;
-    let mut differ = before.differ;
-    while 4 <= s.len() - at {
-        let size = bits::load::load32(s, at) as usize;
-        let start = at + 4;
-        if s.len() - start < size {
-            break;
-        }
-        let end = start + size;
-        let outcome = replay_case(&s[start..end]);
-        match outcome {
-            Outcome::Same => {}
-            Outcome::Differs => {
-                differ = std::num::wrapping_add_u64(differ, 1);
-            }
-            Outcome::Damaged(fault) => {
-                return reached(at, cases, differ, fault);
-            }
-        }
-        cases = std::num::wrapping_add_u64(cases, 1);
-        at = end;
+fn after_case(outcome: Outcome, size: usize) -> Step {
+    let taken = std::num::wrapping_add_u64(4, size as u64);
+    match outcome {
+        Outcome::Same => Step::Same(taken),
+        Outcome::Differs => Step::Differs(taken),
+        Outcome::Damaged(fault) => Step::Stop(fault),
     }
-    reached(at, cases, differ, Fault::None)
 }
 
-// Reads on behind the first `held` bytes; how many there are then.
-fn refill(fd: i32, buf: &mut [u8], held: usize) -> usize
-    requires { ⌜ held ≤ length (now buf) ⌝ }
-    ensures { λ r. ⌜ r ≤ length (now (buf .entry)) ⌝ }
-{
-    let got = io::read_full(fd, &mut buf[held..]);
-    held + got
-}
-
-// Moves the bytes from `at` to `end` to the front; how many they are.
-fn keep(buf: &mut [u8], at: usize, end: usize) -> usize
-    requires { ⌜ (at ≤ end) × (end ≤ length (now buf)) ⌝ }
-    ensures { λ r. ⌜ r ≤ length (now (buf .entry)) ⌝ }
-{
-    let n = end - at;
-    let mut i = 0;
-    while i < n {
-        buf[i] = buf[at + i];
-        i += 1;
-    }
-    n
-}
-
-// What comes after a part of `end` bytes in a buffer of `size`, which is full unless the file ends.
-fn after_part(part: Progress, end: usize, size: usize) -> Next {
-    let fault = part.fault;
-    match fault {
-        Fault::None => {}
-        _ => {
-            return Next::Stop(fault);
+// The next case, behind so many bytes of the file.
+fn next_case(
+    fd: i32,
+    read: u64,
+    space: &mut [u8],
+    numbers: &mut [u32],
+    paths: &mut [u8],
+    payloads: &mut [u8],
+) -> Step {
+    let taken = source::take(fd, read, space);
+    match taken {
+        Taken::Case(n) => {
+            let end = lists::least(n, space.len());
+            let outcome = replay_case(&space[0..end], numbers, paths, payloads);
+            after_case(outcome, end)
         }
+        Taken::End => Step::End,
+        Taken::Faulty(fault) => Step::Stop(fault),
     }
-    if end < size {
-        if part.at < end {
-            return Next::Stop(Fault::Cut);
-        }
-        return Next::Stop(Fault::None);
-    }
-    if part.at == 0 {
-        return Next::Stop(Fault::Large);
-    }
-    Next::More
 }
 
-// All cases. Nothing says that a file ends, so the loop counts its turns down, from a number that no run uses up.
-fn replay_all(fd: i32, buf: &mut [u8]) -> Progress {
-    let mut before = reached(0, 0, 0, Fault::None);
-    let mut held: usize = 0;
+fn reached(read: u64, cases: u64, differ: u64) -> Progress {
+    Progress {
+        read,
+        cases,
+        differ,
+        goes_on: true,
+        fault: Fault::None,
+    }
+}
+
+fn stopped(before: Progress, fault: Fault) -> Progress {
+    Progress {
+        read: before.read,
+        cases: before.cases,
+        differ: before.differ,
+        goes_on: false,
+        fault,
+    }
+}
+
+fn after_step(before: Progress, next: Step) -> Progress {
+    let cases = std::num::wrapping_add_u64(before.cases, 1);
+    match next {
+        Step::Same(taken) => {
+            let read = std::num::wrapping_add_u64(before.read, taken);
+            reached(read, cases, before.differ)
+        }
+        Step::Differs(taken) => {
+            let read = std::num::wrapping_add_u64(before.read, taken);
+            let differ = std::num::wrapping_add_u64(before.differ, 1);
+            reached(read, cases, differ)
+        }
+        Step::End => stopped(before, Fault::None),
+        Step::Stop(fault) => stopped(before, fault),
+    }
+}
+
+// All cases behind the magic. Nothing says that a file ends, so the loop counts its turns down, from a number that no run uses
+// up.
+fn replay_all(
+    fd: i32,
+    space: &mut [u8],
+    numbers: &mut [u32],
+    paths: &mut [u8],
+    payloads: &mut [u8],
+) -> Progress {
+    let mut so_far = reached(8, 0, 0);
     let mut turns = u64::MAX;
     while 0 < turns {
         turns -= 1;
-        let end = refill(fd, buf, held);
-        let part = replay_part(&buf[0..end], before);
-        let at = part.at;
-        let next = after_part(part, end, buf.len());
-        match next {
-            Next::More => {
-                held = keep(buf, at, end);
-                before = part;
-            }
-            Next::Stop(fault) => {
-                return reached(at, part.cases, part.differ, fault);
-            }
+        let next = next_case(fd, so_far.read, space, numbers, paths, payloads);
+        so_far = after_step(so_far, next);
+        if !so_far.goes_on {
+            return so_far;
         }
     }
-    reached(0, before.cases, before.differ, Fault::Unread)
+    stopped(so_far, Fault::Changed)
 }
 
-fn starts_with_magic(fd: i32) -> bool {
-    let mut head = [0u8; 8];
-    let n = io::read_full(fd, &mut head);
-    fields::equal(&head[..n], b"VRFCASE1")
-}
-
-// Whether a read fails. At the end of the file none does.
-fn is_unreadable(fd: i32) -> bool {
-    let mut one = [0u8; 1];
-    let got = libc::read(fd, &mut one);
-    got < 0
-}
-
-fn report(p: Progress, fault: Fault) {
-    let number = std::num::wrapping_add_u64(p.cases, 1);
-    say::fault(fault, number);
-    say::number(p.cases);
-    say::text(b" cases, ");
-    say::number(p.differ);
+// The count, or why there is none.
+fn report(p: Progress) {
+    let fault = p.fault;
     match fault {
         Fault::None => {
+            say::number(p.cases);
+            say::text(b" cases, ");
+            say::number(p.differ);
             say::text(b" differ\n");
         }
         _ => {
-            say::text(b" differ, stopped at a damaged case\n");
+            let number = std::num::wrapping_add_u64(p.cases, 1);
+            say::fault(fault, number);
         }
     }
 }
 
+fn replay_file(fd: i32) {
+    let mut space = source::room();
+    let mut numbers = number_room();
+    let mut paths = path_room();
+    let mut payloads = payload_room();
+    let p = replay_all(fd, &mut space, &mut numbers, &mut paths, &mut payloads);
+    report(p);
+}
+
 fn run(fd: i32) {
-    if !starts_with_magic(fd) {
-        say::text(b"not a file of cases: it can't be read, or its first bytes are not VRFCASE1\n");
-        return;
+    let started = source::start(fd);
+    match started {
+        Started::Cases => {
+            replay_file(fd);
+        }
+        Started::NoCases => {
+            say::failed(b"not a file of cases: its first bytes are not VRFCASE1");
+        }
+        Started::Unread => {
+            say::unread();
+        }
     }
-    let mut space = room();
-    let buf: &mut [u8] = &mut space;
-    let p = replay_all(fd, buf);
-    if is_unreadable(fd) {
-        report(p, Fault::Unread);
-        return;
-    }
-    let fault = p.fault;
-    report(p, fault);
 }
 
 fn main() {
     let mut path = io::buffer();
     let n = os::arg(1, &mut path);
     if os::errno() != 0 {
-        say::text(b"usage: replay FILE\n");
+        words::error::text(b"usage: replay FILE\n");
         return;
     }
     let fd = os::open_read(&path[..n]);
     if fd < 0 {
-        say::text(b"can't open the file ");
-        say::text(&path[..n]);
-        say::text(b"\n");
+        os::fail(&path[..n]);
         return;
     }
     run(fd);

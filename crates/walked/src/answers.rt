@@ -82,9 +82,12 @@ fn refused(number: u64) -> Answer {
     answer_of(number, [0; 8], 0, 0, 0)
 }
 
-// The refusal of this walk for an output that is too short.
-pub fn short_of(a: Answer) -> Answer {
-    answer_of(3, [0; 8], a.records, a.path_bytes, a.payload_bytes)
+// What a walk that gives this has to answer where an output is short: the refusal for its needs.
+pub fn expected(a: Answer, short: bool) -> Answer {
+    if short {
+        return answer_of(3, [0; 8], a.records, a.path_bytes, a.payload_bytes);
+    }
+    a
 }
 
 pub fn of_structs(r: StructArray) -> Answer {

@@ -31,7 +31,13 @@ pub fn walk(
     array::decode_struct_array_exact(bytes, call.bits, declared, pool, leaves, paths, payloads)
 }
 
-pub fn replay(s: &[u8], at: usize) -> Outcome {
+pub fn replay(
+    s: &[u8],
+    at: usize,
+    leaves: &mut [u32],
+    paths: &mut [u8],
+    payloads: &mut [u8],
+) -> Outcome {
     let declared = at;
     let pool = fields::after_run(s, declared);
     let bit_count = fields::short_number(s, fields::after_run(s, pool));
@@ -44,5 +50,5 @@ pub fn replay(s: &[u8], at: usize) -> Outcome {
         pool,
         bytes,
     };
-    trials::replay(s, Call::Exact(call), fault, want)
+    trials::replay(s, Call::Exact(call), fault, want, leaves, paths, payloads)
 }

@@ -7,12 +7,12 @@
 //     walk   = counts, leaves, path bytes, payload bytes, whole, and where whole is 1: list run run
 //
 // Behind the counts of a walk stands what it needs of each output, then what it writes: the records of the leaves, five u32
-// each, at most 1,048,576 path bytes and at most 65,536 payload bytes. Where whole is 0, the outputs are larger; such a walk is
-// lent nothing, and has to be refused for its needs. An object walk writes pairs alone, two u32 each.
+// each, the path bytes and the payload bytes. Where whole is 0, they don't stand there; such a walk, and one whose outputs are
+// larger than what the caller lends, is lent nothing, and has to be refused for its needs. An object walk writes pairs alone,
+// two u32 each.
 
 pub mod answers;
 pub mod exact_walk;
 pub mod object_walk;
-pub mod patterns;
 pub mod struct_walk;
 pub mod trials;

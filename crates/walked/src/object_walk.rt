@@ -18,7 +18,13 @@ pub fn walk(s: &[u8], call: ObjectCall, pairs: &mut [u32]) -> ObjectArray {
     array::decode_object_ref_array(bytes, call.bits, pairs)
 }
 
-pub fn replay(s: &[u8], at: usize) -> Outcome {
+pub fn replay(
+    s: &[u8],
+    at: usize,
+    leaves: &mut [u32],
+    paths: &mut [u8],
+    payloads: &mut [u8],
+) -> Outcome {
     let bit_count = fields::short_number(s, at);
     let bytes = bit_count.next;
     let want = answers::recorded_pairs(s, fields::after_run(s, bytes));
@@ -26,5 +32,13 @@ pub fn replay(s: &[u8], at: usize) -> Outcome {
         bits: bit_count.value,
         bytes,
     };
-    trials::replay(s, Call::Object(call), Fault::None, want)
+    trials::replay(
+        s,
+        Call::Object(call),
+        Fault::None,
+        want,
+        leaves,
+        paths,
+        payloads,
+    )
 }

@@ -100,7 +100,13 @@ pub fn walk(
     }
 }
 
-pub fn replay(s: &[u8], at: usize) -> Outcome {
+pub fn replay(
+    s: &[u8],
+    at: usize,
+    leaves: &mut [u32],
+    paths: &mut [u8],
+    payloads: &mut [u8],
+) -> Outcome {
     let twelve_levels = fields::number(s, at);
     let level_count = fields::short_number(s, twelve_levels.next);
     let root_level = fields::short_number(s, level_count.next);
@@ -123,5 +129,5 @@ pub fn replay(s: &[u8], at: usize) -> Outcome {
         pool,
         bytes,
     };
-    trials::replay(s, Call::Struct(call), fault, want)
+    trials::replay(s, Call::Struct(call), fault, want, leaves, paths, payloads)
 }
