@@ -34,7 +34,7 @@ fn sides(count: u64, from: u64) -> Sides {
         }),
         port: side(move || {
             let done = exact::copy_bits(black_box(bytes), black_box(cursor), black_box(count), &mut ours);
-            black_box((done, &ours));
+            let _ = black_box((done, &ours));
         }),
     }
 }

@@ -51,7 +51,7 @@ fn sides(record: Bits, way: Way) -> Sides {
             black_box(drop_in(black_box(&record)));
         }),
         _ => side(move || {
-            black_box(port(black_box(&record)));
+            let _ = black_box(port(black_box(&record)));
         }),
     };
     Sides { units: 1, rust, port }

@@ -12,6 +12,9 @@ pub struct Difference {
 }
 
 impl Difference {
+    /// Not a difference of answers: the Rust or this program failed.
+    pub const PANIC: &str = "a panic on the Rust's side or in this program";
+
     pub fn new(call: impl Into<String>, rust: impl fmt::Display, port: impl fmt::Display) -> Self {
         Self {
             call: call.into(),

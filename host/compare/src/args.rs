@@ -1,8 +1,8 @@
 //! The command line.
-use crate::faults::FAULTS;
+use crate::faults::{self, Fault};
 use crate::kinds::KINDS;
 
-const FIXED: [&str; 6] = ["schema", "windows", "strings", "all-openings", "numbers", "largest"];
+const FIXED: [&str; 7] = ["schema", "windows", "strings", "all-openings", "all-cursors", "numbers", "largest"];
 
 #[derive(Clone, Copy)]
 pub enum Until {
@@ -17,7 +17,8 @@ pub struct Args {
     pub only: Option<String>,
     /// All windows of up to so many bits.
     pub bits: u32,
-    pub fault: usize,
+    pub fault: Option<&'static Fault>,
+    pub list_faults: bool,
     pub self_test: bool,
 }
 
@@ -28,7 +29,8 @@ impl Default for Args {
             until: Until::Seconds(60),
             only: None,
             bits: 20,
-            fault: 0,
+            fault: None,
+            list_faults: false,
             self_test: false,
         }
     }
@@ -40,28 +42,37 @@ pub fn all_kinds() -> impl Iterator<Item = &'static str> {
 
 fn usage() -> String {
     let kinds: Vec<&str> = all_kinds().collect();
-    let mut text =
-        String::from("usage: compare [--seed N] [--seconds N | --count N] [--only KIND] [--bits N] [--fault K] [--self-test]\n\n");
+    let mut text = String::from(
+        "usage: compare [--seed N] [--seconds N | --count N] [--only KIND] [--bits N] [--fault K | --faults] [--self-test]\n\n",
+    );
     text += "  --seed N       another seed draws other cases (1)\n";
     text += "  --seconds N    how long random cases are drawn, after the fixed kinds (60)\n";
     text += "  --count N      how many random cases are drawn\n";
     text += "  --bits N       all windows of up to so many bits, at most 24 (20); strings and all-openings follow it\n";
     text += "  --self-test    every fault, in every kind that has to tell of it\n";
     text += &format!("  --only KIND    one of: {}\n", kinds.join(" "));
-    text += "  --fault K      the port's answers are made wrong, to see the report:\n";
-    for (i, (what, _)) in FAULTS.iter().enumerate() {
-        text += &format!("                 {:>2}  {what}\n", i + 1);
-    }
+    text += "  --fault K      the port's answers are made wrong, to see the report; --faults lists what K stands for\n";
     text.trim_end().into()
+}
+
+fn numbered(number: u64) -> Option<&'static Fault> {
+    faults::all().get(usize::try_from(number).ok()?.checked_sub(1)?)
 }
 
 impl Args {
     pub fn read(mut words: impl Iterator<Item = String>) -> Result<Self, String> {
         let mut args = Self::default();
         while let Some(word) = words.next() {
-            if word == "--self-test" {
-                args.self_test = true;
-                continue;
+            match word.as_str() {
+                "--self-test" => {
+                    args.self_test = true;
+                    continue;
+                }
+                "--faults" => {
+                    args.list_faults = true;
+                    continue;
+                }
+                _ => {}
             }
             let value = words.next().ok_or_else(usage)?;
             let number = || {
@@ -74,7 +85,7 @@ impl Args {
                 "--seconds" => args.until = Until::Seconds(number()?),
                 "--count" => args.until = Until::Count(number()?),
                 "--bits" if number()? <= 24 => args.bits = number()? as u32,
-                "--fault" if (1..=FAULTS.len() as u64).contains(&number()?) => args.fault = number()? as usize,
+                "--fault" => args.fault = Some(numbered(number()?).ok_or_else(usage)?),
                 "--only" if all_kinds().any(|kind| kind == value) => args.only = Some(value),
                 _ => return Err(usage()),
             }

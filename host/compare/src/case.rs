@@ -7,6 +7,7 @@ use crate::objects::ObjectCase;
 use crate::openings::OpeningCase;
 use crate::port::Desk;
 use crate::read::ReadCase;
+use crate::reader::ReaderCase;
 use crate::refusals::RefusalCase;
 use crate::twelve;
 use crate::walk::{Flat, WalkCase};
@@ -20,6 +21,7 @@ pub enum Case {
     Fast(FastCase),
     Movement(MovementCase),
     Read(ReadCase),
+    Reader(ReaderCase),
     Refusal(RefusalCase),
     Merge(MergeCase),
     Opening(OpeningCase),
@@ -45,6 +47,7 @@ impl Case {
             Self::Fast(c) => c.check(desk).map(one),
             Self::Movement(c) => c.check().map(one),
             Self::Read(c) => c.check(desk).map(one),
+            Self::Reader(c) => c.check().map(one),
             Self::Refusal(c) => c.check(desk).map(one),
             Self::Merge(c) => c.check().map(one),
             Self::Opening(c) => c.check(desk),
@@ -60,11 +63,7 @@ impl Case {
                 .downcast_ref::<String>()
                 .map(String::as_str)
                 .or(panic.downcast_ref::<&str>().copied());
-            Err(Difference::new(
-                "a panic on the Rust's side or in this program",
-                text.unwrap_or("PANIC"),
-                "-",
-            ))
+            Err(Difference::new(Difference::PANIC, text.unwrap_or("PANIC"), "-"))
         })
     }
 
@@ -76,6 +75,7 @@ impl Case {
             Self::Fast(c) => c.line(),
             Self::Movement(c) => c.line(),
             Self::Read(c) => c.line(),
+            Self::Reader(c) => c.line(),
             Self::Refusal(c) => c.line(),
             Self::Merge(c) => c.line(),
             Self::Opening(c) => c.line(),
@@ -90,6 +90,7 @@ impl Case {
             Self::Fast(c) => Box::new(c.smaller().map(Self::Fast)),
             Self::Movement(c) => Box::new(c.smaller().map(Self::Movement)),
             Self::Read(c) => Box::new(c.smaller().map(Self::Read)),
+            Self::Reader(c) => Box::new(c.smaller().map(Self::Reader)),
             Self::Opening(c) => Box::new(c.smaller().map(Self::Opening)),
             Self::Refusal(_) | Self::Merge(_) | Self::Schema => Box::new(std::iter::empty()),
         }

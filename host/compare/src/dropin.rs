@@ -1,7 +1,7 @@
 //! The same cases through the names that host/rust takes over from the original.
-use crate::answer::Difference;
+use crate::answer::{Difference, of_decode_error, refused};
 use crate::fast::FastCase;
-use crate::faults;
+use crate::faults::{self, Call};
 use crate::movement::MovementCase;
 use crate::walk::{WalkCase, port_counters};
 use crate::window::Window;
@@ -11,7 +11,8 @@ use decode::fastarray::FastArrayDelta;
 use decode::types::{FRepMovement, RotatorQuantization, VectorQuantization};
 use oracle::answers::counters;
 use oracle::tables::{Links, Names};
-use vrf_proved::{self as port, ArrayFieldSchema};
+use vrf_proved::exact::{Refusal, Verdict};
+use vrf_proved::{self as port, ArrayFieldSchema, Decoded};
 
 pub fn level(sub_arrays: Links<ArrayFieldSchema>, field_names: Names) -> ArrayFieldSchema {
     ArrayFieldSchema { sub_arrays, field_names }
@@ -51,13 +52,20 @@ fn before() -> port::ArrayDecodeStats {
     }
 }
 
-fn same_stats(rust: &ArrayDecodeStats, given: &port::ArrayDecodeStats) -> bool {
+fn same_stats(rust: &ArrayDecodeStats, given: &mut port::ArrayDecodeStats) -> bool {
+    faults::answer(Call::DropInStats, given);
+    let mut clean = given.is_clean();
+    faults::answer(Call::DropInClean, &mut clean);
     let mut expected = counters(rust);
     expected[0] += BEFORE;
-    if faults::on(faults::DROPIN) {
-        expected[3] += 1;
-    }
-    port_counters(given) == expected && given.is_clean() == rust.is_clean()
+    port_counters(given) == expected && clean == rust.is_clean()
+}
+
+/// What a form that says a refusal gives: the walk's own counters, from zero.
+fn same_decoded<T>(given: &Result<Decoded<T>, Refusal>, stats: &ArrayDecodeStats, values: impl FnOnce(&[T]) -> bool) -> bool {
+    given
+        .as_ref()
+        .is_ok_and(|d| values(&d.values) && port_counters(&d.stats) == counters(stats) && (d.verdict == Verdict::Clean) == stats.is_clean())
 }
 
 pub fn walk(case: &WalkCase, fields: &[FlattenedField], stats: &ArrayDecodeStats) -> Result<(), Difference> {
@@ -65,52 +73,72 @@ pub fn walk(case: &WalkCase, fields: &[FlattenedField], stats: &ArrayDecodeStats
         return Ok(()); // an unrolled table that is larger than a table may be
     }
     let (w, names, mut given) = (&case.window, case.declared.names(), before());
-    let leaves = if case.exact {
+    let mut leaves = if case.exact {
         port::decode_struct_array_exact(&w.bytes, w.bits, &names, &mut given)
     } else {
         port::decode_struct_array(&w.bytes, w.bits, case.schema.dropin, &names, &mut given)
     };
+    faults::answer(Call::DropInLeaves, &mut leaves);
     let same = |(a, b): (&FlattenedField, &port::FlattenedField)| {
         a.path == b.path && a.handle == b.handle && a.bit_count == b.bit_count && a.raw_bits == b.raw_bits
     };
-    if leaves.len() == fields.len() && fields.iter().zip(&leaves).all(same) && same_stats(stats, &given) {
+    let same = |leaves: &[port::FlattenedField]| leaves.len() == fields.len() && fields.iter().zip(leaves).all(same);
+    let mut tried = if case.exact {
+        port::try_decode_struct_array_exact(&w.bytes, w.bits, &names)
+    } else {
+        port::try_decode_struct_array(&w.bytes, w.bits, case.schema.dropin, &names)
+    };
+    faults::answer(Call::TryLeaves, &mut tried);
+    if same(&leaves) && same_stats(stats, &mut given) && same_decoded(&tried, stats, same) {
         return Ok(());
     }
     Err(Difference::new(
         "the drop-in",
         format!("{fields:?} {stats:?}"),
-        format!("{leaves:?} {given:?}"),
+        format!("{leaves:?} {given:?}, tried: {tried:?}"),
     ))
 }
 
 pub fn objects(w: &Window, pairs: &[(u32, u32)], stats: &ArrayDecodeStats) -> Result<(), Difference> {
     let mut given = before();
-    let found = port::decode_object_ref_array_with_stats(&w.bytes, w.bits, &mut given);
-    let plain = port::decode_object_ref_array(&w.bytes, w.bits);
-    if found == pairs && plain == pairs && same_stats(stats, &given) {
+    let mut found = port::decode_object_ref_array_with_stats(&w.bytes, w.bits, &mut given);
+    let mut plain = port::decode_object_ref_array(&w.bytes, w.bits);
+    faults::answer(Call::DropInPairs, &mut found);
+    faults::answer(Call::DropInPlainPairs, &mut plain);
+    let mut tried = port::try_decode_object_ref_array(&w.bytes, w.bits);
+    faults::answer(Call::TryPairs, &mut tried);
+    if found == pairs && plain == pairs && same_stats(stats, &mut given) && same_decoded(&tried, stats, |found| found == pairs) {
         return Ok(());
     }
     Err(Difference::new(
         "the drop-in",
         format!("{pairs:?} {stats:?}"),
-        format!("{found:?} {given:?}"),
+        format!("{found:?} {given:?}, without counters {plain:?}, tried: {tried:?}"),
     ))
 }
 
 pub fn fast(case: &FastCase, body: Option<&FastArrayDelta>) -> Result<(), Difference> {
-    use port::fastarray::{ChecksumMode, decode_fast_array_delta};
+    use port::fastarray::{ChecksumMode, decode_fast_array_delta, try_decode_fast_array_delta};
     let mode = if case.flags { ChecksumMode::Present } else { ChecksumMode::Absent };
-    let found = decode_fast_array_delta(&case.window.bytes, case.window.bits, mode).filter(|_| !faults::on(faults::DROPIN));
+    let mut found = decode_fast_array_delta(&case.window.bytes, case.window.bits, mode);
+    if let Some(body) = &mut found {
+        faults::answer(Call::DropInFastArray, body);
+    }
     // The types have the same fields under the same names, so the same text.
     let (rust, found) = (format!("{body:?}"), format!("{:?}", found.as_ref()));
-    if rust == found {
-        Ok(())
-    } else {
-        Err(Difference::new("the drop-in", rust, found))
+    let mut tried = try_decode_fast_array_delta(&case.window.bytes, case.window.bits, mode);
+    faults::answer(Call::TryFastArray, &mut tried);
+    let tried_same = match &tried {
+        Ok(given) => body.is_some_and(|body| format!("{body:?}") == format!("{given:?}")),
+        Err(refusal) => body.is_none() && *refusal == refused(6, [0; 3]),
+    };
+    if rust == found && tried_same {
+        return Ok(());
     }
+    Err(Difference::new("the drop-in", rust, format!("{found}, tried: {tried:?}")))
 }
 
-pub fn movement(case: &MovementCase, answer: &Result<FRepMovement, DecodeError>) -> Result<(), Difference> {
+pub fn movement(case: &MovementCase, answer: &Result<FRepMovement, DecodeError>, position: u64) -> Result<(), Difference> {
     let (rotation, location) = case.quantization();
     let rotation = match rotation {
         RotatorQuantization::ByteComponents => port::RotatorQuantization::ByteComponents,
@@ -121,13 +149,65 @@ pub fn movement(case: &MovementCase, answer: &Result<FRepMovement, DecodeError>)
         VectorQuantization::RoundOneDecimal => port::VectorQuantization::RoundOneDecimal,
         VectorQuantization::RoundTwoDecimals => port::VectorQuantization::RoundTwoDecimals,
     };
-    let found = port::read_rep_movement(&case.window.bytes, case.window.bits, rotation, location);
+    let mut found = port::read_rep_movement(&case.window.bytes, case.window.bits, rotation, location);
+    faults::answer(Call::DropInMovement, &mut found);
     // The same text: fields by `Debug`, which prints -0 and every digit, and the record's own JSON form.
     let rust = answer.as_ref().map(|m| format!("{m} {m:?}")).map_err(|e| format!("{e:?}"));
     let found = found.map(|m| format!("{m} {m:?}")).map_err(|e| format!("{e:?}"));
-    let found = if faults::on(faults::DROPIN) { Ok(String::new()) } else { found };
-    if rust == found {
+    let mut tried = port::try_read_rep_movement(&case.window.bytes, case.window.bits, rotation, location);
+    faults::answer(Call::TryMovement, &mut tried);
+    let expected = answer.as_ref().map(|m| (format!("{m:?}"), position)).map_err(of_decode_error);
+    let tried = tried.map(|(m, position)| (format!("{m:?}"), position));
+    if rust == found && expected == tried {
         return Ok(());
     }
-    Err(Difference::new("the drop-in", format!("{rust:?}"), format!("{found:?}")))
+    let rust = format!("{rust:?} @{position}");
+    Err(Difference::new("the drop-in", rust, format!("{found:?}, tried: {tried:?}")))
+}
+
+/// A window over the longest, which the Rust would walk: refusal 1 where a refusal can be said; else one error and nothing decoded.
+pub fn too_long(w: &Window) -> Result<(), Difference> {
+    use port::fastarray::{ChecksumMode, decode_fast_array_delta, try_decode_fast_array_delta};
+    let (bytes, bits) = (&w.bytes, w.bits);
+    let one_error = ArrayDecodeStats {
+        errors: 1,
+        ..Default::default()
+    };
+    let mut stats = [before(), before(), before()];
+    let [structs, exact, objects] = &mut stats;
+    let nothing = port::decode_struct_array(bytes, bits, None, &[], structs).is_empty()
+        && port::decode_struct_array_exact(bytes, bits, &[], exact).is_empty()
+        && port::decode_object_ref_array_with_stats(bytes, bits, objects).is_empty()
+        && decode_fast_array_delta(bytes, bits, ChecksumMode::Absent).is_none();
+    let counted = stats.iter_mut().all(|given| same_stats(&one_error, given));
+    let mut leaves = port::try_decode_struct_array(bytes, bits, None, &[]);
+    let mut exact = port::try_decode_struct_array_exact(bytes, bits, &[]);
+    let mut pairs = port::try_decode_object_ref_array(bytes, bits);
+    let mut body = try_decode_fast_array_delta(bytes, bits, ChecksumMode::Present);
+    let (width, scale) = (port::RotatorQuantization::ByteComponents, port::VectorQuantization::RoundOneDecimal);
+    let mut record = port::try_read_rep_movement(bytes, bits, width, scale);
+    let mut movement = port::read_rep_movement(bytes, bits, width, scale);
+    faults::answer(Call::TryLeaves, &mut leaves);
+    faults::answer(Call::TryLeaves, &mut exact);
+    faults::answer(Call::TryPairs, &mut pairs);
+    faults::answer(Call::TryFastArray, &mut body);
+    faults::answer(Call::TryMovement, &mut record);
+    faults::answer(Call::DropInMovement, &mut movement);
+    let said = [
+        leaves.err(),
+        exact.err(),
+        pairs.err(),
+        body.err(),
+        record.err(),
+        movement.err().map(|e| e.refusal()),
+    ];
+    if nothing && counted && said == [Some(refused(1, [0; 3])); 6] {
+        return Ok(());
+    }
+    let expected = "nothing decoded, one error, refusal 1 six times";
+    Err(Difference::new(
+        "the drop-in",
+        expected,
+        format!("nothing: {nothing}, {stats:?}, {said:?}"),
+    ))
 }

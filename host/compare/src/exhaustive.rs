@@ -1,13 +1,17 @@
-//! Every short window: all of up to so many bits; all strings of bytes that matter; all of up to so many bits against their openings.
+//! Every short window: all of up to so many bits; all strings of bytes that matter; all of up to so many bits against their openings. And
+//! every cursor of small numbers.
 use crate::answer::Difference;
 use crate::case::{Bench, Case};
 use crate::objects::ObjectCase;
 use crate::openings::{Given, OpeningCase};
+use crate::probes::ProbeCall;
+use crate::reader::ReaderCase;
 use crate::runner::Runner;
 use crate::tables::{Declared, Schema};
 use crate::walk::WalkCase;
 use crate::window::Window;
 use std::rc::Rc;
+use vrf_proved::exact::Cursor;
 
 /// The four walks that short windows are given to.
 pub const WALKS: [&str; 4] = ["S", "S cycle", "X", "O"];
@@ -111,6 +115,40 @@ pub fn strings(runner: &mut Runner, len: usize) -> bool {
                     if !one(runner, row, &mut case, &string, 8 * n as u32 - cut) {
                         return false;
                     }
+                }
+            }
+        }
+    }
+    true
+}
+
+/// Numbers that stand about the edges of ten bytes.
+const EDGES: [u64; 16] = [0, 1, 7, 8, 9, 15, 16, 31, 32, 33, 63, 64, 65, 79, 80, 81];
+
+/// Every cursor of small numbers over 0, 1 and 2 bytes, and of edges over 10: every call of the bit reader that only tests have.
+pub fn cursors(runner: &mut Runner) -> bool {
+    let row = runner.row("all-cursors", "cursors of small numbers, good and bad, every call");
+    let small: Vec<u64> = (0..=18).chain([u64::MAX]).collect();
+    for bytes in [10, 0, 1, 2] {
+        let numbers: &[u64] = if bytes == 10 { &EDGES } else { &small };
+        let bytes: Vec<u8> = (0..bytes).map(|i: u8| 0x9d ^ i.wrapping_mul(0x47)).collect();
+        let of = |i: usize| numbers[i % numbers.len()];
+        for i in 0..numbers.len().pow(3) {
+            let (start, pos, len) = (of(i), of(i / numbers.len()), of(i / numbers.len().pow(2)));
+            let left = len.saturating_sub(pos);
+            let counts = [0, 1, left, left.saturating_add(1), u64::MAX];
+            let counted = counts
+                .iter()
+                .flat_map(|n| [ProbeCall::Open(*n), ProbeCall::SkipBits(*n), ProbeCall::SubReader(*n)]);
+            for call in ProbeCall::all(2).into_iter().chain(counted) {
+                let cursor = Cursor { start, pos, len };
+                let case = ReaderCase {
+                    call,
+                    bytes: bytes.clone(),
+                    cursor,
+                };
+                if !runner.one(row, &Case::Reader(case)) {
+                    return false;
                 }
             }
         }

@@ -2,7 +2,7 @@
 use crate::bits::Bits;
 use crate::case::Case;
 use crate::generate::tables::{Bank, cyclic, random_declared};
-use crate::generate::{arrays, edges, fast, numbers, refusals};
+use crate::generate::{arrays, edges, fast, numbers, readers, refusals};
 use crate::objects::ObjectCase;
 use crate::openings::OpeningCase;
 use crate::rng::Rng;
@@ -50,7 +50,7 @@ const fn kind(name: &'static str, share: usize, what: &'static str, draw: fn(&mu
     Kind { name, share, what, draw }
 }
 
-pub const KINDS: [Kind; 19] = [
+pub const KINDS: [Kind; 22] = [
     kind("none", 40, "struct walks without a schema", |r, s| walk(r, s.none.clone(), false)),
     kind("twelve", 60, "struct walks over the twelve levels, each root", |r, s| {
         let schema = s.twelve[r.below(12)].clone();
@@ -75,6 +75,15 @@ pub const KINDS: [Kind; 19] = [
     kind("serialized", 60, "serialized integers", |r, _| Case::Read(numbers::serialized(r))),
     kind("bits", 60, "read_bits", |r, _| Case::Read(numbers::bits(r))),
     kind("copy", 30, "copies", |r, _| Case::Read(numbers::copy(r))),
+    kind("reads", 60, "read_bit, read_u8 to read_u64, read_i32", |r, _| {
+        Case::Reader(readers::read(r))
+    }),
+    kind("readers", 60, "new, open, positions, skips, sub_reader", |r, _| {
+        Case::Reader(readers::reader(r))
+    }),
+    kind("cursors", 30, "bad cursors, by the rules", |r, _| {
+        Case::Reader(readers::bad_cursor(r))
+    }),
     kind("refusals", 20, "refusals that only the rules have", |r, _| {
         Case::Refusal(refusals::case(r))
     }),

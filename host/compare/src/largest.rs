@@ -56,6 +56,19 @@ fn empty_leaves(index: u32, handle: u32, most: usize) -> Bits {
     w
 }
 
+/// The most pairs: 4,096 elements with an object each.
+fn most_pairs() -> Bits {
+    let mut w = Bits::new();
+    w.packed(4096);
+    for i in 0..4096 {
+        let mut object = Bits::new();
+        object.packed(i * 1_048_571);
+        w.packed(i + 1).packed(1).packed(object.len() as u32).join(&object).packed(0);
+    }
+    w.packed(0);
+    w
+}
+
 /// In eleven containers, at the last index of each.
 fn nested(inner: Bits) -> Bits {
     let mut w = inner;
@@ -85,6 +98,7 @@ pub fn cases() -> Vec<Case> {
         walk(nested(empty_leaves(4095, 1, MOST - 11 * 80)), false, &cycle, &named),
         walk(fill(0), false, &none, &bare),
         walk(fill(2), false, &cycle, &named),
+        Case::Objects(ObjectCase(close(most_pairs()))),
         Case::Objects(ObjectCase(close(fill(2)))),
         Case::Objects(ObjectCase(close(fill(0)))),
     ]

@@ -1,6 +1,6 @@
 //! The port and the unchanged Rust on the same inputs, in one process.
 //!
-//!     compare [--seed N] [--seconds N | --count N] [--only KIND] [--bits N] [--fault K] [--self-test]
+//!     compare [--seed N] [--seconds N | --count N] [--only KIND] [--bits N] [--fault K | --faults] [--self-test]
 mod answer;
 mod args;
 mod bits;
@@ -19,7 +19,9 @@ mod numbers;
 mod objects;
 mod openings;
 mod port;
+mod probes;
 mod read;
+mod reader;
 mod refusals;
 mod rng;
 mod runner;
@@ -45,6 +47,12 @@ fn main() -> ExitCode {
             return ExitCode::from(2);
         }
     };
+    if args.list_faults {
+        for (i, fault) in faults::all().iter().enumerate() {
+            println!("{:>4}  {fault}, told by {}", i + 1, fault.kinds.join(" "));
+        }
+        return ExitCode::SUCCESS;
+    }
     std::panic::set_hook(Box::new(|_| {}));
     if args.self_test {
         return if selftest::run(args.seed) {
@@ -62,6 +70,10 @@ fn main() -> ExitCode {
         println!("{} cases, then one that differs", runner.total());
         return ExitCode::FAILURE;
     }
+    if runner.total() == 0 {
+        println!("compare: no case was drawn; nothing was compared");
+        return ExitCode::FAILURE;
+    }
     println!("{} cases, 0 differ", runner.total());
     ExitCode::SUCCESS
 }
@@ -72,6 +84,7 @@ pub fn compare(runner: &mut Runner, args: &Args) -> bool {
         && (!args.wants("windows") || exhaustive::windows(runner, args.bits))
         && (!args.wants("strings") || exhaustive::strings(runner, args.string_bytes()))
         && (!args.wants("all-openings") || exhaustive::openings(runner, args.opening_bits()))
+        && (!args.wants("all-cursors") || exhaustive::cursors(runner))
         && (!args.wants("numbers") || numbers::run(runner))
         && (!args.wants("largest") || largest(runner))
         && random(runner, args)

@@ -1,10 +1,11 @@
 //! Sums of counters, and verdicts.
 use crate::answer::{Difference, Outcome, refused};
-use crate::faults;
+use crate::faults::{self, Call};
+use crate::port;
 use crate::walk::port_counters;
 use decode::array::ArrayDecodeStats;
 use oracle::answers::counters;
-use vrf_proved::exact::{self, Verdict};
+use vrf_proved::exact::{RefusedMerge, Verdict};
 
 #[derive(Clone, Debug)]
 pub struct MergeCase {
@@ -49,15 +50,17 @@ impl MergeCase {
             sum.merge_from(&of_rust(self.right));
             Ok(counters(&sum))
         } else {
-            Err(refused(4, [0; 3]))
+            Err(RefusedMerge {
+                number: 4,
+                left: of_port(self.left),
+            })
         };
-        let mut answer = exact::merge(&of_port(self.left), &of_port(self.right)).map(|s| port_counters(&s));
-        faults::merge(&mut answer);
+        let answer = port::merge(&of_port(self.left), &of_port(self.right)).map(|s| port_counters(&s));
         if answer != expected {
             return Err(Difference::new("merge", format!("{expected:?}"), format!("{answer:?}")));
         }
         let clean = of_rust(self.left).is_clean();
-        let verdict = exact::verdict(&of_port(self.left));
+        let verdict = port::verdict(&of_port(self.left));
         if (verdict == Verdict::Clean) != clean {
             return Err(Difference::new(
                 "verdict of the left",
@@ -73,17 +76,36 @@ impl MergeCase {
     fn dropin(&self, fits: bool) -> Result<(), Difference> {
         let mut sum = of_port(self.left);
         sum.merge_from(&of_port(self.right));
+        faults::answer(Call::DropInMerge, &mut sum);
+        let mut clean = sum.is_clean();
+        faults::answer(Call::DropInClean, &mut clean);
         let mut expected: [u64; 7] = std::array::from_fn(|i| self.left[i].saturating_add(self.right[i]));
         if !fits {
             expected[3] = expected[3].saturating_add(1);
         }
-        if port_counters(&sum) == expected && sum.is_clean() == expected[2..].iter().all(|c| *c == 0) {
+        if port_counters(&sum) != expected || clean != expected[2..].iter().all(|c| *c == 0) {
+            let (rust, port) = (format!("{expected:?}"), format!("{sum:?}"));
+            return Err(Difference::new("the drop-in's merge_from", rust, port));
+        }
+        self.tried(fits, expected)
+    }
+
+    /// The form that says a refusal: where it does, the left counters are as they were.
+    fn tried(&self, fits: bool, sum: [u64; 7]) -> Result<(), Difference> {
+        let mut left = of_port(self.left);
+        let mut said = left.try_merge_from(&of_port(self.right));
+        faults::answer(Call::TryMerge, &mut said);
+        faults::answer(Call::TryMergeSum, &mut left);
+        let expected = if fits {
+            (Ok(()), sum)
+        } else {
+            (Err(refused(4, [0; 3])), self.left)
+        };
+        let given = (said, port_counters(&left));
+        if given == expected {
             return Ok(());
         }
-        Err(Difference::new(
-            "the drop-in's merge_from",
-            format!("{expected:?}"),
-            format!("{sum:?}"),
-        ))
+        let (rust, port) = (format!("{expected:?}"), format!("{given:?}"));
+        Err(Difference::new("the drop-in's try_merge_from", rust, port))
     }
 }

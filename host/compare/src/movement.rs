@@ -117,7 +117,7 @@ impl MovementCase {
         if rust != port {
             return Err(Difference::new("movement", text(&rust), text(&port)));
         }
-        crate::dropin::movement(self, &answer)?;
+        crate::dropin::movement(self, &answer, position)?;
         Ok(if rust.0.is_ok() { Outcome::Accepted } else { Outcome::Refused })
     }
 

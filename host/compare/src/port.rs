@@ -1,8 +1,12 @@
-//! The port's calls over watched buffers. Faults come in here and nowhere else.
+//! The port's calls over watched buffers. The faults of the interface with lent buffers come in here.
 use crate::answer::{ReadAnswer, Value};
-use crate::faults;
+use crate::faults::{self, Call};
 use crate::lent::Lent;
-use vrf_proved::exact::{self, Buffers, Cursor, FastArray, LocationScale, Movement, Objects, Read, Refusal, RotationWidth, Tables, Walk};
+use vrf_proved::ArrayDecodeStats;
+use vrf_proved::exact::{
+    self, Buffers, Cursor, FastArray, LocationScale, Movement, Objects, Read, Refusal, RefusedMerge, RotationWidth, Tables, Verdict, Walk,
+    Xyz,
+};
 
 /// The buffers of all calls, kept from case to case.
 #[derive(Default)]
@@ -47,53 +51,75 @@ impl Desk {
     pub fn fast_array(&mut self, bytes: &[u8], bits: u32, flags: bool) -> Result<FastArray, Refusal> {
         let (deleted, items, fields) = (self.deleted.cells(), self.items.cells(), self.fields.cells());
         let mut r = exact::fast_array(bytes, bits, flags, deleted, items, fields);
-        faults::fast(&mut r, deleted, fields);
+        faults::fast(&mut r, deleted, items, fields);
         r
     }
 
     pub fn copy_bits(&mut self, bytes: &[u8], cursor: Cursor, count: u64) -> ReadAnswer {
         let target = self.target.cells();
-        let mut r = of(exact::copy_bits(bytes, cursor, count, target), |()| Value::Copied);
+        let mut r = exact::copy_bits(bytes, cursor, count, target);
         faults::copy(&mut r, count, target);
-        r
+        of(r, |()| Value::Copied)
     }
 }
 
 fn of<T>(r: Read<T>, value: impl FnOnce(T) -> Value) -> ReadAnswer {
-    let mut a = ReadAnswer {
+    ReadAnswer {
         result: r.result.map(value),
         position: r.position,
-    };
-    faults::read(&mut a);
-    a
+    }
+}
+
+fn number(call: Call, mut r: Read<u64>) -> ReadAnswer {
+    faults::answer(call, &mut r);
+    of(r, Value::Number)
+}
+
+fn doubles(call: Call, mut r: Read<Xyz>) -> ReadAnswer {
+    faults::answer(call, &mut r);
+    of(r, |v| Value::Doubles(v.map(f64::to_bits)))
 }
 
 pub fn read_bits(bytes: &[u8], cursor: Cursor, count: u64) -> ReadAnswer {
-    of(exact::read_bits(bytes, cursor, count), Value::Number)
+    number(Call::ReadBits, exact::read_bits(bytes, cursor, count))
 }
 
 pub fn read_packed(bytes: &[u8], cursor: Cursor) -> ReadAnswer {
-    of(exact::read_packed(bytes, cursor), Value::Number)
+    number(Call::ReadPacked, exact::read_packed(bytes, cursor))
 }
 
 pub fn read_serialized(bytes: &[u8], cursor: Cursor, maximum: u32) -> ReadAnswer {
-    of(exact::read_serialized(bytes, cursor, maximum), Value::Number)
+    number(Call::ReadSerialized, exact::read_serialized(bytes, cursor, maximum))
 }
 
 pub fn vector(bytes: &[u8], cursor: Cursor, scale: u32) -> ReadAnswer {
-    of(exact::vector(bytes, cursor, scale), |v| Value::Doubles(v.map(f64::to_bits)))
+    doubles(Call::Vector, exact::vector(bytes, cursor, scale))
 }
 
 pub fn normal(bytes: &[u8], cursor: Cursor) -> ReadAnswer {
-    of(exact::normal(bytes, cursor), |v| Value::Doubles(v.map(f64::to_bits)))
+    doubles(Call::Normal, exact::normal(bytes, cursor))
 }
 
 pub fn rotation(bytes: &[u8], cursor: Cursor, width: u32) -> ReadAnswer {
-    of(exact::rotation(bytes, cursor, width), |v| Value::Floats(v.map(f32::to_bits)))
+    let mut r = exact::rotation(bytes, cursor, width);
+    faults::answer(Call::Rotation, &mut r);
+    of(r, |v| Value::Floats(v.map(f32::to_bits)))
 }
 
 pub fn movement(bytes: &[u8], count: u64, rotation: RotationWidth, location: LocationScale) -> Read<Movement> {
     let mut r = exact::movement(bytes, count, rotation, location);
-    faults::movement(&mut r);
+    faults::answer(Call::Movement, &mut r);
     r
+}
+
+pub fn merge(left: &ArrayDecodeStats, right: &ArrayDecodeStats) -> Result<ArrayDecodeStats, RefusedMerge> {
+    let mut r = exact::merge(left, right);
+    faults::answer(Call::Merge, &mut r);
+    r
+}
+
+pub fn verdict(counters: &ArrayDecodeStats) -> Verdict {
+    let mut v = exact::verdict(counters);
+    faults::answer(Call::Verdict, &mut v);
+    v
 }

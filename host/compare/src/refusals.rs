@@ -149,6 +149,12 @@ impl RefusalCase {
                 && [&desk.paths, &desk.payloads, &desk.target].iter().all(|l| l.holds(&[]))
                 && desk.deleted.holds(&[]);
         if answer == expected && position == self.position() && untouched {
+            match self {
+                Self::Struct(w, _) | Self::Exact(w, _) | Self::Objects(w) | Self::Fast(w, _) if w.bits > LONGEST_WINDOW => {
+                    crate::dropin::too_long(w)?;
+                }
+                _ => {}
+            }
             return Ok(if expected.is_some() { Outcome::Refused } else { Outcome::Accepted });
         }
         let text = |r: &Option<Refusal>, at| format!("{} @{at}", r.as_ref().map_or("accepted".into(), told));

@@ -38,6 +38,7 @@ pub fn check() -> Result<u64, Difference> {
                 (s.rows, s.names, s.levels) == (SCHEMA_ROWS, SCHEMA_NAMES, 12)
                     && rust.rows.len() * 5 == SCHEMA_ROWS
                     && pairs.all(|(port, rust)| port == rust)
+                    && filled.0.chunks(5).all(|r| r[1] != 0 || r[4] == 0)
                     && rows.holds(filled.0)
                     && names.holds(filled.1)
             }

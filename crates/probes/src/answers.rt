@@ -1,0 +1,213 @@
+// Answers of the bit reader as the one struct that tests are given.
+ghost use mathlib.Core.Path.{_≡_};
+ghost use Rattle.bitio.specs.Refusals.{numbered, standsAfter};
+ghost use Rattle.probes.specs.Answers.{cursorOf, valueGiven, readerGiven, refusedAt, refusalGiven, openedGives, measuredGives, endedGives, skippedGives, subGives, bitGives, u8Gives, u16Gives, u32Gives, i32Gives, u64Gives};
+use crate::VrfProbe;
+use crate::VrfProbeCursor;
+use bitio::BitRead;
+use bitio::Cursor;
+use bitio::Ended;
+use bitio::I32Read;
+use bitio::Measured;
+use bitio::Opened;
+use bitio::Refusal;
+use bitio::Skipped;
+use bitio::SubReader;
+use bitio::U8Read;
+use bitio::U16Read;
+use bitio::U32Read;
+use bitio::U64Read;
+
+pub fn cursor_of(c: VrfProbeCursor) -> Cursor
+    ensures { λ r. ⌜ r ≡ cursorOf c ⌝ }
+{
+    Cursor {
+        start: c.start,
+        pos: c.pos,
+        len: c.len,
+    }
+}
+
+// A value, and where the cursor stands.
+fn value_given(value: u64, signed: i32, truth: bool, position: u64) -> VrfProbe
+    ensures { λ r. ⌜ r ≡ valueGiven value signed truth position ⌝ }
+{
+    VrfProbe {
+        refusal: 0,
+        first: 0,
+        second: 0,
+        third: 0,
+        value,
+        signed,
+        truth,
+        position,
+        reader: VrfProbeCursor {
+            start: 0,
+            pos: 0,
+            len: 0,
+        },
+    }
+}
+
+pub fn reader_given(c: Cursor, position: u64) -> VrfProbe
+    ensures { λ r. ⌜ r ≡ readerGiven c position ⌝ }
+{
+    VrfProbe {
+        refusal: 0,
+        first: 0,
+        second: 0,
+        third: 0,
+        value: 0,
+        signed: 0,
+        truth: false,
+        position,
+        reader: VrfProbeCursor {
+            start: c.start,
+            pos: c.pos,
+            len: c.len,
+        },
+    }
+}
+
+fn refused_at(refusal: u32, first: u64, second: u64, third: u64, position: u64) -> VrfProbe
+    ensures { λ r. ⌜ r ≡ refusedAt refusal first second third position ⌝ }
+{
+    VrfProbe {
+        refusal,
+        first,
+        second,
+        third,
+        value: 0,
+        signed: 0,
+        truth: false,
+        position,
+        reader: VrfProbeCursor {
+            start: 0,
+            pos: 0,
+            len: 0,
+        },
+    }
+}
+
+// What a refusal says, and where the cursor that stood at `at` stands after it. No call here reads a packed number; the 40 bits of one
+// would lie in its window, so that no sum wraps.
+fn refused(r: Refusal, at: u64) -> VrfProbe
+    ensures { λ a. ⌜ a ≡ refusalGiven at r ⌝ }
+{
+    match r {
+        Refusal::TooLong => refused_at(1, 0, 0, 0, at),
+        Refusal::TooFew(position, length, asked) => {
+            refused_at(7, position, length, asked, position)
+        }
+        Refusal::GoesOn(start) => {
+            let stop = std::num::wrapping_add_u64(start, 40);
+            refused_at(8, start, 0, 0, stop)
+        }
+        Refusal::Overflows(start) => {
+            let stop = std::num::wrapping_add_u64(start, 40);
+            refused_at(9, start, 0, 0, stop)
+        }
+        Refusal::NoMaximum => refused_at(10, 0, 0, 0, at),
+        Refusal::TooMany => refused_at(13, 0, 0, 0, at),
+        Refusal::Past(asked, available) => refused_at(14, asked, available, 0, at),
+    }
+}
+
+pub fn opened_gives(a: Opened) -> VrfProbe
+    ensures { λ r. ⌜ r ≡ openedGives a ⌝ }
+{
+    match a {
+        Opened::Reader(c) => reader_given(c, 0),
+        Opened::Refused(r) => refused(r, 0),
+    }
+}
+
+pub fn measured_gives(a: Measured, at: u64) -> VrfProbe
+    ensures { λ r. ⌜ r ≡ measuredGives at a ⌝ }
+{
+    match a {
+        Measured::Value(value) => value_given(value, 0, false, at),
+        Measured::Refused(r) => refused(r, at),
+    }
+}
+
+pub fn ended_gives(a: Ended, at: u64) -> VrfProbe
+    ensures { λ r. ⌜ r ≡ endedGives at a ⌝ }
+{
+    match a {
+        Ended::Value(value) => value_given(0, 0, value, at),
+        Ended::Refused(r) => refused(r, at),
+    }
+}
+
+pub fn skipped_gives(a: Skipped, at: u64) -> VrfProbe
+    ensures { λ r. ⌜ r ≡ skippedGives at a ⌝ }
+{
+    match a {
+        Skipped::Done(next) => value_given(0, 0, false, next),
+        Skipped::Refused(r) => refused(r, at),
+    }
+}
+
+pub fn sub_gives(a: SubReader, at: u64) -> VrfProbe
+    ensures { λ r. ⌜ r ≡ subGives at a ⌝ }
+{
+    match a {
+        SubReader::Window(c, next) => reader_given(c, next),
+        SubReader::Refused(r) => refused(r, at),
+    }
+}
+
+pub fn bit_gives(a: BitRead, at: u64) -> VrfProbe
+    ensures { λ r. ⌜ r ≡ bitGives at a ⌝ }
+{
+    match a {
+        BitRead::Value(value, next) => value_given(0, 0, value, next),
+        BitRead::Refused(r) => refused(r, at),
+    }
+}
+
+pub fn u8_gives(a: U8Read, at: u64) -> VrfProbe
+    ensures { λ r. ⌜ r ≡ u8Gives at a ⌝ }
+{
+    match a {
+        U8Read::Value(value, next) => value_given(value as u64, 0, false, next),
+        U8Read::Refused(r) => refused(r, at),
+    }
+}
+
+pub fn u16_gives(a: U16Read, at: u64) -> VrfProbe
+    ensures { λ r. ⌜ r ≡ u16Gives at a ⌝ }
+{
+    match a {
+        U16Read::Value(value, next) => value_given(value as u64, 0, false, next),
+        U16Read::Refused(r) => refused(r, at),
+    }
+}
+
+pub fn u32_gives(a: U32Read, at: u64) -> VrfProbe
+    ensures { λ r. ⌜ r ≡ u32Gives at a ⌝ }
+{
+    match a {
+        U32Read::Value(value, next) => value_given(value as u64, 0, false, next),
+        U32Read::Refused(r) => refused(r, at),
+    }
+}
+
+pub fn i32_gives(a: I32Read, at: u64) -> VrfProbe
+    ensures { λ r. ⌜ r ≡ i32Gives at a ⌝ }
+{
+    match a {
+        I32Read::Value(value, next) => value_given(0, value, false, next),
+        I32Read::Refused(r) => refused(r, at),
+    }
+}
+
+pub fn u64_gives(a: U64Read, at: u64) -> VrfProbe
+    ensures { λ r. ⌜ r ≡ u64Gives at a ⌝ }
+{
+    match a {
+        U64Read::Value(value, next) => value_given(value, 0, false, next),
+        U64Read::Refused(r) => refused(r, at),
+    }
+}
