@@ -1,9 +1,9 @@
 /* Walks an array of combat rounds and prints what it holds.
  *
  *     tools/staticlib
- *     cc host/c/example.c -Ihost/c target/native/libexports.a -o example
- *     ./example                 a small window that stands below
- *     ./example FILE [BITS]     the first BITS bits of a file, or all of it
+ *     cc host/c/example.c -Ihost/c target/native/libexports.a -o target/example
+ *     target/example                 a small window that stands below
+ *     target/example FILE [BITS]     the first BITS bits of a file, or all of it
  *
  * tools/staticlib makes the library for the machine at hand; the one for x86-64 is also what `rt staticlib exports` writes. */
 #include "vrf.h"

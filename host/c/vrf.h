@@ -15,6 +15,9 @@
  *   - A pointer is aligned for its type, as every C array is.
  *   - A lent buffer overlaps no other argument of the call, lent or `const`. Two `const` slices may overlap.
  *   - No other thread writes to an argument while the call runs.
+ *   - The floating-point environment is the default one, as a C program starts with: rounding to nearest, denormals not flushed to
+ *     zero, exceptions masked. In another one the components of vectors, normals and movements come out otherwise, or the program
+ *     is stopped by a signal; tests/environment.c shows it.
  *   A null pointer with the length 0 is fine.
  *   Everything else is checked: any bytes, any tables, any number gets an answer. Not proved: how long a call takes, and how much
  *   stack.

@@ -16,6 +16,7 @@ pub const MAX_RECURSION_DEPTH: u32 = 12;
 
 /// One leaf of a walked array.
 #[derive(Debug, Clone, PartialEq, Eq)]
+#[must_use]
 pub struct FlattenedField {
     /// From the root on, as `[2].Reports[1].DamageDealt`; a kept tail ends in `._raw`.
     pub path: String,
@@ -29,6 +30,7 @@ pub struct FlattenedField {
 
 /// What an accepted walk gave, with counters of its own that start from zero.
 #[derive(Debug, Clone, PartialEq, Eq)]
+#[must_use]
 pub struct Decoded<T> {
     /// Leaves or pairs, in the order of the window.
     pub values: Vec<T>,
@@ -59,6 +61,7 @@ pub struct Decoded<T> {
 /// let leaves = decode_struct_array(&window, 72, Some(&COMBAT_ROUNDS_SCHEMA), &[], &mut stats);
 /// assert_eq!((leaves.len(), stats.errors, stats.is_clean()), (0, 1, false));
 /// ```
+#[must_use]
 pub fn decode_struct_array(
     data: &[u8],
     bit_count: u32,
@@ -107,9 +110,10 @@ pub fn try_decode_struct_array(
 /// let mut stats = ArrayDecodeStats::default();
 /// assert_eq!(decode_struct_array_exact(&window, 56, &[], &mut stats)[0].path, "[0]._h1");
 /// assert!(stats.is_clean());
-/// decode_struct_array_exact(&window, 64, &[], &mut stats);
+/// let _ = decode_struct_array_exact(&window, 64, &[], &mut stats);
 /// assert_eq!((stats.fields_emitted, stats.unconsumed_root_bits), (2, 8));
 /// ```
+#[must_use]
 pub fn decode_struct_array_exact(
     data: &[u8],
     bit_count: u32,
@@ -144,6 +148,7 @@ pub fn try_decode_struct_array_exact(data: &[u8], bit_count: u32, declared: &[Op
 ///
 /// assert_eq!(decode_object_ref_array(&[0x02, 0x02, 0x04, 0x10, 0x0e, 0x00, 0x00], 56), [(0, 7)]);
 /// ```
+#[must_use]
 pub fn decode_object_ref_array(data: &[u8], bit_count: u32) -> Vec<(u32, u32)> {
     decode_object_ref_array_with_stats(data, bit_count, &mut ArrayDecodeStats::default())
 }
@@ -158,9 +163,10 @@ pub fn decode_object_ref_array(data: &[u8], bit_count: u32) -> Vec<(u32, u32)> {
 /// let mut stats = ArrayDecodeStats::default();
 /// assert_eq!(decode_object_ref_array_with_stats(&window, 56, &mut stats), [(0, 7)]);
 /// assert!(stats.is_clean());
-/// decode_object_ref_array_with_stats(&window, 524_289, &mut stats);
+/// let _ = decode_object_ref_array_with_stats(&window, 524_289, &mut stats);
 /// assert_eq!((stats.errors, stats.is_clean()), (1, false));
 /// ```
+#[must_use]
 pub fn decode_object_ref_array_with_stats(data: &[u8], bit_count: u32, stats: &mut ArrayDecodeStats) -> Vec<(u32, u32)> {
     counted(try_decode_object_ref_array(data, bit_count), stats)
 }

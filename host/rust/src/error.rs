@@ -5,6 +5,7 @@ use std::fmt;
 
 /// A read that failed. Positions count bits of the window.
 #[derive(Debug, Clone, PartialEq, Eq)]
+#[must_use]
 pub enum BitError {
     /// Fewer bits are left than asked (7).
     Eof {
@@ -36,6 +37,7 @@ pub enum BitError {
 
 /// Why there is no movement record.
 #[derive(Debug, Clone, PartialEq)]
+#[must_use]
 pub enum DecodeError {
     /// A read failed.
     BitIo(BitError),
@@ -50,7 +52,6 @@ pub enum DecodeError {
 
 impl BitError {
     /// The refusal that it stands for.
-    #[must_use]
     pub fn refusal(&self) -> Refusal {
         let (number, values) = match *self {
             Self::Eof {
@@ -76,7 +77,6 @@ impl DecodeError {
     /// assert_eq!((error.refusal().number, error.refusal().values), (7, [24, 26, 3]));
     /// assert_eq!(error.to_string(), "refusal 7: 3 bits asked at bit 24 of a window of 26");
     /// ```
-    #[must_use]
     pub fn refusal(&self) -> Refusal {
         match self {
             Self::BitIo(error) => error.refusal(),
@@ -132,4 +132,13 @@ impl fmt::Display for DecodeError {
 
 impl std::error::Error for BitError {}
 
-impl std::error::Error for DecodeError {}
+/// What failed below, where something did: the read, or the refusal. The text says it already.
+impl std::error::Error for DecodeError {
+    fn source(&self) -> Option<&(dyn std::error::Error + 'static)> {
+        match self {
+            Self::BitIo(error) => Some(error),
+            Self::NonFiniteComponent { .. } => None,
+            Self::Refused(refusal) => Some(refusal),
+        }
+    }
+}

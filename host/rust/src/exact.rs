@@ -44,10 +44,12 @@ pub const SCHEMA_NAMES: usize = 187;
 /// Why a call was refused: the number, and the values that come with it (docs/REFUSALS.md lists both). A refused call has
 /// written to no buffer.
 #[derive(Debug, Clone, Copy, PartialEq, Eq)]
+#[must_use]
 pub struct Refusal {
     /// 1 to 14.
     pub number: u32,
-    /// What the number names, in its order; 0 where it names nothing. Of number 3: what each lent buffer needs, in records or bytes.
+    /// What the number names, in its order; 0 where it names nothing. Of number 3: what each lent buffer needs, in records or bytes. Of
+    /// number 4, which names seven counters: 0; [`RefusedMerge`] has them.
     pub values: [u64; 3],
 }
 
@@ -85,6 +87,7 @@ impl std::error::Error for Refusal {}
 
 /// What a walk's window is worth.
 #[derive(Debug, Clone, Copy, PartialEq, Eq)]
+#[must_use]
 pub enum Verdict {
     /// It was read to its end and nothing is missing: the last five counters are 0.
     Clean,
@@ -145,6 +148,7 @@ pub struct Buffers<'a> {
 
 /// An accepted struct or exact walk: how much of each buffer is filled, and what was counted.
 #[derive(Debug, Clone, PartialEq, Eq)]
+#[must_use]
 pub struct Walk {
     /// Leaves, of [`LEAF_WORDS`] numbers each.
     pub leaves: usize,
@@ -160,6 +164,7 @@ pub struct Walk {
 
 /// An accepted object walk.
 #[derive(Debug, Clone, PartialEq, Eq)]
+#[must_use]
 pub struct Objects {
     /// Pairs, of [`PAIR_WORDS`] numbers each.
     pub pairs: usize,
@@ -287,23 +292,50 @@ pub fn object_array(bytes: &[u8], bits: u32, pairs: &mut [u32]) -> Result<Object
     })
 }
 
-/// The counters of two walks added up, one by one. Refusal 4.
+/// Why two counts have no sum: refusal 4, and what it names.
+#[derive(Debug, Clone, PartialEq, Eq)]
+#[must_use]
+pub struct RefusedMerge {
+    /// 4.
+    pub number: u32,
+    /// The left counters, as they were.
+    pub left: ArrayDecodeStats,
+}
+
+/// The refusal without the counters.
+impl From<RefusedMerge> for Refusal {
+    fn from(refused: RefusedMerge) -> Self {
+        Self::of(refused.number, [0; 3])
+    }
+}
+
+impl fmt::Display for RefusedMerge {
+    fn fmt(&self, f: &mut fmt::Formatter<'_>) -> fmt::Result {
+        Refusal::of(self.number, [0; 3]).fmt(f)
+    }
+}
+
+impl std::error::Error for RefusedMerge {}
+
+/// The counters of two walks added up, one by one. Refusal 4, with the left counters.
 ///
 /// ```
 /// # use vrf_proved::{exact, ArrayDecodeStats};
 /// let one = ArrayDecodeStats { errors: 1, ..Default::default() };
 /// assert_eq!(exact::merge(&one, &one)?.errors, 2);
 /// let full = ArrayDecodeStats { errors: u64::MAX, ..Default::default() };
-/// assert_eq!(exact::merge(&full, &one).unwrap_err().number, 4);
+/// let refused = exact::merge(&full, &one).unwrap_err();
+/// assert_eq!((refused.number, refused.left), (4, full));
 /// # Ok::<(), exact::Refusal>(())
 /// ```
 #[inline]
-pub fn merge(left: &ArrayDecodeStats, right: &ArrayDecodeStats) -> Result<ArrayDecodeStats, Refusal> {
+pub fn merge(left: &ArrayDecodeStats, right: &ArrayDecodeStats) -> Result<ArrayDecodeStats, RefusedMerge> {
     // SAFETY: numbers alone.
     let m = unsafe { raw::vrf_merge(left.into(), right.into()) };
+    let counters = m.counters.into();
     match m.refusal {
-        0 => Ok(m.counters.into()),
-        number => Err(Refusal::of(number, [0; 3])),
+        0 => Ok(counters),
+        number => Err(RefusedMerge { number, left: counters }),
     }
 }
 
@@ -324,6 +356,7 @@ pub fn verdict(counters: &ArrayDecodeStats) -> Verdict {
 
 /// What [`schema`] filled.
 #[derive(Debug, Clone, Copy, PartialEq, Eq)]
+#[must_use]
 pub struct Schema {
     /// Numbers of rows, from the buffer's front.
     pub rows: usize,
@@ -360,6 +393,7 @@ pub fn schema(rows: &mut [u32], names: &mut [u8]) -> Result<Schema, Refusal> {
 
 /// An accepted fast-array body: how much of each buffer is filled, its keys, and the bits it takes.
 #[derive(Debug, Clone, Copy, PartialEq, Eq)]
+#[must_use]
 pub struct FastArray {
     /// Deleted ids.
     pub deletes: usize,
@@ -464,6 +498,7 @@ impl From<Cursor> for raw::VrfCursor {
 
 /// What a read gave, and where the cursor stands after it, refused or not.
 #[derive(Debug, Clone, Copy, PartialEq)]
+#[must_use]
 pub struct Read<T> {
     /// The value, or why there is none.
     pub result: Result<T, Refusal>,
@@ -608,6 +643,7 @@ pub fn rotation(bytes: &[u8], cursor: Cursor, width: u32) -> Read<Angles> {
 
 /// A movement record. What is absent is `None`, never zero.
 #[derive(Debug, Clone, Copy, PartialEq)]
+#[must_use]
 pub struct Movement {
     /// Where.
     pub location: Xyz,

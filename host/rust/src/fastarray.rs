@@ -15,6 +15,7 @@ pub enum ChecksumMode {
 
 /// The body's four leading numbers.
 #[derive(Debug, Clone, PartialEq, Eq)]
+#[must_use]
 pub struct Header {
     /// The array's key.
     pub array_replication_key: i32,
@@ -28,6 +29,7 @@ pub struct Header {
 
 /// A field of a changed item: where its payload stands.
 #[derive(Debug, Clone, PartialEq, Eq)]
+#[must_use]
 pub struct RawField {
     /// The field's handle.
     pub handle: u32,
@@ -39,6 +41,7 @@ pub struct RawField {
 
 /// A changed item.
 #[derive(Debug, Clone, PartialEq, Eq)]
+#[must_use]
 pub struct ChangedItem {
     /// The item's id.
     pub replication_id: i32,
@@ -48,6 +51,7 @@ pub struct ChangedItem {
 
 /// A whole fast-array body.
 #[derive(Debug, Clone, PartialEq, Eq)]
+#[must_use]
 pub struct FastArrayDelta {
     /// The leading bit. A body without it is refused, so it is set.
     pub supports_delta_struct: bool,

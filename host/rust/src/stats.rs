@@ -5,6 +5,7 @@ use crate::raw;
 
 /// What walks counted. The first two say how much was done, the last five what is damaged or missing.
 #[derive(Debug, Clone, Default, PartialEq, Eq)]
+#[must_use]
 pub struct ArrayDecodeStats {
     /// Elements, of all levels.
     pub elements_decoded: u64,
@@ -44,7 +45,7 @@ impl ArrayDecodeStats {
         }
     }
 
-    /// The same, but a sum that would pass 2^64 - 1 is refused with 4 and `self` stays as it is.
+    /// The same, but a sum that would pass 2^64 - 1 is refused with 4 and `self`, which are the left counters that 4 names, stays as it is.
     ///
     /// ```
     /// use vrf_proved::ArrayDecodeStats;

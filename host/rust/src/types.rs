@@ -28,6 +28,7 @@ impl VectorQuantization {
     /// ```
     /// assert_eq!(vrf_proved::VectorQuantization::RoundTwoDecimals.scale(), 100);
     /// ```
+    #[must_use]
     pub const fn scale(self) -> u32 {
         match self {
             Self::RoundWholeNumber => 1,
@@ -39,6 +40,7 @@ impl VectorQuantization {
 
 /// A vector, written as `(1,-2.5,0)`.
 #[derive(Debug, Clone, Copy, PartialEq)]
+#[must_use]
 pub struct FVector {
     /// The first component.
     pub x: f64,
@@ -57,6 +59,7 @@ impl fmt::Display for FVector {
 
 /// A rotation in degrees, written as `rot(90,0,-1.40625)`.
 #[derive(Debug, Clone, Copy, PartialEq)]
+#[must_use]
 pub struct FRotator {
     /// Nose up.
     pub pitch: f32,
@@ -75,6 +78,7 @@ impl fmt::Display for FRotator {
 
 /// A movement record, written as a JSON object. What wasn't sent is `None`, written `null`, and never zero.
 #[derive(Debug, Clone, PartialEq)]
+#[must_use]
 pub struct FRepMovement {
     /// Where.
     pub location: FVector,

@@ -117,6 +117,6 @@ fn a_movement() {
 #[test]
 fn counters_are_added_to_those_handed_in() {
     let mut counted = stats([10, 20, 30, 40, 50, 60, 70]);
-    decode_struct_array(&A, 48, None, &[], &mut counted);
+    let _ = decode_struct_array(&A, 48, None, &[], &mut counted);
     assert_eq!(counted, stats([11, 21, 30, 40, 50, 60, 71]));
 }

@@ -117,7 +117,7 @@ fn a_sum_that_is_too_large_stays_not_clean() {
     let mut counted = stats([0, 0, 0, u64::MAX, 0, 0, 0]);
     counted.merge_from(&stats([1, 0, 0, 1, 0, 0, 0]));
     assert_eq!(counted, stats([1, 0, 0, u64::MAX, 0, 0, 0]));
-    decode_struct_array(&A, TOO_LONG, None, &[], &mut counted);
+    let _ = decode_struct_array(&A, TOO_LONG, None, &[], &mut counted);
     assert_eq!(counted.errors, u64::MAX);
 
     // each counter saturates for itself
