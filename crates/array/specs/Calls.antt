@@ -1,4 +1,5 @@
--- The contracts of the three public walks: the answer and the buffers of `outputs`, and the verdict of an accepted answer.
+-- The contracts of the three public walks: the answer and the buffers of `outputs`, and the verdict of an accepted answer; of a verdict
+-- and of a merge.
 use Prim.Native.Nat.{ℕ}
 use mathlib.Core.Path.{_≡_}
 use mathlib.Core.List.{List}
@@ -7,7 +8,9 @@ use Rattle.framing.specs.Counters.{Counters}
 use Rattle.framing.specs.Sinks as F
 use Rattle.framing.specs.Sinks.{Walk, struct, exact, object, verdictOf}
 use Rattle.outputs.specs.Answers.{Call, Lent, Answered, PairsAnswered}
-use Rattle.array.specs.Refusals.{countersOf, answerOf, pairsOf}
+use Rattle.array.specs.Merges.{merge}
+use Rattle.array.specs.Refusals.{countersOf, answerOf, pairsOf, sumsOf}
+use Rattle.array.specs.declared.Merged.{Merged}
 use Rattle.array.specs.declared.Verdict.{Verdict}
 use Rattle.array.specs.declared.Verdict.the-variants as verdict
 use Rattle.array.specs.declared.StructArray.{StructArray}
@@ -51,6 +54,12 @@ abbrev pub PairsJudged : (bits : ℕ) → ObjectArray → Type 0
 PairsJudged bits (objects.Decoded s v n) = verdictIs v ≡ verdictOf object bits (countersOf s)
 PairsJudged bits objects.TooLong = Unit
 PairsJudged bits (objects.Short n) = Unit
+
+-- ---- sums
+
+-- an answer that says what the sums of two walks' counters are
+abbrev pub Adds : (left right : Counters) → Merged → Type 0
+Adds left right r = sumsOf r ≡ merge left right
 
 -- ---- the contracts: what was lent, the answer, and what the buffers hold at the exit
 

@@ -3,9 +3,9 @@ ghost use mathlib.Core.Path.{_≡_};
 ghost use Prim.Native.Nat.{_+_};
 ghost use lib.Dec.{ltb};
 ghost use Rattle.framing.specs.Counters.{isClean, sums};
-ghost use Rattle.array.specs.Refusals.{countersOf, sumsOf};
-ghost use Rattle.array.specs.Merges.{counterLimit, bounded, merge};
-ghost use Rattle.array.specs.Calls.{Judges};
+ghost use Rattle.array.specs.Refusals.{countersOf};
+ghost use Rattle.array.specs.Merges.{counterLimit, bounded};
+ghost use Rattle.array.specs.Calls.{Judges, Adds};
 use crate::ArrayDecodeStats;
 use crate::Merged;
 use crate::Verdict;
@@ -73,7 +73,7 @@ fn sums_fit(left: ArrayDecodeStats, right: ArrayDecodeStats) -> bool
 
 // The counters of two walks, counter by counter.
 pub fn merge_from(left: ArrayDecodeStats, right: ArrayDecodeStats) -> Merged
-    ensures { λ r. ⌜ sumsOf r ≡ merge (countersOf left) (countersOf right) ⌝ }
+    ensures { λ r. ⌜ Adds (countersOf left) (countersOf right) r ⌝ }
 {
     if !sums_fit(left, right) {
         return Merged::Overflow(left);

@@ -5,9 +5,8 @@ use mathlib.Core.List.{List}
 use Rattle.schema.specs.Tables.{Tables}
 use Rattle.framing.specs.Counters.{isClean}
 use Rattle.outputs.specs.Answers.{Lent}
-use Rattle.array.specs.Calls.{structCall, exactCall, Judges, Decodes, DecodesPairs}
-use Rattle.array.specs.Merges.{merge}
-use Rattle.array.specs.Refusals.{countersOf, sumsOf}
+use Rattle.array.specs.Calls.{structCall, exactCall, Judges, Adds, Decodes, DecodesPairs}
+use Rattle.array.specs.Refusals.{countersOf}
 use Rattle.array.proofs.Promises as A
 use Rattle.array.proofs.Promises.{one-struct, one-object, one-merged}
 use Rattle.array.specs.declared.ArrayDecodeStats.{ArrayDecodeStats}
@@ -41,5 +40,5 @@ pub one-verdict : (stats : ArrayDecodeStats) → Determines (Judges (countersOf 
 one-verdict stats = A.one-verdict (countersOf stats)
 
 -- `merge_from` has one answer.
-pub one-merge-from : (left right : ArrayDecodeStats) → Determines (λ r. sumsOf r ≡ merge (countersOf left) (countersOf right))
+pub one-merge-from : (left right : ArrayDecodeStats) → Determines (Adds (countersOf left) (countersOf right))
 one-merge-from left right = one-merged (countersOf left) (countersOf right)

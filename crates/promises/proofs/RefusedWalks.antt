@@ -19,7 +19,7 @@ use Rattle.framing.specs.Records.{pairWords}
 use Rattle.framing.specs.Refusing.{Room, noRoom, needed, within, Answer, refused, accepted, decided}
 use Rattle.outputs.specs.Answers.{Call, Lent, laid, traceOf, roomOf, answer, pairTrace, pairAnswer}
 use Rattle.outputs.proofs.Gives.{no-overs}
-use Rattle.array.specs.Calls.{structCall, exactCall, Decodes, DecodesPairs}
+use Rattle.array.specs.Calls.{structCall, exactCall, Adds, Decodes, DecodesPairs}
 use Rattle.array.specs.Merges.{bounded, merge}
 use Rattle.array.specs.Refusals.{countersOf, answerOf, pairsOf, sumsOf}
 use Rattle.array.specs.declared.ArrayDecodeStats.{ArrayDecodeStats}
@@ -93,7 +93,7 @@ unfolding merge firstOf
 merge-order a b = by-cases (bounded (sums a b)) (λ e. simp e) (λ e. simp e)
 
 -- A merge gives 4 with the left counters.
-pub refused-merge-from : (left right : ArrayDecodeStats) (r : Merged) → sumsOf r ≡ merge (countersOf left) (countersOf right)
+pub refused-merge-from : (left right : ArrayDecodeStats) (r : Merged) → Adds (countersOf left) (countersOf right) r
     → ofSums (sumsOf r) ≡ firstOf (mergeRules (countersOf left) (countersOf right))
 refused-merge-from left right r f = ap ofSums f ∙ merge-order (countersOf left) (countersOf right)
 

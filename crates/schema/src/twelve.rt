@@ -8,7 +8,7 @@ use crate::Filled;
 use crate::table::NAMES;
 use crate::table::ROWS;
 
-// The levels, by number.
+// The levels that the code names, by number. The table has five more, 7 to 11, which the header for C names.
 pub const LEAVES: u32 = 0;
 
 pub const COMBAT_ROUNDS: u32 = 1;
@@ -22,16 +22,6 @@ pub const LIFE_CHANGE_DAMAGE: u32 = 4;
 pub const LIFE_CHANGE_SECTION: u32 = 5;
 
 pub const LIFE_CHANGE_BY_SECTION: u32 = 6;
-
-pub const DEALT_INTERACTION: u32 = 7;
-
-pub const RECEIVED_INTERACTION: u32 = 8;
-
-pub const PARTICIPANT: u32 = 9;
-
-pub const CHARACTER_REPORT: u32 = 10;
-
-pub const AFFECTED_TARGET: u32 = 11;
 
 pub const LEVELS: u32 = 12;
 

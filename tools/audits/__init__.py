@@ -1,0 +1,1 @@
+"""What tools/audit looks at, a file a subject."""

@@ -1,0 +1,41 @@
+"""Which theorems a call owes crate promises, and what of a call they speak of: its window, its cursor, its number of bits."""
+import re
+
+CURSORS = {"Cursor", "VrfCursor"}
+COUNTS = {"bits", "count"}
+# bytes that are no window: pools of names
+POOLS = {"names", "pool", "declared_names", "declared_pool", "schema_pool"}
+
+# calls that answer everything: they have no refusal to order
+NEVER_REFUSE = {"bitio::new", "array::stats::is_clean", "array::stats::verdict", "exports::vrf_verdict", "schema::twelve::public_levels"}
+NEVER_REFUSING = ("schema::decimal::", "schema::labels::", "schema::lookup::", "schema::spans::")
+# walks: a cut window is the front of the whole one
+CUT = {"array::decode_struct_array", "array::decode_struct_array_exact", "array::decode_object_ref_array"}
+
+
+def refuses(call):
+    return call.name not in NEVER_REFUSE and not call.name.startswith(NEVER_REFUSING)
+
+
+def window_of(call):
+    """The bytes that a call reads bits of."""
+    return next((p.name for p in call.parameters if re.fullmatch(r"&(?:'\w+ )?\[u8\]", p.type) and p.name not in POOLS), None)
+
+
+def cursor_of(call):
+    return next((p.name for p in call.parameters if p.type in CURSORS), None)
+
+
+def owes_longer(call):
+    return call.name.startswith("bitio::") and cursor_of(call) is not None
+
+
+# each kind of theorem, and which calls owe one; shapes.py has what it is held to, under the same name
+KINDS = {
+    "one": lambda call: True,
+    "refused": refuses,
+    "kept": lambda call: any(p.lent for p in call.parameters),
+    "outside": lambda call: window_of(call) is not None,
+    "longer": owes_longer,
+    "prefix": lambda call: call.name in CUT,
+}

@@ -1,0 +1,89 @@
+"""The words that the promises are stated with, as they have to stand: an emptied one would empty every theorem that uses it."""
+
+STATED = {
+    ("promises", "specs/Determining"): """
+        abbrev pub Determines : {A : Type 0} → (contract : A → Type 0) → Type 0
+        Determines {A} contract = (r s : A) → contract r → contract s → r ≡ s
+
+        abbrev pub DeterminesAll : {A B : Type 0} → (contract : A → B → Type 0) → Type 0
+        DeterminesAll {A} {B} contract = (r s : A) (x y : B) → contract r x → contract s y → (r ≡ s) × (x ≡ y)
+        """,
+    ("promises", "specs/Outside"): """
+        abbrev pub SameBits : (s t : List ℕ) (start len : ℕ) → Type 0
+        SameBits s t start len = (k : ℕ) → k < len → field (num s) (start + k) 1 ≡ field (num t) (start + k) 1
+
+        pub record Agree (s t : List ℕ) (start len : ℕ) : Type 0 where
+          pub as-many : length s ≡ length t
+          pub same-bits : SameBits s t start len
+
+        pub record Hold (s t : List ℕ) (len : ℕ) : Type 0 where
+          pub first : len ≤ 8 * length s
+          pub second : len ≤ 8 * length t
+          pub same-bits : SameBits s t 0 len
+
+        pub record Inside (s t : List ℕ) (c : Cursor) : Type 0 where
+          pub first : good s c ≡ true
+          pub second : good t c ≡ true
+          pub same-bits : SameBits s t (c .start) (c .len)
+        """,
+    ("promises", "specs/Prefix"): """
+        pub record FirstBits (longer shorter : List ℕ) (n m : ℕ) : Type 0 where
+          pub fewer : m ≤ n
+          pub inside-long : n ≤ 8 * length longer
+          pub inside-short : m ≤ 8 * length shorter
+          pub same-bits : SameBits shorter longer 0 m
+
+        pub data BeforeTail (all : Room) (records : List ℕ) : (shared : Room) → Type 0 where
+          no-tail : BeforeTail all records all
+          tail-off : {n : Room} → suc (n .leaves) ≡ all .leaves → getD records (leafWords * n .leaves + 2) 0 ≡ rawHandle
+              → getD records (leafWords * n .leaves + 0) 0 ≡ n .pathBytes → getD records (leafWords * n .leaves + 4) 0 ≡ n .payloadBytes
+              → BeforeTail all records n
+
+        abbrev pub NotClean : Walk → (bytes : List ℕ) (n m : ℕ) → (long short : Verdict) → Type 0
+        NotClean k bytes n m long short = long ≡ Clean → m < n → short ≡ Clean → Excused k (windowOf bytes n) m
+
+        pub record Begins (short long : Call) (v w : Verdict) (e f : Room) (x y : Lent) : Type 0 where
+          pub shared : Room
+          pub before-tail : BeforeTail e (x .leaves) shared
+          pub filled-too : within shared f ≡ true
+          pub records : take (leafWords * shared .leaves) (x .leaves) ≡ take (leafWords * shared .leaves) (y .leaves)
+          pub paths : take (shared .pathBytes) (x .paths) ≡ take (shared .pathBytes) (y .paths)
+          pub payloads : take (shared .payloadBytes) (x .payloads) ≡ take (shared .payloadBytes) (y .payloads)
+          pub not-clean : NotClean (long .how) (long .bytes) (long .bits) (short .bits) w v
+
+        pub record PairsBegin (longer : List ℕ) (n m : ℕ) (v w : Verdict) (e f : ℕ) (x y : List ℕ) : Type 0 where
+          pub filled-too : e ≤ f
+          pub pairs : take (pairWords * e) x ≡ take (pairWords * e) y
+          pub not-clean : NotClean object longer n m w v
+        """,
+    ("framing", "specs/Demand"): """
+        pub data Excused (k : Walk) (w : Window) (m : ℕ) : Type 0 where
+          nothing-sent : silent k m ≡ true → Excused k w m
+          lacks-trailer : (sinkOf k) .trailer ≡ true → m + trailerBits ≡ w .size → field (w .bits) m trailerBits ≡ 0 → Excused k w m
+        """,
+    ("promises", "specs/ExportOrders"): """
+        abbrev pub numberedRules : {R : Type 0} → (R → Numbered) → List (Rule R) → List (Rule Numbered)
+        numberedRules f rules = map (λ r. when (r .holds) (f (r .gives))) rules
+        """,
+    ("bits", "specs/Refusals"): """
+        pub record Rule (A : Type 0) : Type 0 where
+          pub holds : Bool
+          pub gives : A
+
+        abbrev pub when : {A : Type 0} → Bool → A → Rule A
+        when t r = record { holds = t; gives = r }
+
+        unfoldable pub firstOf : {A : Type 0} → List (Rule A) → Option A
+        firstOf [] = none
+        firstOf (r ∷ rs) = if r .holds then some (r .gives) else firstOf rs
+        """,
+}
+
+
+def statements_stand(definitions, report):
+    for (crate, file), text in STATED.items():
+        for block in text.strip().split("\n\n"):
+            words = block.split()
+            name = next(w for w in words if w not in ("abbrev", "pub", "unfoldable", "record", "data"))
+            declaration = definitions.declaration((crate, file, name))
+            report.hold(declaration and declaration.text.split() == words, f"{crate}/{file}.{name} doesn't stand as the promises are read with")
