@@ -2,4 +2,5 @@ pub mod CursorLaws
 pub mod NumberLaws
 pub mod ReadLaws
 pub mod CopyLaws
-pub mod Promises
+pub mod RefusalOrder
+pub mod Outside

@@ -6,6 +6,7 @@ use lib.ListN.{length}
 use lib.Dec.{leb, ltb, eqb}
 use Rattle.bits.specs.Choice.{if_then_else_}
 use Rattle.bits.specs.Bits.{num, field}
+use Rattle.bits.specs.Sizes.{longestWindow}
 use Rattle.bitio.specs.declared.Cursor.{Cursor}
 use Rattle.bitio.specs.declared.Refusal.{Refusal}
 use Rattle.bitio.specs.declared.Refusal.the-variants.{TooLong, TooFew, Past}
@@ -43,10 +44,6 @@ atCursor s c refused inside = if good s c then inside (window s c) else refused 
 -- Where n bits are asked at bit pos of len: 7 if there are fewer; else `enough`. Positions count from the window's first bit.
 unfoldable pub asking : {A : Type 0} → (len pos n : ℕ) → (refused : Refusal → A) → (enough : A) → A
 asking len pos n refused enough = if ltb len (pos + n) then refused (TooFew pos len n) else enough
-
--- the longest window that is opened by its bit count, or walked (01, Sizes)
-abbrev pub longestWindow : ℕ
-longestWindow = 524288
 
 -- `open`, a reader of the first n bits: 1 if that is too long, then 14 if the bytes hold fewer
 unfoldable pub opened : List ℕ → (n : ℕ) → Opened

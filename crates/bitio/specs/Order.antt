@@ -6,7 +6,8 @@ use lib.ListN.{length}
 use lib.Dec.{ltb}
 use Rattle.bits.specs.Refusals.{Rule, when}
 use Rattle.bits.specs.Runs.{bytesFor}
-use Rattle.bitio.specs.Cursors.{bitsOf, good, badCursor, longestWindow}
+use Rattle.bits.specs.Sizes.{longestWindow}
+use Rattle.bitio.specs.Cursors.{bitsOf, good, badCursor}
 use Rattle.bitio.specs.Reads.{widestRead}
 use Rattle.bitio.specs.declared.Cursor.{Cursor}
 use Rattle.bitio.specs.declared.Refusal.{Refusal}

@@ -5,6 +5,7 @@ use Rattle.bits.specs.Packed.{mostBytes}
 use Rattle.bits.specs.Refusals.{Numbered, refusal}
 use Rattle.bitio.specs.declared.Refusal.{Refusal}
 use Rattle.bitio.specs.declared.Refusal.the-variants.{TooLong, TooFew, GoesOn, Overflows, NoMaximum, TooMany, Past}
+use Rattle.bitio.specs.declared.said.Saying.{Saying}
 
 abbrev pub numbered : Refusal → Numbered
 numbered TooLong = refusal 1 0 0 0
@@ -14,6 +15,10 @@ numbered (Overflows number) = refusal 9 number 0 0
 numbered NoMaximum = refusal 10 0 0 0
 numbered TooMany = refusal 13 0 0 0
 numbered (Past asked available) = refusal 14 asked available 0
+
+-- the number and the values as the code's record of them
+abbrev pub sayingOf : Numbered → Saying
+sayingOf n = record { number = n .number; first = n .first; second = n .second; third = n .third }
 
 -- The cursor, which stood at `at`: after 7 it stands where the part that lacks bits begins, after 8 and 9 behind the number's five bytes, after
 -- the others where it stood. (A reader that is not opened has none.)

@@ -3,6 +3,8 @@
 // A byte holds eight bits of a window, its lowest first, from the window's start on; a number's lowest bit is read
 // first. Every call takes any bytes, any cursor and any count, and answers with a value or with one of
 // document 01's refusals. A cursor goes in by value; an answer carries the next position.
+pub mod said;
+
 ghost use mathlib.Core.Path.{_≡_};
 ghost use Prim.Native.Nat.{_+_, _-_, _*_, _≤_, _<_};
 ghost use Rattle.bitio.specs.Cursors.{bitsOf, good, badCursor, opened, wholeOf, positionOf, lengthOf, remainingOf, endOf, skipped, skippedAll, subReader};
@@ -10,6 +12,7 @@ ghost use Rattle.bitio.specs.Reads.{taken, readBit, readBits, readU8, re
 ghost use Rattle.bitio.specs.Numbers.{log2, readIntPacked, readSerializedInt};
 ghost use Rattle.bitio.specs.Copies.{copyAnswer, copyTarget};
 use bits::Packed;
+use bits::sizes::LONGEST_WINDOW;
 
 // ---- a cursor, and what the calls answer
 
@@ -159,7 +162,7 @@ fn bad_cursor(bytes: &[u8], c: Cursor) -> Refusal
 pub fn open(bytes: &[u8], count: u64) -> Opened
     ensures { λ r. ⌜ r ≡ opened (now (bytes .entry)) count ⌝ }
 {
-    if 524288 < count {
+    if (LONGEST_WINDOW as u64) < count {
         return Opened::Refused(Refusal::TooLong);
     }
     let all = bits_of(bytes);

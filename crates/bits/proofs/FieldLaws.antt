@@ -5,7 +5,7 @@ use mathlib.Core.List.{List, [], _∷_}
 use native.Mathlib.Nat.{mod-lt, zero-div, zero-mod, div-add-mod, mod-one, add-zero, mul-comm, add-comm, div-one, add-mul-div-left, add-mul-mod-self-left, div-eq-of-lt, mod-eq-of-lt, sub-add-cancel, zero-add, lt-of-lt-of-le}
 use native.Mathlib.Numerals.{add-one}
 use native.Mathlib.Omega.{arith}
-use lib.ListN.{length, getD, take, drop, List·getD-eq-default}
+use lib.ListN.{length, getD, take, drop}
 use lib.Dec.{lit<}
 use lib.Seq.{getD-drop}
 use lib.Pow.{pow-pos, pow-mono, pow-add, shr-shr, shr-lt, mod-pow-add, mod-mod-pow}
@@ -118,7 +118,7 @@ field-byte s i h =
 pub bytes-drop : (a : ℕ) (s : List ℕ) → Bytes s → Bytes (drop a s)
 bytes-drop a s h j = subst (λ (x : ℕ). x < 2 ^ 8) (sym (getD-drop a s j 0)) (h (a + j))
 
--- bit k of the bytes is bit k mod 8 of byte k div 8
+-- the bytes' bit k stands in byte k / 8, at place k % 8
 pub field-bit : (s : List ℕ) (k : ℕ) → Bytes s → field (num s) k 1 ≡ getD s (k / 8) 0 / 2 ^ (k % 8) % 2
 unfolding field
 field-bit s k h =
@@ -181,10 +181,6 @@ pub joined : (N i k a b x y : ℕ) → a ≡ 8 * k → x ≡ field N (8 * i) a �
 joined N i k a b x y e ex ey =
     let e₂ : 8 * (i + k) ≡ 8 * i + a = omega arith in
     ap₂ (λ (u v : ℕ). u + 2 ^ a * v) ex (ey ∙ ap (λ (p : ℕ). field N p b) e₂) ∙ sym (field-split N (8 * i) a b)
-
--- past the end there are zeros
-pub field-past : (s : List ℕ) (i : ℕ) → Bytes s → length s ≤ i → field (num s) (8 * i) 8 ≡ 0
-field-past s i h l = field-byte s i h ∙ List·getD-eq-default s 0 l
 
 -- a field cut out of a field, as the code computes it
 pub inside : (N o w p n q x : ℕ) → o + p ≡ q → p + n ≤ w → x ≡ field N o w → x / 2 ^ p % 2 ^ n ≡ field N q n

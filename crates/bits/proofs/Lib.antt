@@ -1,6 +1,7 @@
 pub mod FieldLaws
 pub mod WordLaws
 pub mod RunLaws
+pub mod DecimalLaws
 pub mod PackedLaws
 pub mod PackedWindows
 pub mod TwosLaws

@@ -10,7 +10,7 @@ use native.Mathlib.Nat.{zero-add, add-zero, suc-add, add-assoc, div-one}
 use lib.ListN.{length, take, drop, set, replicate, length-append, length-replicate, take-append-drop}
 use native.Mathlib.Numerals.{add-one, add-two, add-three, add-four, add-five, add-six, add-seven}
 use lib.Seq.{take-at, drop-drop, drop-append-add, sets, sets-eq, length-sets, length-take-le}
-use lib.Pow.{shr-shr, mod-mod-pow, field}
+use lib.Pow.{shr-shr, mod-mod-pow}
 use lib.Pow as P
 use Rattle.bits.specs.Bits as B
 use Rattle.bits.proofs.FieldLaws.{eight-suc, field-field, field-high}
@@ -137,9 +137,6 @@ word-bytes F o w e = ap (bytesOf 8) e ∙ bytesOf-mod 8 (F / 2 ^ (8 * o))
 pub put-no-bytes : (d : List ℕ) (i N : ℕ) → d ≡ put d i (bytesOf 0 N)
 unfolding bytesOf
 put-no-bytes d i N = sym (put-none d i)
-
-pub length-put-bytes : (d : List ℕ) (i k N : ℕ) → i + k ≤ length d → length (put d i (bytesOf k N)) ≡ length d
-length-put-bytes d i k N h = length-put d (bytesOf k N) i (subst (λ (j : ℕ). i + j ≤ length d) (sym (length-bytesOf k N)) h)
 
 -- eight stores of one byte each are a word
 pub put-word : (d : List ℕ) (i w : ℕ) → i + 8 ≤ length d

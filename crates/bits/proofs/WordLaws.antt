@@ -1,12 +1,12 @@
 -- Laws of words of 64 bits: masks, and fields cut out of loaded words.
-use Prim.Native.Nat.{ℕ, zero, suc, _+_, _-_, _*_, _/_, _%_, _^_, _≤_, _<_}
-use mathlib.Core.Path.{_≡_, refl, sym, ap, ap₂, _∙_, subst}
+use Prim.Native.Nat.{ℕ, _+_, _-_, _*_, _/_, _%_, _^_, _≤_, _<_}
+use mathlib.Core.Path.{_≡_, sym, ap, ap₂, _∙_}
 use native.Mathlib.Nat.{mul-mod-left, mul-comm, add-comm, add-zero}
 use native.Mathlib.Omega.{arith}
 use lib.Bits.{bitAnd, bitOr, and-mask, or-shifted-r}
-use lib.Pow.{pow-pos, ones-lt, ones-split, high, shl-shr, shr-shr, mod-pow-add}
-use Rattle.bits.specs.Bits.{num, field}
-use Rattle.bits.proofs.FieldLaws.{field-lt, field-low, field-high, field-split, field-rest, bound}
+use lib.Pow.{ones-lt, ones-split, high, shl-shr, shr-shr, mod-pow-add}
+use Rattle.bits.specs.Bits.{field}
+use Rattle.bits.proofs.FieldLaws.{field-lt, field-low, field-high, field-split, field-rest}
 
 -- all ones, shifted down to count bits
 ones-shr : (count : ℕ) → count ≤ 64 → (2 ^ 64 - 1) / 2 ^ (64 - count) ≡ 2 ^ count - 1

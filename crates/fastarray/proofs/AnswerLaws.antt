@@ -11,8 +11,8 @@ use lib.IntN.{ℤ}
 use borrow.Author.Tests.{le-leb, lt-leb, lt-ltb, le-ltb, eq-eqb, ne-eqb, leb-true}
 use Rattle.bits.proofs.ChoiceLaws.{and-true}
 use Rattle.bits.specs.Choice.{if_then_else_}
-use Rattle.bits.specs.Runs.{bytesFor}
-use Rattle.bits.specs.Runs.{filled}
+use Rattle.bits.specs.Runs.{bytesFor, filled}
+use Rattle.bits.specs.Sizes.{longestWindow}
 use Rattle.bits.proofs.Never.{never}
 use Rattle.fastarray.specs.Body.{window, flagBits, deletes, changes, deletedFrom, itemsFrom, Items, Body, bodyOf, fieldsOf}
 use Rattle.fastarray.specs.Records.{deletedRecord, itemRecord, fieldRecord, records, storeAll}
@@ -23,7 +23,7 @@ use Rattle.fastarray.proofs.HeaderLaws.{bodyWith, measured-as}
 use Rattle.fastarray.specs.declared.ChecksumMode.{ChecksumMode}
 use Rattle.fastarray.specs.declared.ChecksumMode.the-variants.{Absent, Present}
 use Rattle.fastarray.specs.declared.Delta.{Delta}
-use Rattle.fastarray.specs.declared.Measured.the-variants as M
+use Rattle.fastarray.specs.declared.BodyMeasure.the-variants as M
 use Rattle.fastarray.specs.declared.FastArray.{FastArray}
 use Rattle.fastarray.specs.declared.FastArray.the-variants.{Decoded, TooLong, NotFastArray, Short}
 
@@ -92,11 +92,11 @@ module _ (c : Call) (l : Lent) where
         fields = sym (rw (← e) (kept k _ _));
       }
 
-  pub answer-long : 524288 < c .bits → Answered c l TooLong l
+  pub answer-long : longestWindow < c .bits → Answered c l TooLong l
   unfolding answer
   answer-long h = refused TooLong too-long (simp (lt-ltb _ _ h))
 
-  module _ (b : c .bits ≤ 524288) where
+  module _ (b : c .bits ≤ longestWindow) where
     short-enough : answer c l ≡ decided (found c) l
     unfolding answer
     short-enough = simp (le-ltb _ _ b)
@@ -178,3 +178,11 @@ module _ (c : Call) (l : Lent) where
               items = i-is ∙ ap₂ (λ (r : FastArray) (o : Option Body). atExit r (records itemRecord (itemsIn o)) (l .items)) says (sym f);
               fields = f-is ∙ ap₂ (λ (r : FastArray) (o : Option Body). atExit r (records fieldRecord (fieldsOf (itemsIn o))) (l .fields)) says (sym f);
             }
+
+-- Two answers that meet the contract are the same, with the same buffers.
+pub one-answer : (c : Call) (l : Lent) (r r′ : FastArray) (e e′ : Lent) → Answered c l r e → Answered c l r′ e′ → (r ≡ r′) × (e ≡ e′)
+one-answer c l r r′ e e′ a b =
+    let p : e .deleted ≡ e′ .deleted = a .deleted ∙ sym (b .deleted) in
+    let q : e .items ≡ e′ .items = a .items ∙ sym (b .items) in
+    let s : e .fields ≡ e′ .fields = a .fields ∙ sym (b .fields) in
+    (a .says ∙ sym (b .says), λ i. record { deleted = p i; items = q i; fields = s i })

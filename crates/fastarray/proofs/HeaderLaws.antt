@@ -17,7 +17,7 @@ use Rattle.fastarray.specs.Parts.{itemsReadOf, deltaOf, measuredOf}
 use Rattle.fastarray.proofs.ItemLaws.{ItemsLying, items-lie, deleted-length}
 use Rattle.fastarray.specs.declared.Delta.{Delta}
 use Rattle.fastarray.specs.declared.ItemsRead.the-variants as I
-use Rattle.fastarray.specs.declared.Measured.the-variants as M
+use Rattle.fastarray.specs.declared.BodyMeasure.the-variants as M
 
 -- the product with the flag, bounded by one without it
 pub least-bound : (flag c : ℕ) → flag ≤ 1 → (40 + flag) * c ≤ 41 * c

@@ -4,5 +4,7 @@ pub mod FieldLaws
 pub mod ItemLaws
 pub mod HeaderLaws
 pub mod AnswerLaws
-pub mod Promises
+pub mod RefusalOrder
+pub mod Outside
+pub mod BodyLaws
 pub mod Example

@@ -9,7 +9,7 @@ use lib.Dec.{leb, ltb, eqb}
 use lib.IntN.{ℤ}
 use Rattle.bits.specs.Choice.{if_then_else_}
 use Rattle.bits.specs.Runs.{bytesFor, filled}
-use Rattle.bitio.specs.Cursors.{longestWindow}
+use Rattle.bits.specs.Sizes.{longestWindow}
 use Rattle.fastarray.specs.Body.{window, flagBits, Item, Body, bodyOf, fieldsOf}
 use Rattle.fastarray.specs.Records.{itemWords, itemRecord, fieldWords, fieldRecord, records}
 use Rattle.fastarray.specs.Parts.{deltaOf}

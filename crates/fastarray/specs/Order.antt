@@ -4,8 +4,8 @@ use mathlib.Core.List.{List, [], _∷_}
 use mathlib.Core.Option.{Option, none, some}
 use lib.ListN.{length}
 use lib.Dec.{ltb}
-use Rattle.bitio.specs.Cursors.{longestWindow}
 use Rattle.bits.specs.Refusals.{Numbered, refusal, Rule, when}
+use Rattle.bits.specs.Sizes.{longestWindow}
 use Rattle.fastarray.specs.Body.{Body, fieldsOf}
 use Rattle.fastarray.specs.Answers.{Call, Lent, found, fitsIn}
 

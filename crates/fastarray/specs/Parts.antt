@@ -16,8 +16,8 @@ use Rattle.fastarray.specs.declared.FieldsRead.{FieldsRead}
 use Rattle.fastarray.specs.declared.FieldsRead.the-variants as F
 use Rattle.fastarray.specs.declared.ItemsRead.{ItemsRead}
 use Rattle.fastarray.specs.declared.ItemsRead.the-variants as I
-use Rattle.fastarray.specs.declared.Measured.{Measured}
-use Rattle.fastarray.specs.declared.Measured.the-variants as M
+use Rattle.fastarray.specs.declared.BodyMeasure.{BodyMeasure}
+use Rattle.fastarray.specs.declared.BodyMeasure.the-variants as M
 
 unfoldable pub takenOf : Option Number → Taken
 takenOf none = T.Broken
@@ -48,7 +48,7 @@ deltaOf b =
       used = b .used;
     }
 
-unfoldable pub measuredOf : Option Body → Measured
+unfoldable pub measuredOf : Option Body → BodyMeasure
 measuredOf none = M.NotFastArray
 measuredOf (some b) = M.Body (deltaOf b)
 

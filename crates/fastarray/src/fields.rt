@@ -1,7 +1,8 @@
 // The fields of an item.
 ghost use mathlib.Core.Path.{_≡_};
-ghost use Prim.Native.Nat.{_+_, _*_, _≤_};
+ghost use Prim.Native.Nat.{_*_, _≤_};
 ghost use lib.ListN.{length};
+ghost use Rattle.bits.specs.Sizes.{longestWindow};
 ghost use Rattle.fastarray.specs.Body.{window, leadAt, fieldsAt};
 ghost use Rattle.fastarray.specs.Parts.{headOf, fieldsReadOf, FieldsStored};
 use crate::FieldHead;
@@ -12,7 +13,7 @@ use crate::store::store_field;
 
 // What stands where a handle number is due.
 pub fn field_head(s: &[u8], at: u64, end: u64) -> FieldHead
-    requires { ⌜ (at ≤ end) × (end ≤ 8 * length (now s)) × (end ≤ 524288) ⌝ }
+    requires { ⌜ (at ≤ end) × (end ≤ 8 * length (now s)) × (end ≤ longestWindow) ⌝ }
     ensures { λ r. ⌜ r ≡ headOf (leadAt (window (now (s .entry)) end) end at) ⌝ }
 {
     let first = number_of(s, at, end);
@@ -41,9 +42,10 @@ pub fn field_head(s: &[u8], at: u64, end: u64) -> FieldHead
 
 // The fields from bit at on, stored behind the slot fields before them.
 pub fn read_fields(s: &[u8], at: u64, end: u64, fields: &mut [u32], slot: u64) -> FieldsRead
-    requires { ⌜ (at ≤ end) × (end ≤ 8 * length (now s)) × (end ≤ 524288) × (slot ≤ at) ⌝ }
+    requires { ⌜ (at ≤ end) × (end ≤ 8 * length (now s)) × (end ≤ longestWindow) × (slot ≤ at) ⌝ }
     ensures says { λ r. ⌜ r ≡ fieldsReadOf slot (fieldsAt (window (now (s .entry)) end) end at) ⌝ }
-    ensures stored { λ _. ⌜ FieldsStored (fieldsAt (window (now (s .entry)) end) end at) (now (fields .entry)) slot (now (fields .exit)) ⌝ }
+    ensures stored { λ _. ⌜ FieldsStored (fieldsAt (window (now (s .entry)) end) end at)
+        (now (fields .entry)) slot (now (fields .exit)) ⌝ }
 {
     let mut pos = at;
     let mut n = slot;

@@ -1,13 +1,14 @@
 // The header, and what the whole body needs.
 ghost use mathlib.Core.Path.{_≡_};
-ghost use Prim.Native.Nat.{_+_, _*_, _≤_};
+ghost use Prim.Native.Nat.{_*_, _≤_};
 ghost use lib.ListN.{length};
+ghost use Rattle.bits.specs.Sizes.{longestWindow};
 ghost use Rattle.fastarray.specs.Body.{window, headed, bodyOf};
 ghost use Rattle.fastarray.specs.Parts.{measuredOf};
+use crate::BodyMeasure;
 use crate::Delta;
 use crate::HEADER_BITS;
 use crate::ItemsRead;
-use crate::Measured;
 use crate::items::read_items;
 use crate::read::first_bit;
 use crate::read::signed_of;
@@ -24,7 +25,7 @@ const CHANGES_BIT: u64 = 97;
 
 // What the header asks: the support bit, counts that are not negative, and bits enough for what they announce.
 pub fn is_headed(s: &[u8], end: u64, flag: u64) -> bool
-    requires { ⌜ (end ≤ 8 * length (now s)) × (end ≤ 524288) × (flag ≤ 1) ⌝ }
+    requires { ⌜ (end ≤ 8 * length (now s)) × (end ≤ longestWindow) × (flag ≤ 1) ⌝ }
     ensures { λ r. ⌜ r ≡ headed flag (window (now (s .entry)) end) end ⌝ }
 {
     if end < HEADER_BITS {
@@ -47,12 +48,12 @@ pub fn is_headed(s: &[u8], end: u64, flag: u64) -> bool
 }
 
 // The items are read, lent less than a record, for how many fields they have and where they end.
-pub fn measure(s: &[u8], end: u64, flag: u64) -> Measured
-    requires { ⌜ (end ≤ 8 * length (now s)) × (end ≤ 524288) × (flag ≤ 1) ⌝ }
+pub fn measure(s: &[u8], end: u64, flag: u64) -> BodyMeasure
+    requires { ⌜ (end ≤ 8 * length (now s)) × (end ≤ longestWindow) × (flag ≤ 1) ⌝ }
     ensures { λ r. ⌜ r ≡ measuredOf (bodyOf flag (window (now (s .entry)) end) end) ⌝ }
 {
     if !is_headed(s, end, flag) {
-        return Measured::NotFastArray;
+        return BodyMeasure::NotFastArray;
     }
     let key = signed_of(s, KEY_BIT, end);
     let base = signed_of(s, BASE_BIT, end);
@@ -64,14 +65,14 @@ pub fn measure(s: &[u8], end: u64, flag: u64) -> Measured
     let wanted = changes as u64;
     let read = read_items(s, at, end, wanted, flag, &mut no_items, &mut no_fields);
     match read {
-        ItemsRead::Broken => Measured::NotFastArray,
+        ItemsRead::Broken => BodyMeasure::NotFastArray,
         ItemsRead::Read(count, next) => {
             if next != end {
-                return Measured::NotFastArray;
+                return BodyMeasure::NotFastArray;
             }
             let fields = count as u32;
             let used = next as u32;
-            Measured::Body(Delta {
+            BodyMeasure::Body(Delta {
                 key,
                 base,
                 deletes,

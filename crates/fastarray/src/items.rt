@@ -2,6 +2,7 @@
 ghost use mathlib.Core.Path.{_≡_};
 ghost use Prim.Native.Nat.{_+_, _*_, _≤_};
 ghost use lib.ListN.{length};
+ghost use Rattle.bits.specs.Sizes.{longestWindow};
 ghost use Rattle.fastarray.specs.Body.{window, deletedFrom, itemsFrom};
 ghost use Rattle.fastarray.specs.Records.{deletedRecord, storeAll};
 ghost use Rattle.fastarray.specs.Parts.{itemsReadOf, ItemsStored};
@@ -15,8 +16,9 @@ use crate::store::store_item;
 
 // count deleted ids from bit at on.
 pub fn read_deleted(s: &[u8], at: u64, end: u64, count: u64, deleted: &mut [i32])
-    requires { ⌜ (at + 32 * count ≤ end) × (end ≤ 8 * length (now s)) × (end ≤ 524288) ⌝ }
-    ensures { λ _. ⌜ now (deleted .exit) ≡ storeAll deletedRecord (now (deleted .entry)) 0 (deletedFrom count (window (now (s .entry)) end) at) ⌝ }
+    requires { ⌜ (at + 32 * count ≤ end) × (end ≤ 8 * length (now s)) × (end ≤ longestWindow) ⌝ }
+    ensures { λ _. ⌜ now (deleted .exit) ≡ storeAll deletedRecord (now (deleted .entry)) 0
+        (deletedFrom count (window (now (s .entry)) end) at) ⌝ }
 {
     let mut done: u64 = 0;
     while done < count {
@@ -37,9 +39,10 @@ pub fn read_items(
     items: &mut [u32],
     fields: &mut [u32],
 ) -> ItemsRead
-    requires { ⌜ (at ≤ end) × (end ≤ 8 * length (now s)) × (end ≤ 524288) × (count ≤ 524288) × (flag ≤ 1) ⌝ }
+    requires { ⌜ (at ≤ end) × (end ≤ 8 * length (now s)) × (end ≤ longestWindow) × (count ≤ longestWindow) × (flag ≤ 1) ⌝ }
     ensures says { λ r. ⌜ r ≡ itemsReadOf 0 (itemsFrom count flag (window (now (s .entry)) end) end at) ⌝ }
-    ensures stored { λ _. ⌜ ItemsStored (itemsFrom count flag (window (now (s .entry)) end) end at) 0 0 (now (items .entry)) (now (fields .entry)) (now (items .exit)) (now (fields .exit)) ⌝ }
+    ensures stored { λ _. ⌜ ItemsStored (itemsFrom count flag (window (now (s .entry)) end) end at) 0 0
+        (now (items .entry)) (now (fields .entry)) (now (items .exit)) (now (fields .exit)) ⌝ }
 {
     let lead = 32 + flag;
     let mut pos = at;

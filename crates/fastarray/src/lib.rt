@@ -10,15 +10,18 @@ mod fields;
 mod header;
 mod items;
 mod read;
+pub mod said;
 mod store;
 
 ghost use mathlib.Core.Path.{_≡_};
 ghost use Prim.Native.Nat.{_+_, _*_, _≤_};
 ghost use lib.ListN.{length};
+ghost use Rattle.bits.specs.Sizes.{longestWindow};
 ghost use Rattle.fastarray.specs.Body.{headerBits, window, deletedFrom, itemsFrom};
 ghost use Rattle.fastarray.specs.Records.{deletedRecord, storeAll};
 ghost use Rattle.fastarray.specs.Parts.{ItemsStored};
 ghost use Rattle.fastarray.specs.Answers.{call, lent, roomFor, Answered};
+use bits::sizes::LONGEST_WINDOW;
 
 // The support bit and the four words.
 const HEADER_BITS: u64 = 129;
@@ -81,7 +84,7 @@ enum ItemsRead {
     Read(u64, u64),
 }
 
-enum Measured {
+enum BodyMeasure {
     NotFastArray,
     Body(Delta),
 }
@@ -114,9 +117,13 @@ fn write_body(
     items: &mut [u32],
     fields: &mut [u32],
 )
-    requires { ⌜ (129 + 32 * delta .deletes ≤ end) × (end ≤ 8 * length (now s)) × (end ≤ 524288) × (delta .changes ≤ 524288) × (flag ≤ 1) ⌝ }
-    ensures ids { λ _. ⌜ now (deleted .exit) ≡ storeAll deletedRecord (now (deleted .entry)) 0 (deletedFrom (delta .deletes) (window (now (s .entry)) end) headerBits) ⌝ }
-    ensures stored { λ _. ⌜ ItemsStored (itemsFrom (delta .changes) flag (window (now (s .entry)) end) end (headerBits + 32 * delta .deletes)) 0 0 (now (items .entry)) (now (fields .entry)) (now (items .exit)) (now (fields .exit)) ⌝ }
+    requires { ⌜ (headerBits + 32 * delta .deletes ≤ end) × (end ≤ 8 * length (now s)) × (end ≤ longestWindow)
+        × (delta .changes ≤ longestWindow) × (flag ≤ 1) ⌝ }
+    ensures ids { λ _. ⌜ now (deleted .exit) ≡ storeAll deletedRecord (now (deleted .entry)) 0
+        (deletedFrom (delta .deletes) (window (now (s .entry)) end) headerBits) ⌝ }
+    ensures stored { λ _. ⌜ ItemsStored
+        (itemsFrom (delta .changes) flag (window (now (s .entry)) end) end (headerBits + 32 * delta .deletes)) 0 0
+        (now (items .entry)) (now (fields .entry)) (now (items .exit)) (now (fields .exit)) ⌝ }
 {
     let deletes = delta.deletes as u64;
     let changes = delta.changes as u64;
@@ -135,9 +142,11 @@ pub fn decode_fast_array_delta(
     items: &mut [u32],
     fields: &mut [u32],
 ) -> FastArray
-    ensures { λ r. ⌜ Answered (call (now (payload .entry)) bits mode) (lent (now (deleted .entry)) (now (items .entry)) (now (fields .entry))) r (lent (now (deleted .exit)) (now (items .exit)) (now (fields .exit))) ⌝ }
+    ensures { λ r. ⌜ Answered (call (now (payload .entry)) bits mode)
+        (lent (now (deleted .entry)) (now (items .entry)) (now (fields .entry))) r
+        (lent (now (deleted .exit)) (now (items .exit)) (now (fields .exit))) ⌝ }
 {
-    if 524288 < bits {
+    if LONGEST_WINDOW < bits {
         return FastArray::TooLong;
     }
     let end = bits as u64;
@@ -148,8 +157,8 @@ pub fn decode_fast_array_delta(
     let flag = read::flag_bits(mode);
     let measured = header::measure(payload, end, flag);
     match measured {
-        Measured::NotFastArray => FastArray::NotFastArray,
-        Measured::Body(delta) => {
+        BodyMeasure::NotFastArray => FastArray::NotFastArray,
+        BodyMeasure::Body(delta) => {
             let room = has_room(delta, deleted.len(), items.len(), fields.len());
             if !room {
                 let deletes = delta.deletes;

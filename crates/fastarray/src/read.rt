@@ -3,6 +3,7 @@ ghost use mathlib.Core.Path.{_≡_};
 ghost use Prim.Native.Nat.{_+_, _*_, _≤_};
 ghost use lib.ListN.{length};
 ghost use Rattle.bits.specs.Bits.{field};
+ghost use Rattle.bits.specs.Sizes.{longestWindow};
 ghost use Rattle.fastarray.specs.Body.{window, packedAt, signedAt, flagBits};
 ghost use Rattle.fastarray.specs.Parts.{takenOf};
 use crate::ChecksumMode;
@@ -49,7 +50,7 @@ pub fn signed_of(s: &[u8], at: u64, end: u64) -> i32
 
 // The packed number at bit at.
 pub fn number_of(s: &[u8], at: u64, end: u64) -> Taken
-    requires { ⌜ (at ≤ end) × (end ≤ 8 * length (now s)) × (end ≤ 524288) ⌝ }
+    requires { ⌜ (at ≤ end) × (end ≤ 8 * length (now s)) × (end ≤ longestWindow) ⌝ }
     ensures { λ r. ⌜ r ≡ takenOf (packedAt (window (now (s .entry)) end) end at) ⌝ }
 {
     let number = bits::number::packed_at(s, at, end);

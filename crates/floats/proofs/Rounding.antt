@@ -89,14 +89,14 @@ module _ (k j : ℕ) (y : Float) (step : HasValue y false 45 (2 ^ j)) (h : k < 6
   pub steps-exact : HasValue (mul binary32 (ofInt binary32 (pos k)) y) false (45 * k) (2 ^ j)
   steps-exact = subst (λ (x : Float). HasValue x false (45 * k) (2 ^ j)) (sym steps) (dyadic false (45 * k) j (omega arith) J)
 
--- the rule's k * 360 / 2 ^ w is 45 * k / 2 ^ (w - 3), at the two widths
+-- k * 360 / 2 ^ w (01, Bits and numbers) is 45 * k / 2 ^ (w - 3), at the two widths
 pub angle-byte : (k : ℕ) → round binary32 false (45 * k) 32 ≡ angle 8 k
 angle-byte k = round-same binary32 false (45 * k) 32 (k * 360) 256 (zero-lt-suc 31) (zero-lt-suc 255) (omega arith)
 
 pub angle-short : (k : ℕ) → round binary32 false (45 * k) 8192 ≡ angle 16 k
 angle-short k = round-same binary32 false (45 * k) 8192 (k * 360) 65536 (zero-lt-suc 8191) (zero-lt-suc 65535) (omega arith)
 
--- ---- the rule's angle itself: no rounding changes it
+-- ---- a rotation's angle itself: no rounding changes it
 pub byte-exact : (k : ℕ) → k < 256 → Angle 8 k (angle 8 k)
 byte-exact k h =
     record {

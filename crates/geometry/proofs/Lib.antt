@@ -4,5 +4,6 @@ pub mod VectorLaws
 pub mod RotationLaws
 pub mod MovementLaws
 pub mod CasesProved
-pub mod Promises
+pub mod ExactAngles
+pub mod FiniteVectors
 pub mod Outside

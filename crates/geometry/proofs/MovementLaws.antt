@@ -19,15 +19,15 @@ use Rattle.bitio.specs.declared.PackedRead.the-variants as P
 use Rattle.geometry.specs.Parts.{at}
 use Rattle.geometry.specs.Vectors.{quantizedAt}
 use Rattle.geometry.specs.Rotations.{rotationAt}
-use Rattle.geometry.specs.Movements.{afterBit, afterVector, afterRotation, afterPacked, afterSpin, afterNumber, afterFlags, afterPose, afterExtras, widthOf, scaleOf, velocityScale, flags, flagsAt, pose, poseAt, spinAt, flaggedAt, extras, extrasAt, movement, movementAt}
+use Rattle.geometry.specs.Movements.{afterBit, afterVector, afterRotation, afterPacked, afterSpin, afterOptional, afterFlags, afterPose, afterExtras, widthOf, scaleOf, velocityScale, flags, flagsAt, pose, poseAt, spinAt, flaggedAt, extras, extrasAt, movement, movementAt}
 use Rattle.geometry.proofs.PartLaws.{come}
 use Rattle.geometry.proofs.RoomLaws.{bit-there}
 use Rattle.geometry.specs.declared.Vector.{Vector}
 use Rattle.geometry.specs.declared.Rotation.{Rotation}
 use Rattle.geometry.specs.declared.Spin.{Spin}
 use Rattle.geometry.specs.declared.Spin.the-variants as spin
-use Rattle.geometry.specs.declared.Number.{Number}
-use Rattle.geometry.specs.declared.Number.the-variants as number
+use Rattle.geometry.specs.declared.OptionalNumber.{OptionalNumber}
+use Rattle.geometry.specs.declared.OptionalNumber.the-variants as number
 use Rattle.geometry.specs.declared.Refusal.{Refusal}
 use Rattle.geometry.specs.declared.Refusal.the-variants.{Unread}
 use Rattle.geometry.specs.declared.RotatorQuantization.{RotatorQuantization}
@@ -47,8 +47,8 @@ use Rattle.geometry.specs.declared.movements.PoseRead.{PoseRead}
 use Rattle.geometry.specs.declared.movements.PoseRead.the-variants as Q
 use Rattle.geometry.specs.declared.movements.SpinRead.{SpinRead}
 use Rattle.geometry.specs.declared.movements.SpinRead.the-variants as S
-use Rattle.geometry.specs.declared.movements.NumberRead.{NumberRead}
-use Rattle.geometry.specs.declared.movements.NumberRead.the-variants as N
+use Rattle.geometry.specs.declared.movements.OptionalNumberRead.{OptionalNumberRead}
+use Rattle.geometry.specs.declared.movements.OptionalNumberRead.the-variants as N
 use Rattle.geometry.specs.declared.movements.ExtrasRead.{ExtrasRead}
 use Rattle.geometry.specs.declared.movements.ExtrasRead.the-variants as X
 
@@ -155,21 +155,21 @@ module _ (s : List ℕ) (rotation : RotatorQuantization) (location : VectorQuant
 module _ (s : List ℕ) (physics frame handle : Bool) (c : Cursor) where
   module _ {b₁ : SpinRead} (e₁ : b₁ ≡ spinAt s physics c) where
     pub extras-first-refused : {r : Refusal} → b₁ ≡ S.Refused r → X.Refused r ≡ extrasAt s physics frame handle c
-    unfolding extrasAt afterSpin afterNumber
+    unfolding extrasAt afterSpin afterOptional
     extras-first-refused g₁ = let h₁ = sym e₁ ∙ g₁ in rw (h₁)
 
-    module _ {b₂ : NumberRead} {c₁ : Cursor} {x₁ : Spin} {p₁ : ℕ} (g₁ : b₁ ≡ S.Value x₁ p₁) (m₁ : c₁ ≡ at c p₁) (e₂ : b₂ ≡ flaggedAt s frame c₁) where
+    module _ {b₂ : OptionalNumberRead} {c₁ : Cursor} {x₁ : Spin} {p₁ : ℕ} (g₁ : b₁ ≡ S.Value x₁ p₁) (m₁ : c₁ ≡ at c p₁) (e₂ : b₂ ≡ flaggedAt s frame c₁) where
       pub extras-second-refused : {r : Refusal} → b₂ ≡ N.Refused r → X.Refused r ≡ extrasAt s physics frame handle c
-      unfolding extrasAt afterSpin afterNumber
+      unfolding extrasAt afterSpin afterOptional
       extras-second-refused g₂ = let h₁ = sym e₁ ∙ g₁ in let h₂ = come (flaggedAt s frame) m₁ e₂ g₂ in rw (h₁, h₂)
 
-      module _ {b₃ : NumberRead} {c₂ : Cursor} {x₂ : Number} {p₂ : ℕ} (g₂ : b₂ ≡ N.Value x₂ p₂) (m₂ : c₂ ≡ at c p₂) (e₃ : b₃ ≡ flaggedAt s handle c₂) where
+      module _ {b₃ : OptionalNumberRead} {c₂ : Cursor} {x₂ : OptionalNumber} {p₂ : ℕ} (g₂ : b₂ ≡ N.Value x₂ p₂) (m₂ : c₂ ≡ at c p₂) (e₃ : b₃ ≡ flaggedAt s handle c₂) where
         pub extras-third-refused : {r : Refusal} → b₃ ≡ N.Refused r → X.Refused r ≡ extrasAt s physics frame handle c
-        unfolding extrasAt afterSpin afterNumber
+        unfolding extrasAt afterSpin afterOptional
         extras-third-refused g₃ = let h₁ = sym e₁ ∙ g₁ in let h₂ = come (flaggedAt s frame) m₁ e₂ g₂ in let h₃ = come (flaggedAt s handle) m₂ e₃ g₃ in rw (h₁, h₂, h₃)
 
-        pub extras-read : {x₃ : Number} {p₃ : ℕ} → b₃ ≡ N.Value x₃ p₃ → X.Value (extras x₁ x₂ x₃) p₃ ≡ extrasAt s physics frame handle c
-        unfolding extrasAt afterSpin afterNumber
+        pub extras-read : {x₃ : OptionalNumber} {p₃ : ℕ} → b₃ ≡ N.Value x₃ p₃ → X.Value (extras x₁ x₂ x₃) p₃ ≡ extrasAt s physics frame handle c
+        unfolding extrasAt afterSpin afterOptional
         extras-read g₃ = let h₁ = sym e₁ ∙ g₁ in let h₂ = come (flaggedAt s frame) m₁ e₂ g₂ in let h₃ = come (flaggedAt s handle) m₂ e₃ g₃ in rw (h₁, h₂, h₃)
 
 -- ---- the record

@@ -9,10 +9,11 @@ use lib.Dec.{leb, ltb, eqb}
 use lib.Ieee.{binary32, binary64, ofBits}
 use Rattle.bits.specs.Choice.{if_then_else_}
 use Rattle.bits.specs.TwosComplement.{twos}
+use Rattle.bits.specs.Sizes.{longestWindow}
 use Rattle.floats.specs.Numbers.{quotient}
-use Rattle.bitio.specs.Cursors.{bitsOf, window, atCursor, longestWindow, opened}
+use Rattle.bitio.specs.Cursors.{bitsOf, window, atCursor, opened}
 use Rattle.bitio.specs.Reads.{asBit, readBit, readBits, widestRead}
-use Rattle.bitio.proofs.Promises.{outside-alters-nothing, outside-taken, outside-bits, outside-packed, outside-serialized}
+use Rattle.bitio.proofs.Outside.{outside-alters-nothing, outside-taken, outside-bits, outside-packed, outside-serialized}
 use Rattle.bitio.specs.declared.Cursor.{Cursor}
 use Rattle.bitio.specs.declared.Refusal.the-variants.{TooLong, Past}
 use Rattle.bitio.specs.declared.Opened.the-variants as O
@@ -21,9 +22,9 @@ use Rattle.bitio.specs.declared.BitRead.the-variants as B1
 use Rattle.geometry.specs.Parts.{at, afterRead, axisAfter, asBits, partAt, threeAt, together, componentsAt}
 use Rattle.geometry.specs.Vectors.{vectorOf, divisor, vectorBehind, headerMaximum, quantizedAt, readVector, normalMaximum, normalOf, readNormal}
 use Rattle.geometry.specs.Rotations.{rotationOf, rotationAt, readRotation}
-use Rattle.geometry.specs.Movements.{afterBit, afterVector, afterRotation, afterPacked, afterSpin, afterNumber, afterFlags, afterPose, afterExtras, widthOf, scaleOf, velocityScale, flags, flagsAt, pose, poseAt, spinAt, flaggedAt, extras, extrasAt, movement, movementAt, inReader, readMovement}
+use Rattle.geometry.specs.Movements.{afterBit, afterVector, afterRotation, afterPacked, afterSpin, afterOptional, afterFlags, afterPose, afterExtras, widthOf, scaleOf, velocityScale, flags, flagsAt, pose, poseAt, spinAt, flaggedAt, extras, extrasAt, movement, movementAt, inReader, readMovement}
 use Rattle.geometry.specs.declared.Spin.the-variants as spin
-use Rattle.geometry.specs.declared.Number.the-variants as number
+use Rattle.geometry.specs.declared.OptionalNumber.the-variants as number
 use Rattle.geometry.specs.declared.Refusal.the-variants.{Unread, NoScale, NoSuchWidth}
 use Rattle.geometry.specs.declared.RotatorQuantization.{RotatorQuantization}
 use Rattle.geometry.specs.declared.VectorQuantization.{VectorQuantization}
@@ -33,7 +34,7 @@ use Rattle.geometry.specs.declared.MovementRead.the-variants as M
 use Rattle.geometry.specs.declared.movements.FlagsRead.the-variants as F
 use Rattle.geometry.specs.declared.movements.PoseRead.the-variants as Q
 use Rattle.geometry.specs.declared.movements.SpinRead.the-variants as S
-use Rattle.geometry.specs.declared.movements.NumberRead.the-variants as N
+use Rattle.geometry.specs.declared.movements.OptionalNumberRead.the-variants as N
 use Rattle.geometry.specs.declared.movements.ExtrasRead.the-variants as X
 use Rattle.geometry.specs.declared.parts.Part.{Part}
 use Rattle.geometry.specs.declared.parts.Part.the-variants.{Bits, Axis, Integer}
@@ -137,8 +138,8 @@ module _ (s t : List ℕ) (c : Cursor) (l : length s ≡ length t) (w : window s
   unfolding extrasAt
   extras-same physics frame handle p = λ i.
       afterSpin X.Refused (spin-same physics p i) (λ a p₁.
-      afterNumber X.Refused (number-same frame p₁ i) (λ f p₂.
-      afterNumber X.Refused (number-same handle p₂ i) (λ h p₃.
+      afterOptional X.Refused (number-same frame p₁ i) (λ f p₂.
+      afterOptional X.Refused (number-same handle p₂ i) (λ h p₃.
       X.Value (extras a f h) p₃)))
 
   pub outside-record : (rotation : RotatorQuantization) (location : VectorQuantization) → movementAt s rotation location c ≡ movementAt t rotation location c

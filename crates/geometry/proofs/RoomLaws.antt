@@ -27,7 +27,7 @@ use Rattle.bitio.specs.declared.Skipped.the-variants as Skip
 use Rattle.bitio.specs.declared.BitRead.the-variants as B1
 use Rattle.bitio.specs.declared.BitsRead.the-variants as B
 use Rattle.bitio.specs.declared.SerializedRead.the-variants as Ser
-use Rattle.geometry.specs.Parts.{at, axisAt, asBits, partAt, threeAt, together}
+use Rattle.geometry.specs.Parts.{at, axisAt, asBits, partAt, threeAt, together, axisIn, axisBits, axisBehind, axesIn}
 use Rattle.geometry.proofs.PartLaws.{three-read, axis-set, axis-clear, size-is}
 use Rattle.geometry.specs.declared.parts.Part.the-variants.{Bits, Axis, Integer}
 use Rattle.geometry.specs.declared.parts.Three.{Three}
@@ -42,14 +42,14 @@ at-most (suc zero) k h = omega arith
 at-most (suc (suc b)) k h = absurd (omega arith)
 
 -- an axis takes its bit and at most w more
-pub axis-small : (all w : ℕ) {a : ℕ} → a ≡ 1 + all % 2 * w → a ≤ w + 1
+pub axis-small : (all w : ℕ) {a : ℕ} → a ≡ axisBits all w → a ≤ w + 1
 axis-small all w e =
     let o : all % 2 < 2 = omega arith in
     let u : all % 2 * w ≤ w = at-most (all % 2) w o in
     omega arith
 
 -- an axis at the lowest bit: the bit times the number behind it
-pub axis-number : (all w : ℕ) → w ≤ 20 → all % 2 * (all / 2 % ((1 * 2 ^ w) % 18446744073709551616)) ≡ field all 1 (all % 2 * w)
+pub axis-number : (all w : ℕ) → w ≤ 20 → all % 2 * (all / 2 % ((1 * 2 ^ w) % 18446744073709551616)) ≡ axisIn all w
 unfolding field
 axis-number all w h = rw (size-is w (omega arith)) (go (all % 2) (omega arith))
   where
@@ -70,26 +70,19 @@ axis-fits all w h =
 
 -- three take no more than three times that
 pub axes-few : (all w : ℕ) →
-    let a = 1 + all % 2 * w in
-    let behind = all / 2 ^ a in
-    let b = 1 + behind % 2 * w in
-    let last = behind / 2 ^ b in
-    a + b + (1 + last % 2 * w) ≤ 3 * (w + 1)
+    let behind = axisBehind all w in
+    let last = axisBehind behind w in
+    axisBits all w + axisBits behind w + axisBits last w ≤ 3 * (w + 1)
 axes-few all w =
-    let a = 1 + all % 2 * w in
-    let behind = all / 2 ^ a in
-    let last = behind / 2 ^ (1 + behind % 2 * w) in
-    omega (arith, axis-small all w {a = a} refl, axis-small behind w refl, axis-small last w refl)
+    let behind = axisBehind all w in
+    let last = axisBehind behind w in
+    omega (arith, axis-small all w refl, axis-small behind w refl, axis-small last w refl)
 
 -- three axes, one behind another, as they are cut
-pub axes-cut : (w all p : ℕ) {x y z a b d : ℕ} → x ≡ field all 1 (all % 2 * w) → a ≡ 1 + all % 2 * w
-    → y ≡ field (all / 2 ^ a) 1 (all / 2 ^ a % 2 * w) → b ≡ 1 + all / 2 ^ a % 2 * w
-    → z ≡ field (all / 2 ^ a / 2 ^ b) 1 (all / 2 ^ a / 2 ^ b % 2 * w) → d ≡ 1 + all / 2 ^ a / 2 ^ b % 2 * w →
-    let a₁ = 1 + all % 2 * w in
-    let behind = all / 2 ^ a₁ in
-    let b₁ = 1 + behind % 2 * w in
-    let last = behind / 2 ^ b₁ in
-    T.Value x y z (p + a + b + d) ≡ T.Value (field all 1 (all % 2 * w)) (field behind 1 (behind % 2 * w)) (field last 1 (last % 2 * w)) (p + a₁ + b₁ + (1 + last % 2 * w))
+pub axes-cut : (w all p : ℕ) {x y z a b d : ℕ} → x ≡ axisIn all w → a ≡ axisBits all w
+    → y ≡ axisIn (all / 2 ^ a) w → b ≡ axisBits (all / 2 ^ a) w
+    → z ≡ axisIn (all / 2 ^ a / 2 ^ b) w → d ≡ axisBits (all / 2 ^ a / 2 ^ b) w →
+    T.Value x y z (p + a + b + d) ≡ axesIn all w p
 axes-cut w all p ex ea ey eb ez ed = rw (ez, ed, ey, eb, ex, ea) refl
 
 -- ---- bits that are there
@@ -192,19 +185,16 @@ module _ (s : List ℕ) (c : Cursor) (g : good s c ≡ true) where
 
   -- three axes, cut from n bits that hold them
   pub axes-there : (w n k all : ℕ) → w ≤ 20 → c .pos + n ≤ c .len → k ≡ c .start + c .pos → all ≡ field (num s) k n →
-      let a = 1 + all % 2 * w in
-      let behind = all / 2 ^ a in
-      let b = 1 + behind % 2 * w in
-      let last = behind / 2 ^ b in
-      let d = 1 + last % 2 * w in
-      a + b + d ≤ n
-      → T.Value (field all 1 (all % 2 * w)) (field behind 1 (behind % 2 * w)) (field last 1 (last % 2 * w)) (c .pos + a + b + d) ≡ threeAt s (Axis w) c
+      let behind = axisBehind all w in
+      let last = axisBehind behind w in
+      axisBits all w + axisBits behind w + axisBits last w ≤ n
+      → axesIn all w (c .pos) ≡ threeAt s (Axis w) c
   unfolding partAt
   axes-there w n k all l h ek e u =
-      let a = 1 + all % 2 * w in
-      let behind = all / 2 ^ a in
-      let b = 1 + behind % 2 * w in
-      let last = behind / 2 ^ b in
+      let a = axisBits all w in
+      let behind = axisBehind all w in
+      let b = axisBits behind w in
+      let last = axisBehind behind w in
       let r₁ = axis-cut w n (c .pos) k all (omega arith) (omega arith) (omega arith) ek e in
       let r₂ = axis-cut w (n - a) (c .pos + a) (k + a) behind (omega arith) (omega arith) (omega arith) (omega arith) (r₁ .1) in
       let r₃ = axis-cut w (n - a - b) (c .pos + a + b) (k + a + b) last (omega arith) (omega arith) (omega arith) (omega arith) (r₂ .1) in
@@ -212,21 +202,17 @@ module _ (s : List ℕ) (c : Cursor) (g : good s c ≡ true) where
 
   -- the same, as they were cut: x, y, z, and q bits in all
   pub axes-left : (w n k all : ℕ) {t : Three} {x y z q : ℕ} → w ≤ 20 → c .pos + n ≤ c .len → k ≡ c .start + c .pos → all ≡ field (num s) k n →
-      let a = 1 + all % 2 * w in
-      let behind = all / 2 ^ a in
-      let b = 1 + behind % 2 * w in
-      let last = behind / 2 ^ b in
-      t ≡ T.Value (field all 1 (all % 2 * w)) (field behind 1 (behind % 2 * w)) (field last 1 (last % 2 * w)) (0 + a + b + (1 + last % 2 * w))
+      t ≡ axesIn all w 0
       → t ≡ T.Value x y z q → q ≤ n → T.Value x y z (c .pos + q) ≡ threeAt s (Axis w) c
   axes-left w n k all {t} {x} {y} {z} {q} l h ek e cut g u =
-      let a = 1 + all % 2 * w in
-      let behind = all / 2 ^ a in
-      let b = 1 + behind % 2 * w in
-      let last = behind / 2 ^ b in
-      let d = 1 + last % 2 * w in
-      let ex : x ≡ field all 1 (all % 2 * w) = cc in
-      let ey : y ≡ field behind 1 (behind % 2 * w) = cc in
-      let ez : z ≡ field last 1 (last % 2 * w) = cc in
+      let a = axisBits all w in
+      let behind = axisBehind all w in
+      let b = axisBits behind w in
+      let last = axisBehind behind w in
+      let d = axisBits last w in
+      let ex : x ≡ axisIn all w = cc in
+      let ey : y ≡ axisIn behind w = cc in
+      let ez : z ≡ axisIn last w = cc in
       let eq : q ≡ 0 + a + b + d = cc in
       let f : c .pos + q ≡ c .pos + a + b + d = omega arith in
       rw (ex, ey, ez, f) (axes-there w n k all l h ek e (omega arith))

@@ -8,7 +8,7 @@ use Rattle.geometry.specs.Vectors.{vector}
 use Rattle.geometry.specs.Rotations.{rotation}
 use Rattle.geometry.specs.declared.Movement.{Movement}
 use Rattle.geometry.specs.declared.Spin.the-variants as spin
-use Rattle.geometry.specs.declared.Number.the-variants as number
+use Rattle.geometry.specs.declared.OptionalNumber.the-variants as number
 
 abbrev pub bytes : List ℕ
 bytes = 0x10 ∷ 0x08 ∷ 0x02 ∷ 0x00 ∷ []

@@ -19,8 +19,8 @@ use Rattle.geometry.specs.declared.Vector.{Vector}
 use Rattle.geometry.specs.declared.Rotation.{Rotation}
 use Rattle.geometry.specs.declared.Spin.{Spin}
 use Rattle.geometry.specs.declared.Spin.the-variants as spin
-use Rattle.geometry.specs.declared.Number.{Number}
-use Rattle.geometry.specs.declared.Number.the-variants as number
+use Rattle.geometry.specs.declared.OptionalNumber.{OptionalNumber}
+use Rattle.geometry.specs.declared.OptionalNumber.the-variants as number
 use Rattle.geometry.specs.declared.Movement.{Movement}
 use Rattle.geometry.specs.declared.Refusal.{Refusal}
 use Rattle.geometry.specs.declared.Refusal.the-variants.{Unread}
@@ -43,8 +43,8 @@ use Rattle.geometry.specs.declared.movements.PoseRead.{PoseRead}
 use Rattle.geometry.specs.declared.movements.PoseRead.the-variants as Q
 use Rattle.geometry.specs.declared.movements.SpinRead.{SpinRead}
 use Rattle.geometry.specs.declared.movements.SpinRead.the-variants as S
-use Rattle.geometry.specs.declared.movements.NumberRead.{NumberRead}
-use Rattle.geometry.specs.declared.movements.NumberRead.the-variants as N
+use Rattle.geometry.specs.declared.movements.OptionalNumberRead.{OptionalNumberRead}
+use Rattle.geometry.specs.declared.movements.OptionalNumberRead.the-variants as N
 use Rattle.geometry.specs.declared.movements.ExtrasRead.{ExtrasRead}
 use Rattle.geometry.specs.declared.movements.ExtrasRead.the-variants as X
 
@@ -70,9 +70,9 @@ module _ {A : Type 0} (refused : Refusal → A) where
   afterSpin (S.Value v p) next = next v p
   afterSpin (S.Refused r) next = refused r
 
-  unfoldable pub afterNumber : NumberRead → (Number → (p : ℕ) → A) → A
-  afterNumber (N.Value n p) next = next n p
-  afterNumber (N.Refused r) next = refused r
+  unfoldable pub afterOptional : OptionalNumberRead → (OptionalNumber → (p : ℕ) → A) → A
+  afterOptional (N.Value n p) next = next n p
+  afterOptional (N.Refused r) next = refused r
 
   unfoldable pub afterFlags : FlagsRead → (Flags → (p : ℕ) → A) → A
   afterFlags (F.Value f p) next = next f p
@@ -128,18 +128,18 @@ unfoldable pub spinAt : List ℕ → Bool → Cursor → SpinRead
 spinAt s true c = afterVector S.Refused (quantizedAt s velocityScale c) (λ v p. S.Value (spin.Present v) p)
 spinAt s false c = S.Value spin.Absent (c .pos)
 
-unfoldable pub flaggedAt : List ℕ → Bool → Cursor → NumberRead
+unfoldable pub flaggedAt : List ℕ → Bool → Cursor → OptionalNumberRead
 flaggedAt s true c = afterPacked N.Refused (readIntPacked s c) (λ n p. N.Value (number.Present n) p)
 flaggedAt s false c = N.Value number.Absent (c .pos)
 
-abbrev pub extras : (angular : Spin) (frame handle : Number) → Extras
+abbrev pub extras : (angular : Spin) (frame handle : OptionalNumber) → Extras
 extras a f h = record { angular = a; frame = f; handle = h }
 
 unfoldable pub extrasAt : List ℕ → (physics frame handle : Bool) → Cursor → ExtrasRead
 extrasAt s physics frame handle c =
     afterSpin X.Refused (spinAt s physics c) (λ a p₁.
-    afterNumber X.Refused (flaggedAt s frame (at c p₁)) (λ f p₂.
-    afterNumber X.Refused (flaggedAt s handle (at c p₂)) (λ h p₃.
+    afterOptional X.Refused (flaggedAt s frame (at c p₁)) (λ f p₂.
+    afterOptional X.Refused (flaggedAt s handle (at c p₂)) (λ h p₃.
     X.Value (extras a f h) p₃)))
 
 -- ---- the record

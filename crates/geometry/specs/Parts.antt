@@ -1,5 +1,5 @@
 -- Parts of one kind, one after another: what is read three times for a vector, a normal or a rotation (01, Bits and numbers).
-use Prim.Native.Nat.{ℕ, _*_, _<_}
+use Prim.Native.Nat.{ℕ, _+_, _*_, _/_, _%_, _^_, _<_}
 use mathlib.Core.Bool.{true, false}
 use mathlib.Core.List.{List}
 use lib.Dec.{leb}
@@ -65,6 +65,23 @@ together w (B.Refused r) = T.Refused r
 -- a vector's components of w bits each: one read if they fit one, else three
 unfoldable pub componentsAt : List ℕ → (w : ℕ) → Cursor → Three
 componentsAt s w c = if leb (3 * w) widestRead then together w (readBits s c (3 * w)) else threeAt s (Bits w) c
+
+-- an axis of w bits whose bit is the lowest of x: its number, how many bits it takes, and what stands behind it
+abbrev pub axisIn : (x w : ℕ) → ℕ
+axisIn x w = field x 1 (x % 2 * w)
+
+abbrev pub axisBits : (x w : ℕ) → ℕ
+axisBits x w = 1 + x % 2 * w
+
+abbrev pub axisBehind : (x w : ℕ) → ℕ
+axisBehind x w = x / 2 ^ axisBits x w
+
+-- three of them, one behind another, of which the first begins at bit p
+abbrev pub axesIn : (x w p : ℕ) → Three
+axesIn x w p =
+    let behind = axisBehind x w in
+    let last = axisBehind behind w in
+    T.Value (axisIn x w) (axisIn behind w) (axisIn last w) (p + axisBits x w + axisBits behind w + axisBits last w)
 
 -- every number that was read is below m
 unfoldable pub Below : (m : ℕ) → Three → Type 0

@@ -13,6 +13,7 @@
 mod movements;
 mod parts;
 mod rotations;
+pub mod said;
 mod vectors;
 
 ghost use mathlib.Core.Path.{_≡_};
@@ -45,7 +46,7 @@ pub enum Spin {
 }
 
 // A server's frame or a physics handle: absent is never a zero.
-pub enum Number {
+pub enum OptionalNumber {
     Absent,
     Present(u32),
 }
@@ -57,8 +58,8 @@ pub struct Movement {
     pub angular: Spin,
     pub sleep: bool,
     pub physics: bool,
-    pub frame: Number,
-    pub handle: Number,
+    pub frame: OptionalNumber,
+    pub handle: OptionalNumber,
 }
 
 // How a movement's rotation is sent: 8 or 16 bits an axis.

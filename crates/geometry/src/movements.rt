@@ -5,7 +5,7 @@ ghost use Rattle.geometry.specs.declared.MovementRead.the-variants as Re
 ghost use Rattle.geometry.specs.Movements.{widthOf, scaleOf, flagsAt, poseAt, spinAt, flaggedAt, extrasAt, movement, movementAt};
 use crate::Movement;
 use crate::MovementRead;
-use crate::Number;
+use crate::OptionalNumber;
 use crate::Refusal;
 use crate::Rotation;
 use crate::RotationRead;
@@ -40,8 +40,8 @@ pub struct Pose {
 // What the flags announce.
 pub struct Extras {
     pub angular: Spin,
-    pub frame: Number,
-    pub handle: Number,
+    pub frame: OptionalNumber,
+    pub handle: OptionalNumber,
 }
 
 pub enum FlagsRead {
@@ -59,8 +59,8 @@ pub enum SpinRead {
     Refused(Refusal),
 }
 
-pub enum NumberRead {
-    Value(Number, u64),
+pub enum OptionalNumberRead {
+    Value(OptionalNumber, u64),
     Refused(Refusal),
 }
 
@@ -208,20 +208,20 @@ fn read_spin(bytes: &[u8], c: Cursor, physics: bool) -> SpinRead
 }
 
 // A packed number, if there is one.
-fn read_number(bytes: &[u8], c: Cursor, there: bool) -> NumberRead
+fn read_number(bytes: &[u8], c: Cursor, there: bool) -> OptionalNumberRead
     ensures { λ r. ⌜ r ≡ flaggedAt (now (bytes .entry)) there c ⌝ }
 {
     if !there {
         let pos = c.pos;
-        return NumberRead::Value(Number::Absent, pos);
+        return OptionalNumberRead::Value(OptionalNumber::Absent, pos);
     }
     let read = bitio::read_int_packed(bytes, c);
     match read {
         PackedRead::Value(n, next) => {
-            let number = Number::Present(n);
-            NumberRead::Value(number, next)
+            let number = OptionalNumber::Present(n);
+            OptionalNumberRead::Value(number, next)
         }
-        PackedRead::Refused(r) => NumberRead::Refused(Refusal::Unread(r)),
+        PackedRead::Refused(r) => OptionalNumberRead::Refused(Refusal::Unread(r)),
     }
 }
 
@@ -234,11 +234,11 @@ fn read_extras(bytes: &[u8], c: Cursor, physics: bool, frame: bool, handle: bool
             let c1 = parts::moved(c, at1);
             let second = read_number(bytes, c1, frame);
             match second {
-                NumberRead::Value(f, at2) => {
+                OptionalNumberRead::Value(f, at2) => {
                     let c2 = parts::moved(c, at2);
                     let third = read_number(bytes, c2, handle);
                     match third {
-                        NumberRead::Value(h, at3) => {
+                        OptionalNumberRead::Value(h, at3) => {
                             let x = Extras {
                                 angular,
                                 frame: f,
@@ -246,10 +246,10 @@ fn read_extras(bytes: &[u8], c: Cursor, physics: bool, frame: bool, handle: bool
                             };
                             ExtrasRead::Value(x, at3)
                         }
-                        NumberRead::Refused(r) => ExtrasRead::Refused(r),
+                        OptionalNumberRead::Refused(r) => ExtrasRead::Refused(r),
                     }
                 }
-                NumberRead::Refused(r) => ExtrasRead::Refused(r),
+                OptionalNumberRead::Refused(r) => ExtrasRead::Refused(r),
             }
         }
         SpinRead::Refused(r) => ExtrasRead::Refused(r),

@@ -1,10 +1,9 @@
 // Three parts of one kind, one after another: a vector's components, a normal's axes, a rotation's angles.
 ghost use mathlib.Core.Path.{_≡_};
-ghost use Rattle.geometry.specs.Parts.{at, asBits, axisAt, partAt, threeAt, together, componentsAt};
-ghost use Prim.Native.Nat.{_+_, _*_, _/_, _%_, _^_, _≤_, _<_, min};
+ghost use Rattle.geometry.specs.Parts.{at, asBits, axisAt, partAt, threeAt, together, componentsAt, axisIn, axisBits, axesIn};
+ghost use Prim.Native.Nat.{_+_, _*_, _%_, _^_, _≤_, _<_, min};
 ghost use Rattle.geometry.specs.declared.parts.Part.the-variants.{Bits, Axis, Integer};
 ghost use Rattle.bitio.specs.declared.BitsRead.the-variants as BitsRead;
-ghost use Rattle.bits.specs.Bits.{field};
 ghost use Rattle.bitio.specs.Reads.{readBits};
 ghost use Rattle.bitio.specs.Numbers.{readSerializedInt};
 use bitio::BitRead;
@@ -143,7 +142,7 @@ pub fn three_singles(bytes: &[u8], c: Cursor) -> Three
 // The number of an axis whose bit is the lowest of `all`.
 fn axis_in(all: u64, width: u64) -> u64
     requires { ⌜ width ≤ 20 ⌝ }
-    ensures { λ r. ⌜ r ≡ field all 1 (all % 2 * width) ⌝ }
+    ensures { λ r. ⌜ r ≡ axisIn all width ⌝ }
 {
     let size = 1u64 << width;
     let k = (all >> 1) % size;
@@ -153,7 +152,7 @@ fn axis_in(all: u64, width: u64) -> u64
 // The bits that this axis takes.
 fn axis_bits(all: u64, width: u64) -> u64
     requires { ⌜ width ≤ 20 ⌝ }
-    ensures { λ r. ⌜ r ≡ 1 + all % 2 * width ⌝ }
+    ensures { λ r. ⌜ r ≡ axisBits all width ⌝ }
 {
     1 + all % 2 * width
 }
@@ -161,7 +160,7 @@ fn axis_bits(all: u64, width: u64) -> u64
 // The three axes that stand one behind another from the lowest bit of `all` on; that bit is bit `pos` of the window.
 fn cut_axes(all: u64, width: u64, pos: u64) -> Three
     requires { ⌜ (width ≤ 20) × (pos + 3 * (width + 1) < 2 ^ 64) ⌝ }
-    ensures { λ r. ⌜ (let a = 1 + all % 2 * width in let behind = all / 2 ^ a in let b = 1 + behind % 2 * width in let last = behind / 2 ^ b in r ≡ Three.Value (field all 1 (all % 2 * width)) (field behind 1 (behind % 2 * width)) (field last 1 (last % 2 * width)) (pos + a + b + (1 + last % 2 * width))) ⌝ }
+    ensures { λ r. ⌜ r ≡ axesIn all width pos ⌝ }
 {
     let x = axis_in(all, width);
     let a = axis_bits(all, width);

@@ -1,4 +1,4 @@
--- What tables that keep the layout promise: sizes, that child levels are there, and that names lie in their pools.
+-- What tables that keep the layout promise: sizes, and that names lie in their pools.
 use mathlib.Core.Path.{_≡_, refl, subst}
 use mathlib.Core.Bool.{Bool, true, false}
 use Prim.Native.Nat.{ℕ, _+_, _*_, _/_, _%_, _≤_, _<_}
@@ -8,12 +8,12 @@ use lib.ListN.{length, getD, drop, length-drop}
 use lib.Seq.{length-take-le}
 use borrow.Author.Tests.{ltb-true, leb-true, eqb-true}
 use Rattle.bits.specs.Choice.{if_then_else_}
-use Rattle.schema.specs.Tables.{Tables, absent, arrayKind, nameKind, cell, fits, rowCount, rowOf, childAt, nameAt, child, schemaName, declaredName}
-use Rattle.schema.specs.Layout.{allFrom, nameFits, kindFits, rowFits, declaredFits, schemaSized, declaredSized, rootFits, schemaLaid, declaredLaid, laidOut, maxLevels, maxRows, maxHandles, maxName, maxPool}
+use Rattle.bits.specs.Sizes.{maxLevels, maxRows, maxHandles, maxName, maxPool}
+use Rattle.schema.specs.Tables.{Tables, absent, nameKind, cell, fits, rowCount, rowOf, nameAt, schemaName, declaredName}
+use Rattle.schema.specs.Layout.{allFrom, nameFits, kindFits, rowFits, declaredFits, schemaSized, declaredSized, rootFits, schemaLaid, declaredLaid, laidOut}
 use Rattle.schema.specs.Labels.{bySchema, byDeclaration, containerLabel, leafLabel, labelBytes, labelLength, labelPart, NameLies, LabelLies}
 use Rattle.schema.specs.declared.Row.{Row}
 use Rattle.schema.specs.declared.Row.the-variants as Row
-use Rattle.schema.specs.declared.Child.the-variants.{Array}
 use Rattle.schema.specs.declared.Name.{Name}
 use Rattle.schema.specs.declared.Name.the-variants.{At, Unnamed}
 use Rattle.schema.specs.declared.Label.{Label}
@@ -21,7 +21,7 @@ use Rattle.schema.specs.declared.Label.the-variants.{Declared, Named, Pl
 use Rattle.schema.proofs.RowLaws.{found, found-fits}
 use Rattle.schema.proofs.LayoutLaws.{and-left, and-right, and-three, and-four, all-at}
 use Rattle.schema.proofs.LabelLaws.{declared-bytes, named-bytes}
-use Rattle.schema.proofs.DecimalLaws.{decimal-some}
+use Rattle.bits.proofs.DecimalLaws.{decimal-some}
 
 lies : (pool start len : ℕ) → nameFits pool start len ≡ true → NameLies pool start len
 unfolding nameFits
@@ -108,18 +108,6 @@ module _ (t : Tables) (levels root : ℕ) (l : Laid t levels root) where
       and-right (ltb (cell (t .rows) j 0) levels) (kindFits levels (length (t .names)) (cell (t .rows) j 1) (cell (t .rows) j 3) (cell (t .rows) j 4))
       (l .each-row j (omega arith)) in
       subst (λ (x : ℕ). kindFits levels (length (t .names)) x (cell (t .rows) j 3) (cell (t .rows) j 4) ≡ true) k r
-
-  -- the level of an array's elements is there
-  pub child-below : (level handle a : ℕ) → child (t .rows) level handle ≡ Array a → a < levels
-  unfolding child kindFits
-  child-below level handle a e = go (rowOf (t .rows) level arrayKind handle) refl e
-    where
-      go : (r : Row) → rowOf (t .rows) level arrayKind handle ≡ r → childAt (t .rows) r ≡ Array a → a < levels
-      go Row.Missing q h = let z : _≡_ {A = ℕ} 0 1 = cc in absurd (omega arith)
-      go (Row.At j) q h =
-          let s : cell (t .rows) j 3 ≡ a = cc in
-          let b = ltb-true (cell (t .rows) j 3) levels (and-left (ltb (cell (t .rows) j 3) levels) (eqb (cell (t .rows) j 4) 0) (of-kind level arrayKind handle j q)) in
-          omega arith
 
   -- a schema's name lies in its pool
   pub name-lies : (level handle start len : ℕ) → schemaName (t .rows) level handle ≡ At start len → NameLies (length (t .names)) start len

@@ -2,7 +2,6 @@ pub mod RowLaws
 pub mod SpanLaws
 pub mod LayoutLaws
 pub mod LabelLaws
-pub mod DecimalLaws
 pub mod LaidLaws
 pub mod CopyLaws
 pub mod TwelveLaws

@@ -10,20 +10,21 @@ use lib.Dec.{leb, eqb}
 use lib.ListN.{length, getD, set, length-set, length-replicate, getD-replicate}
 use lib.Seq.{getD-set-same, getD-set-other}
 use borrow.Author.Tests.{eq-eqb, ne-eqb, eqb-true, eqb-false, leb-true, leb-false}
+use Rattle.bits.specs.Sizes.{maxLevels}
 use Rattle.schema.specs.Tables.{cell, fits, arrayKind, nameKind, childAt, nameAt, firstRow, rowCount, rowIn, rowOf, child, schemaName}
-use Rattle.schema.specs.Spans.{entry, entryIn, noSpans, spanPlace, widened, spansFrom, spansOf, entryAt}
+use Rattle.schema.specs.Spans.{entry, entryIn, spanNumbers, noSpans, spanPlace, widened, spansFrom, spansOf, entryAt}
 use Rattle.schema.proofs.RowLaws.{skip-front, skip-back, none-left, other-level}
 
 -- where a span stands
-pub place-low : (level : ℕ) → level < 64 → 2 * level ≡ spanPlace level
+pub place-low : (level : ℕ) → level < maxLevels → 2 * level ≡ spanPlace level
 unfolding spanPlace
 place-low level h = omega arith
 
-pub place-high : (level : ℕ) → 64 ≤ level → 128 ≡ spanPlace level
+pub place-high : (level : ℕ) → maxLevels ≤ level → 2 * maxLevels ≡ spanPlace level
 unfolding spanPlace
 place-high level h = omega arith
 
-pub place-le : (level : ℕ) → spanPlace level ≤ 128
+pub place-le : (level : ℕ) → spanPlace level ≤ 2 * maxLevels
 unfolding spanPlace
 place-le level = omega arith
 
@@ -40,11 +41,11 @@ pub widened-more : (s : List ℕ) (l i p : ℕ) → p ≡ spanPlace l → (getD 
 unfolding widened
 widened-more s l i p q e = rw q (sym (rw (ne-eqb _ _ (rw q at e))))
 
-module _ (s : List ℕ) (l i : ℕ) (sized : length s ≡ 130) where
-  widened-sized : length (widened s l i) ≡ 130
+module _ (s : List ℕ) (l i : ℕ) (sized : length s ≡ spanNumbers) where
+  widened-sized : length (widened s l i) ≡ spanNumbers
   widened-sized = go (eqb (getD s (spanPlace l + 1) 0) 0) refl
     where
-      go : (b : Bool) → eqb (getD s (spanPlace l + 1) 0) 0 ≡ b → length (widened s l i) ≡ 130
+      go : (b : Bool) → eqb (getD s (spanPlace l + 1) 0) 0 ≡ b → length (widened s l i) ≡ spanNumbers
       go true e = rw (← (widened-new s l i _ refl (eqb-true _ _ e))) (simp length-set sized)
       go false e = rw (← (widened-more s l i _ refl (eqb-false _ _ e))) (simp length-set sized)
 
@@ -95,7 +96,7 @@ spans-end rows s n i h e =
 
 -- the spans cover the rows of a level, of the first i rows
 record Covers (rows s : List ℕ) (level i : ℕ) : Type 0 where
-  pub sized : length s ≡ 130
+  pub sized : length s ≡ spanNumbers
   pub first-le : getD s (spanPlace level) 0 ≤ i
   pub last-le : getD s (spanPlace level + 1) 0 ≤ i
   pub covered : (j : ℕ) → j < i → cell rows j 0 ≡ level → (getD s (spanPlace level) 0 ≤ j) × (j < getD s (spanPlace level + 1) 0)
@@ -172,10 +173,10 @@ covers-rows (suc left) rows s level i v =
 
 covers-none : (rows : List ℕ) (level : ℕ) → Covers rows noSpans level 0
 covers-none rows level =
-    let f = getD-replicate {A = ℕ} 130 (spanPlace level) 0 0 (omega (arith, place-le level)) in
-    let g = getD-replicate {A = ℕ} 130 (spanPlace level + 1) 0 0 (omega (arith, place-le level)) in
+    let f = getD-replicate {A = ℕ} spanNumbers (spanPlace level) 0 0 (omega (arith, place-le level)) in
+    let g = getD-replicate {A = ℕ} spanNumbers (spanPlace level + 1) 0 0 (omega (arith, place-le level)) in
     record {
-      sized = length-replicate {A = ℕ} 130 0;
+      sized = length-replicate {A = ℕ} spanNumbers 0;
       first-le = omega (arith, f);
       last-le = omega (arith, g);
       covered = λ j lt e. omega arith;

@@ -4,9 +4,9 @@ use mathlib.Core.List.{List, [], _∷_, _++_}
 use lib.ListN.{length, take, drop}
 use lib.Dec.{leb}
 use Rattle.bits.specs.Choice.{if_then_else_}
-unfoldable pub use Rattle.schema.specs.Decimals.{decimal}
+use Rattle.bits.specs.Sizes.{maxName}
+unfoldable pub use Rattle.bits.specs.Decimals.{decimal}
 use Rattle.schema.specs.Tables.{Tables, schemaName, declaredName}
-use Rattle.schema.specs.Layout.{maxName}
 use Rattle.schema.specs.declared.Name.{Name}
 use Rattle.schema.specs.declared.Name.the-variants.{At, Unnamed}
 use Rattle.schema.specs.declared.Label.{Label}

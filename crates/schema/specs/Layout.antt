@@ -5,23 +5,8 @@ use mathlib.Core.List.{List}
 use lib.ListN.{length, getD}
 use lib.Dec.{leb, ltb, eqb}
 use Rattle.bits.specs.Choice.{if_then_else_}
+use Rattle.bits.specs.Sizes.{maxLevels, maxRows, maxHandles, maxName, maxPool}
 use Rattle.schema.specs.Tables.{Tables, absent, rowSize, arrayKind, nameKind, cell, rowCount}
-
--- 01, Sizes
-abbrev pub maxLevels : ℕ
-maxLevels = 64
-
-abbrev pub maxRows : ℕ
-maxRows = 512
-
-abbrev pub maxHandles : ℕ
-maxHandles = 1024
-
-abbrev pub maxName : ℕ
-maxName = 64
-
-abbrev pub maxPool : ℕ
-maxPool = 65536
 
 -- a test holds of the `left` numbers from i on
 unfoldable pub allFrom : (left : ℕ) (test : ℕ → Bool) (i : ℕ) → Bool

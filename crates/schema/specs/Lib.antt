@@ -1,7 +1,6 @@
 pub mod Tables
 pub mod Layout
 pub mod Spans
-pub mod Decimals
 pub mod Labels
 pub mod TwelveLevels
 pub mod SchemaFile

@@ -16,37 +16,37 @@ pub record Stated : Type 0 where
   pub child : Child
   pub name : List ℕ
 
-abbrev pub at : (level handle : ℕ) (child : Child) (name : String) → Stated
-at level handle child name = record { level = level; handle = handle; child = child; name = ascii name }
+abbrev pub states : (level handle : ℕ) (child : Child) (name : String) → Stated
+states level handle child name = record { level = level; handle = handle; child = child; name = ascii name }
 
 abbrev pub stated : List Stated
 stated =
-    at dealtInteraction 44 (Array leavesLevel) "Regions" ∷
-    at receivedInteraction 79 (Array leavesLevel) "Regions" ∷
-    at participant 26 (Array dealtInteraction) "DealtInteractions" ∷
-    at participant 61 (Array receivedInteraction) "ReceivedInteractions" ∷
-    at characterReport 10 (Array participant) "Interactions" ∷
-    at combatRounds 4 (Array characterReport) "Reports" ∷
-    at affectedTarget 19 Leaf "AffectedPlayer" ∷
-    at affectedTarget 20 Leaf "Value" ∷
-    at abilityEffects 14 Leaf "Statistic" ∷
-    at abilityEffects 15 Leaf "LocalizedStat" ∷
-    at abilityEffects 16 Leaf "Value" ∷
-    at abilityEffects 17 Leaf "Time" ∷
-    at abilityEffects 18 (Array affectedTarget) "AffectedTargetsArray" ∷
-    at abilityCasts 13 (Array abilityEffects) "Effects" ∷
-    at lifeChangeDamage 10 Leaf "ChangedComponent" ∷
-    at lifeChangeDamage 11 Leaf "LifeResult" ∷
-    at lifeChangeDamage 12 Leaf "DeltaLife" ∷
-    at lifeChangeDamage 13 Leaf "bAliveAfterChange" ∷
-    at lifeChangeSection 1 Leaf "ChangedComponent" ∷
-    at lifeChangeSection 2 Leaf "LifeResult" ∷
-    at lifeChangeSection 3 Leaf "DeltaLife" ∷
-    at lifeChangeSection 4 Leaf "bAliveAfterChange" ∷
-    at lifeChangeBySection 2 Leaf "ChangedComponent" ∷
-    at lifeChangeBySection 3 Leaf "LifeResult" ∷
-    at lifeChangeBySection 4 Leaf "DeltaLife" ∷
-    at lifeChangeBySection 5 Leaf "bAliveAfterChange" ∷ []
+    states dealtInteraction 44 (Array leavesLevel) "Regions" ∷
+    states receivedInteraction 79 (Array leavesLevel) "Regions" ∷
+    states participant 26 (Array dealtInteraction) "DealtInteractions" ∷
+    states participant 61 (Array receivedInteraction) "ReceivedInteractions" ∷
+    states characterReport 10 (Array participant) "Interactions" ∷
+    states combatRounds 4 (Array characterReport) "Reports" ∷
+    states affectedTarget 19 Leaf "AffectedPlayer" ∷
+    states affectedTarget 20 Leaf "Value" ∷
+    states abilityEffects 14 Leaf "Statistic" ∷
+    states abilityEffects 15 Leaf "LocalizedStat" ∷
+    states abilityEffects 16 Leaf "Value" ∷
+    states abilityEffects 17 Leaf "Time" ∷
+    states abilityEffects 18 (Array affectedTarget) "AffectedTargetsArray" ∷
+    states abilityCasts 13 (Array abilityEffects) "Effects" ∷
+    states lifeChangeDamage 10 Leaf "ChangedComponent" ∷
+    states lifeChangeDamage 11 Leaf "LifeResult" ∷
+    states lifeChangeDamage 12 Leaf "DeltaLife" ∷
+    states lifeChangeDamage 13 Leaf "bAliveAfterChange" ∷
+    states lifeChangeSection 1 Leaf "ChangedComponent" ∷
+    states lifeChangeSection 2 Leaf "LifeResult" ∷
+    states lifeChangeSection 3 Leaf "DeltaLife" ∷
+    states lifeChangeSection 4 Leaf "bAliveAfterChange" ∷
+    states lifeChangeBySection 2 Leaf "ChangedComponent" ∷
+    states lifeChangeBySection 3 Leaf "LifeResult" ∷
+    states lifeChangeBySection 4 Leaf "DeltaLife" ∷
+    states lifeChangeBySection 5 Leaf "bAliveAfterChange" ∷ []
 
 -- What is stated of a handle of a level, and `none` where nothing is.
 abbrev pub about : Stated → (level handle : ℕ) → Bool

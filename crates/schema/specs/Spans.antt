@@ -1,12 +1,12 @@
--- The span of a level's rows: from the first row of the level to the row after its last. Levels from 64 on share one span. A look-up in the
--- span finds what one in the whole table finds (proofs/SpanLaws).
+-- The span of a level's rows: from the first row of the level to the row after its last. Levels that no schema has, from `maxLevels` on, share
+-- one. A look-up in the span finds what one in the whole table finds (proofs/SpanLaws).
 use Prim.Native.Nat.{ℕ, zero, suc, _+_, _*_, min}
 use mathlib.Core.List.{List}
 use lib.ListN.{set, getD, replicate}
 use lib.Dec.{eqb}
 use Rattle.bits.specs.Choice.{if_then_else_}
+use Rattle.bits.specs.Sizes.{maxLevels}
 use Rattle.schema.specs.Tables.{cell, arrayKind, nameKind, childAt, nameAt, rowCount, rowIn, child, schemaName}
-use Rattle.schema.specs.Layout.{maxLevels}
 use Rattle.schema.specs.declared.Entry.{Entry}
 
 -- what the schema says of a handle of a level
@@ -18,10 +18,14 @@ unfoldable pub entryIn : (rows : List ℕ) (first last level handle : ℕ) → E
 entryIn rows first last level handle =
     record { child = childAt rows (rowIn rows first last level arrayKind handle); name = nameAt rows (rowIn rows first last level nameKind handle) }
 
--- two numbers a span: the first row and the row after the last, both 0 where there is none; and where they stand
-abbrev pub noSpans : List ℕ
-noSpans = replicate (2 * maxLevels + 2) 0
+-- two numbers a span: the first row and the row after the last, both 0 where there is none
+abbrev pub spanNumbers : ℕ
+spanNumbers = 2 * maxLevels + 2
 
+abbrev pub noSpans : List ℕ
+noSpans = replicate spanNumbers 0
+
+-- where they stand
 unfoldable pub spanPlace : (level : ℕ) → ℕ
 spanPlace level = 2 * min level maxLevels
 

@@ -7,9 +7,9 @@ ghost use Rattle.schema.specs.Labels.{bySchema, byDeclaration, container
 use crate::Entry;
 use crate::Label;
 use crate::Name;
-use crate::decimal::decimal_length;
 use crate::lookup::declared_name;
 use crate::lookup::name_of;
+use bits::digits::decimal_length;
 
 // The label that the schema's name gives.
 fn by_schema(name: Name) -> Label
@@ -39,7 +39,7 @@ pub fn container_label_from(entry: Entry) -> Label
     by_schema(name)
 }
 
-// The label of a leaf whose entry is known.
+// The label of a leaf whose entry is known. A declared row that starts at 4294967295 (ABSENT) declares no name.
 pub fn leaf_label_from(entry: Entry, declared: &[u32], handle: u32) -> Label
     ensures { λ r. ⌜ r ≡ byDeclaration (declaredName (now (declared .entry)) handle) (bySchema (entry .name)) ⌝ }
 {
@@ -49,7 +49,7 @@ pub fn leaf_label_from(entry: Entry, declared: &[u32], handle: u32) -> Label
     by_declaration(own, other)
 }
 
-// A container's label.
+// A container's label. Level 4294967295 (ABSENT), where no schema is lent, has no row.
 pub fn container_label(rows: &[u32], level: u32, handle: u32) -> Label
     ensures { λ r. ⌜ r ≡ containerLabel (lookUps (now (rows .entry)) []) level handle ⌝ }
 {
@@ -57,7 +57,7 @@ pub fn container_label(rows: &[u32], level: u32, handle: u32) -> Label
     by_schema(name)
 }
 
-// A leaf's label.
+// A leaf's label. A declared row that starts at 4294967295 (ABSENT) declares no name.
 pub fn label_of(rows: &[u32], declared: &[u32], level: u32, handle: u32) -> Label
     ensures { λ r. ⌜ r ≡ leafLabel (lookUps (now (rows .entry)) (now (declared .entry))) level handle ⌝ }
 {
@@ -93,12 +93,12 @@ fn part_of<'a>(pool: &'a [u8], start: u32, len: u32) -> &'a [u8]
 }
 
 // The part of the one pool or the other that a label names; none for a plain label, and where it does not lie in its pool.
-pub fn label_part<'a>(declared_pool: &'a [u8], schema_pool: &'a [u8], label: Label) -> &'a [u8]
-    ensures { λ r. ⌜ now r ≡ labelPart (now («declared_pool» .entry)) (now («schema_pool» .entry)) label ⌝ }
+pub fn label_part<'a>(declared_names: &'a [u8], names: &'a [u8], label: Label) -> &'a [u8]
+    ensures { λ r. ⌜ now r ≡ labelPart (now («declared_names» .entry)) (now (names .entry)) label ⌝ }
 {
     match label {
-        Label::Declared(start, len) => part_of(declared_pool, start, len),
-        Label::Named(start, len) => part_of(schema_pool, start, len),
-        Label::Plain => &schema_pool[0..0],
+        Label::Declared(start, len) => part_of(declared_names, start, len),
+        Label::Named(start, len) => part_of(names, start, len),
+        Label::Plain => &names[0..0],
     }
 }

@@ -9,17 +9,11 @@ use crate::ARRAY_KIND;
 use crate::NAME_KIND;
 use crate::ROW_SIZE;
 use crate::lookup::cell_at;
-
-// The sizes of document 01.
-const MAX_LEVELS: u32 = 64;
-
-const MAX_ROWS: usize = 512;
-
-const MAX_HANDLES: usize = 1024;
-
-const MAX_NAME: u32 = 64;
-
-const MAX_POOL: usize = 65536;
+use bits::sizes::MAX_HANDLES;
+use bits::sizes::MAX_LEVELS;
+use bits::sizes::MAX_NAME;
+use bits::sizes::MAX_POOL;
+use bits::sizes::MAX_ROWS;
 
 // Whether a name lies in a pool of so many bytes.
 fn name_fits(pool: usize, start: u32, len: u32) -> bool
@@ -169,7 +163,8 @@ fn declared_is_laid(declared: &[u32], pool: usize) -> bool
     handles_are_laid(declared, pool)
 }
 
-// Whether the tables keep their layout; false is refusal 2.
+// Whether the tables keep their layout; false is refusal 2. A root of 4294967295 (ABSENT) says that there is no schema, and a
+// declared row that starts there, with length 0, that its handle has no declared name; the tables are looked at all the same.
 pub fn check_tables(
     rows: &[u32],
     levels: u32,
@@ -178,7 +173,8 @@ pub fn check_tables(
     declared: &[u32],
     declared_names: &[u8],
 ) -> bool
-    ensures { λ r. ⌜ r ≡ laidOut (tables (now (rows .entry)) (now (names .entry)) (now (declared .entry)) (now («declared_names» .entry))) levels root ⌝ }
+    ensures { λ r. ⌜ r ≡ laidOut
+        (tables (now (rows .entry)) (now (names .entry)) (now (declared .entry)) (now («declared_names» .entry))) levels root ⌝ }
 {
     if !schema_is_laid(rows, levels, root, names.len()) {
         return false;

@@ -4,10 +4,10 @@
 // a; kind 1 that its name stands at a in the name pool, b bytes long. A declared row is a handle's start and length in the
 // declared name pool. Every public call takes any tables.
 
-pub mod decimal;
 pub mod labels;
 pub mod layout;
 pub mod lookup;
+pub mod said;
 pub mod spans;
 mod table;
 pub mod twelve;

@@ -94,7 +94,8 @@ pub fn name_of(rows: &[u32], level: u32, handle: u32) -> Name
     }
 }
 
-// Where the declared name of a handle stands in its pool. A handle past the table has none.
+// Where the declared name of a handle stands in its pool. A handle past the table has none, nor has one whose row starts at
+// 4294967295 (ABSENT).
 pub fn declared_name(declared: &[u32], handle: u32) -> Name
     ensures { λ r. ⌜ r ≡ declaredName (now (declared .entry)) handle ⌝ }
 {

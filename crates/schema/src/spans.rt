@@ -3,6 +3,7 @@ ghost use mathlib.Core.Path.{_≡_};
 ghost use Prim.Native.Nat.{_+_, _-_, _*_, _^_, _≤_, _<_};
 ghost use lib.Dec.{eqb};
 ghost use lib.ListN.{length};
+ghost use Rattle.bits.specs.Sizes.{maxLevels};
 ghost use Rattle.schema.specs.Tables.{rowSize, fits, arrayKind, nameKind};
 ghost use Rattle.schema.specs.Spans.{spanPlace, widened, spansOf, entryIn, entryAt};
 use crate::ARRAY_KIND;
@@ -13,18 +14,22 @@ use crate::Name;
 use crate::ROW_SIZE;
 use crate::lookup::cell_at;
 use crate::lookup::clipped;
+use bits::sizes::MAX_LEVELS;
 
 // A kind that no row has.
 const NO_KIND: u32 = 2;
 
-// Where the span of the levels from 64 on stands.
-const SHARED: usize = 128;
+// Where the one span of all levels that a schema may not have stands.
+const SHARED: usize = 2 * (MAX_LEVELS as usize);
+
+// The numbers of all spans.
+pub const SPAN_NUMBERS: usize = SHARED + 2;
 
 // Where the span of a level stands.
 fn place_of(level: u32) -> usize
-    ensures { λ r. ⌜ (r ≡ spanPlace level) × (r ≤ 128) ⌝ }
+    ensures { λ r. ⌜ (r ≡ spanPlace level) × (r ≤ 2 * maxLevels) ⌝ }
 {
-    if level < 64 {
+    if level < MAX_LEVELS {
         2 * (level as usize)
     } else {
         SHARED
@@ -32,7 +37,7 @@ fn place_of(level: u32) -> usize
 }
 
 // Row i of a level widens its span.
-fn widen(spans: &mut [usize; 130], level: u32, i: usize)
+fn widen(spans: &mut [usize; SPAN_NUMBERS], level: u32, i: usize)
     requires { ⌜ i < 2 ^ 64 - 1 ⌝ }
     ensures { λ _. ⌜ now (spans .exit) ≡ widened (now (spans .entry)) level i ⌝ }
 {
@@ -47,10 +52,10 @@ fn widen(spans: &mut [usize; 130], level: u32, i: usize)
 }
 
 // The span of each level.
-pub fn level_spans(rows: &[u32]) -> [usize; 130]
+pub fn level_spans(rows: &[u32]) -> [usize; SPAN_NUMBERS]
     ensures { λ r. ⌜ r ≡ spansOf (now (rows .entry)) ⌝ }
 {
-    let mut spans = [0usize; 130];
+    let mut spans = [0usize; SPAN_NUMBERS];
     let n = rows.len() / ROW_SIZE;
     let mut i: usize = 0;
     while i < n {
@@ -64,7 +69,8 @@ pub fn level_spans(rows: &[u32]) -> [usize; 130]
 // The kind of row i where its level and handle are these; else none.
 fn kind_at(rows: &[u32], i: usize, level: u32, handle: u32) -> u32
     requires { ⌜ rowSize * i + rowSize ≤ length (now rows) ⌝ }
-    ensures { λ r. ⌜ (eqb r arrayKind ≡ fits (now (rows .entry)) level arrayKind handle i) × (eqb r nameKind ≡ fits (now (rows .entry)) level nameKind handle i) ⌝ }
+    ensures { λ r. ⌜ (eqb r arrayKind ≡ fits (now (rows .entry)) level arrayKind handle i)
+        × (eqb r nameKind ≡ fits (now (rows .entry)) level nameKind handle i) ⌝ }
 {
     if cell_at(rows, i, 2) != handle {
         return NO_KIND;
@@ -101,7 +107,7 @@ pub fn entry_in(rows: &[u32], first: usize, last: usize, level: u32, handle: u32
 }
 
 // What the rows of a level's span say of a handle.
-pub fn entry_of(rows: &[u32], spans: &[usize; 130], level: u32, handle: u32) -> Entry
+pub fn entry_of(rows: &[u32], spans: &[usize; SPAN_NUMBERS], level: u32, handle: u32) -> Entry
     ensures { λ r. ⌜ r ≡ entryAt (now (rows .entry)) (now (spans .entry)) level handle ⌝ }
 {
     let at = place_of(level);

@@ -1,7 +1,9 @@
 // The rows of the twelve levels, and their names one behind the other.
+use crate::twelve::NAME_BYTES;
+use crate::twelve::ROW_NUMBERS;
 
 // Five numbers a row: level, kind, handle, a, b.
-pub(crate) const ROWS: [u32; 170] = [
+pub(crate) const ROWS: [u32; ROW_NUMBERS] = [
     1,
     0,
     4,
@@ -174,5 +176,5 @@ pub(crate) const ROWS: [u32; 170] = [
     5,
 ];
 
-pub(crate) const NAMES: [u8; 187] =
+pub(crate) const NAMES: [u8; NAME_BYTES] =
     *b"ReportsEffectsStatisticLocalizedStatValueTimeAffectedTargetsArrayChangedComponentLifeResultDeltaLifebAliveAfterChangeRegionsDealtInteractionsReceivedInteractionsInteractionsAffectedPlayer";

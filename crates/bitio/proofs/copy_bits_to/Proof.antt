@@ -41,8 +41,9 @@ same-length c = search needs
 
 returns-2 : tie.Need-returns-2
 returns-2 c =
-    let a = c .before .before .before .before .before .before .before .args in
-    let p = copy-small (a .bytes .now) (a .c) (a .count) (a .dst .now) (fine (c .before .before .before)) (omega arith) in
+    let at-else1 = c .before .before .before in
+    let a = at-else1 .before .before .before .before .args in
+    let p = copy-small (a .bytes .now) (a .c) (a .count) (a .dst .now) (fine at-else1) (omega arith) in
     (ap (λ (n : ℕ). Refused (Past (a .count) n)) (c .bits-of .ensures) ∙ sym (p .0), sym (p .1))
 
 sub-if3 : tie.Need-sub-if3
@@ -50,9 +51,11 @@ sub-if3 c = good-le _ _ (fine (c .before)) .0
 
 returns-3 : tie.Need-returns-3
 returns-3 c =
-    let l = good-le _ _ (fine (c .before .before)) in
-    let a = c .before .before .before .before .before .before .args in
-    let p = copy-few (a .bytes .now) (a .c) (a .count) (a .dst .now) (fine (c .before .before)) (omega arith) (omega arith) in
+    let at-else1 = c .before .before in
+    let g = fine at-else1 in
+    let l = good-le _ _ g in
+    let a = at-else1 .before .before .before .before .args in
+    let p = copy-few (a .bytes .now) (a .c) (a .count) (a .dst .now) g (omega arith) (omega arith) in
     (sym (p .0), sym (p .1))
 
 add-copy-field : tie.Need-add-copy-field
@@ -69,11 +72,30 @@ same-length-2 c = search needs
 
 returns-4 : tie.Need-returns-4
 returns-4 c =
-    let g = fine (c .before .before .before .before .before .before) in
+    let copied = c .before .before in
+    let at-else1 = copied .before .before .before .before in
+    let g = fine at-else1 in
     let l = good-le _ _ g in
-    let a = c .before .before .before .before .before .before .before .before .before .before .args in
+    let a = at-else1 .before .before .before .before .args in
     let p = copy-done (a .bytes .now) (a .c) (a .count) (a .dst .now) g (omega arith) (omega arith) in
-    (sym (p .0), c .before .before .copy-field .ensures ∙ sym (p .1))
+    (sym (p .0), copied .copy-field .ensures ∙ sym (p .1))
 
 pub copy-bits-to-spec : {M : Type 1} → statement M
-copy-bits-to-spec = tie.close (tie.spec is-good-requires bad-cursor-requires returns add-needed add-needed-2 bits-of-requires same-length returns-2 sub-if3 returns-3 add-copy-field copy-field-requires add-next same-length-2 returns-4)
+copy-bits-to-spec =
+    tie.close
+    (tie.spec
+    is-good-requires
+    bad-cursor-requires
+    returns
+    add-needed
+    add-needed-2
+    bits-of-requires
+    same-length
+    returns-2
+    sub-if3
+    returns-3
+    add-copy-field
+    copy-field-requires
+    add-next
+    same-length-2
+    returns-4)

@@ -1,7 +1,6 @@
 -- `bitio::open` meets its contract: 1, then 14, then the reader.
 use borrow.Author.Needs.{needs}
-use mathlib.Core.Path.{_≡_, sym, ap, _∙_}
-use native.Mathlib.Omega.{arith}
+use mathlib.Core.Path.{ap}
 use Prim.Native.Nat.{ℕ}
 use borrow.Author.Tests.{le-ltb, lt-ltb}
 use Rattle.bitio.specs.Cursors.{opened}
@@ -9,6 +8,9 @@ use Rattle.bitio.specs.declared.Opened.the-variants.{Refused}
 use Rattle.bitio.specs.declared.Refusal.the-variants.{Past}
 use Rattle.bitio.proofs.open.Statement.{statement}
 use Rattle.bitio.proofs.open.Tie as tie
+
+cast-if1 : tie.Need-cast-if1
+cast-if1 c = search needs
 
 returns : tie.Need-returns
 unfolding opened
@@ -32,4 +34,4 @@ returns-3 c =
     simp (le-ltb _ _ (c .before .before .if1 .left), le-ltb _ _ (rw e at h))
 
 pub open-spec : {M : Type 1} → statement M
-open-spec = tie.close (tie.spec returns bits-of-requires returns-2 returns-3)
+open-spec = tie.close (tie.spec cast-if1 returns bits-of-requires returns-2 returns-3)

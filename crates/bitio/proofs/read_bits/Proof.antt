@@ -51,12 +51,25 @@ add-next c = search needs
 returns-4 : tie.Need-returns-4
 unfolding readBits
 returns-4 c =
-    let g = fine (c .before .before .before) in
+    let at-else1 = c .before .before .before in
+    let g = fine at-else1 in
     let l = good-le _ _ g in
-    let a = c .before .before .before .before .before .before .args in
+    let a = at-else1 .before .before .before .args in
     ap (λ (x : ℕ). Value x (a .c .pos + a .count))
     (c .field-of .ensures ∙ sym (window-field (a .bytes .now) (a .c) (a .c .pos) (a .count) (omega arith)))
     ∙ sym (at-good _ _ Refused _ g ∙ simp (le-ltb _ _ (c .before .before .if2 .left)) (asking-enough _ _ _ _ _ (omega arith)))
 
 pub read-bits-spec : {M : Type 1} → statement M
-read-bits-spec = tie.close (tie.spec is-good-requires bad-cursor-requires returns returns-2 sub-if3 returns-3 add-field-of field-of-requires add-next returns-4)
+read-bits-spec =
+    tie.close
+    (tie.spec
+    is-good-requires
+    bad-cursor-requires
+    returns
+    returns-2
+    sub-if3
+    returns-3
+    add-field-of
+    field-of-requires
+    add-next
+    returns-4)

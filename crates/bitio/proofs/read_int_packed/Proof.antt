@@ -6,7 +6,6 @@ use Prim.Native.Nat.{ℕ, _+_, _*_, _≤_}
 use native.Mathlib.Omega.{arith}
 use Rattle.bitio.proofs.CursorLaws.{bad-way, at-good, passed, good-le}
 use Rattle.bitio.proofs.ReadLaws.{packed-here}
-use Rattle.bits.specs.Packed.{packed}
 use Rattle.bits.proofs.PackedLaws.{whole-within, cut-within}
 use Rattle.bits.specs.declared.Packed.{Packed}
 use Rattle.bits.specs.declared.Packed.the-variants.{Whole, Cut}
@@ -39,19 +38,27 @@ packed-at-requires : tie.Need-packed-at-requires
 packed-at-requires c κs = let l = good-le _ _ (fine c) in omega arith
 
 -- what was found is the answer's number
-found-is : (c : tie.After-packed-at) (r : Packed) → c .packed-at .result ≡ r → packedAnswer (c .before .before .before .before .args .c .len) (c .before .before .before .before .args .c .pos) r ≡ readIntPacked (c .before .before .before .before .args .bytes .now) (c .before .before .before .before .args .c)
+found-is : (c : tie.After-packed-at) (r : Packed) → c .packed-at .result ≡ r →
+    let a = c .before .before .before .before .args in
+    packedAnswer (a .c .len) (a .c .pos) r ≡ readIntPacked (a .bytes .now) (a .c)
 found-is c r e = sym (at-good _ _ Refused _ (fine (c .before)) ∙ ap (packedAnswer _ _) (packed-here _ _ ∙ sym (c .packed-at .ensures) ∙ e))
 
 -- and it ends in the window
-ends : (c : tie.After-packed-at) (n : ℕ) → c .before .before .before .before .args .c .start + c .before .before .before .before .args .c .pos + 8 * n ≤ c .before .before .before .before .args .c .start + c .before .before .before .before .args .c .len → c .before .before .before .before .args .c .pos + 8 * n ≤ bitsOf (c .before .before .before .before .args .bytes .now)
+ends : (c : tie.After-packed-at) (n : ℕ) →
+    let a = c .before .before .before .before .args in
+    a .c .start + a .c .pos + 8 * n ≤ a .c .start + a .c .len → a .c .pos + 8 * n ≤ bitsOf (a .bytes .now)
 ends c n h = let l = good-le _ _ (fine (c .before)) in omega arith
 
-whole-ends : (c : tie.After-packed-at) (v n : ℕ) → c .packed-at .result ≡ Whole v n → c .before .before .before .before .args .c .pos + 8 * n ≤ bitsOf (c .before .before .before .before .args .bytes .now)
+whole-ends : (c : tie.After-packed-at) (v n : ℕ) → c .packed-at .result ≡ Whole v n →
+    let a = c .before .before .before .before .args in
+    a .c .pos + 8 * n ≤ bitsOf (a .bytes .now)
 whole-ends c v n e =
     let l = good-le _ _ (fine (c .before)) in
     ends c n (whole-within _ _ _ (omega arith) v n (sym (c .packed-at .ensures) ∙ e))
 
-cut-ends : (c : tie.After-packed-at) (n : ℕ) → c .packed-at .result ≡ Cut n → c .before .before .before .before .args .c .pos + 8 * n ≤ bitsOf (c .before .before .before .before .args .bytes .now)
+cut-ends : (c : tie.After-packed-at) (n : ℕ) → c .packed-at .result ≡ Cut n →
+    let a = c .before .before .before .before .args in
+    a .c .pos + 8 * n ≤ bitsOf (a .bytes .now)
 cut-ends c n e =
     let l = good-le _ _ (fine (c .before)) in
     ends c n (cut-within _ _ _ (omega arith) n (sym (c .packed-at .ensures) ∙ e))
@@ -97,4 +104,24 @@ unfolding packedAnswer
 returns-5 c = found-is (c .before .before) _ (c .enum-told2 .given .1)
 
 pub read-int-packed-spec : {M : Type 1} → statement M
-read-int-packed-spec = tie.close (tie.spec is-good-requires bad-cursor-requires returns add-at add-end packed-at-requires enum-known-found mul-next add-next enum-known-found-2 mul-stop add-stop enum-told enum-told-2 returns-2 returns-3 returns-4 returns-5)
+read-int-packed-spec =
+    tie.close
+    (tie.spec
+    is-good-requires
+    bad-cursor-requires
+    returns
+    add-at
+    add-end
+    packed-at-requires
+    enum-known-found
+    mul-next
+    add-next
+    enum-known-found-2
+    mul-stop
+    add-stop
+    enum-told
+    enum-told-2
+    returns-2
+    returns-3
+    returns-4
+    returns-5)

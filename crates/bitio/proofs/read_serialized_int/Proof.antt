@@ -1,6 +1,6 @@
 -- `bitio::read_serialized_int` meets its contract: the low bits are read, and the top bit where the maximum leaves it open.
 use borrow.Author.Needs.{needs}
-use mathlib.Core.Path.{_≡_, sym, ap, _∙_}
+use mathlib.Core.Path.{_≡_, sym, _∙_}
 use mathlib.Core.Bool.{true}
 use mathlib.Core.List.{List}
 use Prim.Native.Nat.{ℕ, _+_, _*_, _%_, _^_, _≤_, _<_}
@@ -30,7 +30,9 @@ returns c = bad-way _ _ Refused _ _ _ (c .before .before .is-good .ensures) (c .
 fine : (c : tie.Else1) → good (c .before .before .before .args .bytes .now) (c .before .before .before .args .c) ≡ true
 fine c = passed _ _ _ (c .before .is-good .ensures) (c .if1 .left)
 
-inside : (c : tie.Else1) (m : ℕ) → serializedAt (window (c .before .before .before .args .bytes .now) (c .before .before .before .args .c)) (c .before .before .before .args .c .len) m (c .before .before .before .args .c .pos) ≡ readSerializedInt (c .before .before .before .args .bytes .now) (c .before .before .before .args .c) m
+inside : (c : tie.Else1) (m : ℕ) →
+    let a = c .before .before .before .args in
+    serializedAt (window (a .bytes .now) (a .c)) (a .c .len) m (a .c .pos) ≡ readSerializedInt (a .bytes .now) (a .c) m
 inside c m = sym (at-good _ _ Refused _ (fine c))
 
 returns-2 : tie.Need-returns-2
@@ -80,14 +82,17 @@ low c =
     }
 
 rest : (c : tie.After-field-of) →
-    let a = c .before .before .before .before .before .before .before .args in
-    let w = c .before .before .log2-of .result in
+    let sized = c .before .before in
+    let a = sized .before .before .before .before .before .args in
+    let w = sized .log2-of .result in
     serializedTop (window (a .bytes .now) (a .c)) (a .c .len) (a .max) w (c .field-of .result) (a .c .pos + w) ≡ readSerializedInt (a .bytes .now) (a .c) (a .max)
 rest c =
-    let a = c .before .before .before .before .before .before .before .args in
+    let at-if2 = c .before .before .before in
+    let at-else1 = at-if2 .before in
+    let a = at-else1 .before .before .before .args in
     let k = known (c .before .before) in
     let e = c .field-of .ensures ∙ sym (window-field (a .bytes .now) (a .c) (a .c .pos) (c .before .before .log2-of .result) (omega arith)) in
-    rw (e, k .width-is) (sym (serialized-low _ _ _ _ (c .before .before .before .if2 .left) (omega arith)) ∙ inside (c .before .before .before .before) _)
+    rw (e, k .width-is) (sym (serialized-low _ _ _ _ (at-if2 .if2 .left) (omega arith)) ∙ inside at-else1 _)
 
 sub-if3 : tie.Need-sub-if3
 sub-if3 c = good-le _ _ (fine (c .before .before)) .0
@@ -136,8 +141,9 @@ record Top (W pos width bit v : ℕ) : Type 0 where
   pub fits : v + bit * 2 ^ width < 2 ^ 32
 
 top : (c : tie.After-field-of2) →
-    let a = c .before .before .before .before .before .before .before .before .before .before .args in
-    let w = c .before .before .before .before .before .log2-of .result in
+    let sized = c .before .before .before .before .before in
+    let a = sized .before .before .before .before .before .args in
+    let w = sized .log2-of .result in
     Top (window (a .bytes .now) (a .c)) (a .c .pos + w) w (c .field-of2 .result) (c .before .before .before .field-of .result)
 top c =
     let k = known (c .before .before .before .before .before) in
@@ -169,4 +175,29 @@ returns-6 c =
     (rw (top c .bit-is) (sym (top-open _ _ _ _ _ _ (omega (arith, low (c .before .before .before))) (omega arith))) ∙ rest (c .before .before .before))
 
 pub read-serialized-int-spec : {M : Type 1} → statement M
-read-serialized-int-spec = tie.close (tie.spec is-good-requires bad-cursor-requires returns returns-2 log2-of-requires sub-if3 returns-3 add-field-of field-of-requires add-at shl-top add-if4 cast-small returns-4 sub-if5 returns-5 add-field-of-2 field-of-requires-2 shl-high add-both cast-both add-end returns-6)
+read-serialized-int-spec =
+    tie.close
+    (tie.spec
+    is-good-requires
+    bad-cursor-requires
+    returns
+    returns-2
+    log2-of-requires
+    sub-if3
+    returns-3
+    add-field-of
+    field-of-requires
+    add-at
+    shl-top
+    add-if4
+    cast-small
+    returns-4
+    sub-if5
+    returns-5
+    add-field-of-2
+    field-of-requires-2
+    shl-high
+    add-both
+    cast-both
+    add-end
+    returns-6)

@@ -19,7 +19,10 @@ enum-known-opened-2 c = search needs
 
 returns : tie.Need-returns
 unfolding inReader
-returns c = c .read-record .ensures ∙ sym (ap (inReader (c .before .before .before .before .before .before .args .bytes .now) (c .before .before .before .before .before .before .args .rotation) (c .before .before .before .before .before .before .args .location)) (sym (c .before .before .before .before .«open» .ensures) ∙ c .before .before .opened .given .1))
+returns c =
+    let at-entry = c .before .before .before .before in
+    let a = at-entry .before .before .args in
+    c .read-record .ensures ∙ sym (ap (inReader (a .bytes .now) (a .rotation) (a .location)) (sym (at-entry .«open» .ensures) ∙ c .before .before .opened .given .1))
 
 returns-2 : tie.Need-returns-2
 unfolding inReader

@@ -1,3 +1,4 @@
+-- `bits::copy::copy_field` meets its contract: the whole words are there, and the bits behind them make the last bytes (`words-end`).
 use Rattle.bits.proofs.RunLaws.{words-end}
 use native.Mathlib.Omega.{arith}
 use borrow.Author.Needs.{needs}
@@ -30,9 +31,10 @@ same-length c = search needs
 
 returns : tie.Need-returns
 returns c =
-    words-end _ _ _ _ _ _ _ (c .before .before .before .before .field-of .ensures)
-    (c .before .before .before .before .before .before .before .copy-words .ensures)
-    (c .before .before .store-tail .ensures)
+    let stored = c .before .before in
+    let read = stored .before .before in
+    let copied = read .before .before .before in
+    words-end _ _ _ _ _ _ _ (read .field-of .ensures) (copied .copy-words .ensures) (stored .store-tail .ensures)
 
 pub copy-field-spec : {M : Type 1} → statement M
 copy-field-spec =

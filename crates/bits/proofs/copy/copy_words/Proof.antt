@@ -1,3 +1,4 @@
+-- `bits::copy::copy_words` meets its contract: behind k words the buffer holds the first 8 k bytes of the field, and each turn adds a word.
 use native.Mathlib.Omega.{arith}
 use mathlib.Core.Path.{_≡_, refl, _∙_}
 use mathlib.Core.List.{List}
@@ -46,11 +47,13 @@ loop-less c = omega arith
 
 loop-again : tie.Need-loop-again Inv-loop μ-loop
 loop-again c =
-    let l = c .before .before .before .before .before .before .loop in
+    let stored = c .before .before in
+    let read = stored .before .before in
+    let l = read .before .before .loop in
     record {
       below = omega arith;
-      same = c .before .before .store64 .kept .0 ∙ l .inv .same;
-      now-is = words-more _ _ _ _ _ _ _ _ (omega arith) (c .before .before .before .before .word-at .ensures) (l .inv .now-is) (c .before .before .store64 .ensures);
+      same = stored .store64 .kept .0 ∙ l .inv .same;
+      now-is = words-more _ _ _ _ _ _ _ _ (omega arith) (read .word-at .ensures) (l .inv .now-is) (stored .store64 .ensures);
     }
 
 same-length : tie.Need-same-length Inv-loop μ-loop

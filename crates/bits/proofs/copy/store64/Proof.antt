@@ -1,3 +1,4 @@
+-- `bits::copy::store64` meets its contract: eight bytes set one after the other are the run of the word's bytes (`put-word`).
 use native.Mathlib.Omega.{arith}
 use lib.ListN.{length-set}
 use Rattle.bits.proofs.RunLaws.{put-word}

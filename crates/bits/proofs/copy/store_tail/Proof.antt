@@ -1,3 +1,4 @@
+-- `bits::copy::store_tail` meets its contract: j bytes are stored, and v is what is left of w above them.
 use native.Mathlib.Omega.{arith}
 use mathlib.Core.Path.{_≡_, refl, sym}
 use mathlib.Core.List.{List}

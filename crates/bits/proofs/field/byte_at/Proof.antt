@@ -1,3 +1,4 @@
+-- `bits::field::byte_at` meets its contract: a byte from a byte's first bit is that byte, another one lies inside two (`inside`).
 use native.Mathlib.Omega.{arith}
 use Rattle.bits.proofs.FieldLaws.{placed, inside}
 use borrow.Author.Needs.{needs}

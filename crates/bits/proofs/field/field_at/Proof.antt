@@ -1,3 +1,5 @@
+-- `bits::field::field_at` meets its contract: the field lies in the eight bytes from its first one on (`one-word`), or a ninth holds the rest
+-- (`two-words`).
 use native.Mathlib.Omega.{arith}
 use Rattle.bits.proofs.WordLaws.{one-word, two-words}
 use borrow.Author.Needs.{needs}

@@ -1,3 +1,4 @@
+-- `bits::field::field_of` meets its contract: a field of no bits is 0.
 use Rattle.bits.proofs.FieldLaws.{field-empty}
 use borrow.Author.Needs.{needs}
 use Rattle.bits.proofs.field.field_of.Statement.{statement}

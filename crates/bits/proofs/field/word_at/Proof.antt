@@ -1,3 +1,4 @@
+-- `bits::field::word_at` meets its contract: a word from a byte's first bit is eight bytes, another one has its top bits in the ninth (`whole`).
 use native.Mathlib.Omega.{arith}
 use Rattle.bits.proofs.FieldLaws.{placed}
 use Rattle.bits.proofs.WordLaws.{whole}

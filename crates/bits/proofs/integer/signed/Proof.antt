@@ -1,14 +1,13 @@
 -- `bits::signed` meets its contract: the shift is half of 2 ^ w, and the difference of the rest and that half is raw less 2 ^ w.
 -- Assumes nothing.
-use mathlib.Core.Path.{_≡_, sym, ap, _∙_, subst}
+use mathlib.Core.Path.{_≡_, sym, _∙_}
 use Prim.Native.Nat.{ℕ, _-_, _*_, _%_, _^_, _≤_, _<_}
 use native.Mathlib.Omega.{arith}
 use borrow.Author.Needs.{needs}
-use lib.IntN.{ℤ, pos, subℕ, _-ℤ_}
-use mir.Val.{SFits, toZ, ofZ}
+use lib.IntN.{ℤ, subℕ, _-ℤ_}
+use mir.Val.{SFits, toZ}
 use mir.Syntax.{w64}
 use mir.Facts.{toZ-pos, toZ-ofZ}
-use Rattle.bits.specs.TwosComplement.{twos}
 use Rattle.bits.proofs.TwosLaws.{sub-is, sub-fits, half-is, half-small, twice, twos-low, twos-high}
 use Rattle.bits.proofs.integer.signed.Statement.{statement}
 use Rattle.bits.proofs.integer.signed.Tie as tie

@@ -2,9 +2,7 @@
 use borrow.Author.Needs.{needs}
 use mathlib.Core.Path.{refl}
 use native.Mathlib.Omega.{arith}
-use denote.Ref.{now}
 use Rattle.bits.proofs.FieldLaws.{bound, joined}
-use Rattle.bits.specs.Bits.{num}
 use Rattle.bits.proofs.load.load64.Statement.{statement}
 use Rattle.bits.proofs.load.load64.Tie as tie
 

@@ -1,3 +1,4 @@
+-- `bits::load::load_tail` meets its contract: the last eight bytes, shifted, are the bytes from i on with zeros above them (`tail-word`).
 use native.Mathlib.Omega.{arith}
 use Rattle.bits.proofs.WordLaws.{tail-word}
 use Rattle.bits.proofs.FieldLaws.{num-lt}

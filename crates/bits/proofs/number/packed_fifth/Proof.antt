@@ -2,7 +2,6 @@
 use borrow.Author.Needs.{needs}
 use mathlib.Core.Path.{sym}
 use native.Mathlib.Omega.{arith}
-use Rattle.bits.proofs.FieldLaws.{bound}
 use Rattle.bits.proofs.PackedLaws.{byte-cut, fifth-goes-on, fifth-over, fifth-ends}
 use Rattle.bits.proofs.number.packed_fifth.Statement.{statement}
 use Rattle.bits.proofs.number.packed_fifth.Tie as tie

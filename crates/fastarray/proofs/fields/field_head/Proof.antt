@@ -35,8 +35,12 @@ cast-wide c = search needs
 
 returns-2 : tie.Need-returns-2
 returns-2 c =
-    let h = taken-within _ _ _ _ _ (sym (c .before .before .before .before .number-of2 .ensures) ∙ c .before .before .second .given .1) in
-    sym (head-past _ _ _ _ _ (sym (c .before .before .before .before .before .before .before .before .before .number-of .ensures) ∙ c .before .before .before .before .before .before .before .first .given .1) _ _ (c .before .before .before .before .before .if1 .left) (sym (c .before .before .before .before .number-of2 .ensures) ∙ c .before .before .second .given .1) (omega arith))
+    let at-number-of2 = c .before .before .before .before in
+    let at-if1 = at-number-of2 .before in
+    let at-first = at-if1 .before .before in
+    let at-number-of = at-first .before .before in
+    let h = taken-within _ _ _ _ _ (sym (at-number-of2 .number-of2 .ensures) ∙ c .before .before .second .given .1) in
+    sym (head-past _ _ _ _ _ (sym (at-number-of .number-of .ensures) ∙ at-first .first .given .1) _ _ (at-if1 .if1 .left) (sym (at-number-of2 .number-of2 .ensures) ∙ c .before .before .second .given .1) (omega arith))
 
 sub-handle : tie.Need-sub-handle
 sub-handle c = search needs
@@ -45,12 +49,36 @@ returns-3 : tie.Need-returns-3
 returns-3 c = sym (head-broken _ _ _ (sym (c .before .before .number-of .ensures) ∙ c .enum-told .given .1))
 
 returns-4 : tie.Need-returns-4
-returns-4 c = sym (head-no-width _ _ _ _ _ (sym (c .before .before .before .before .before .before .before .number-of .ensures) ∙ c .before .before .before .before .before .first .given .1) (c .before .before .before .if1 .left) (sym (c .before .before .number-of2 .ensures) ∙ c .enum-told2 .given .1))
+returns-4 c =
+    let at-if1 = c .before .before .before in
+    let at-first = at-if1 .before .before in
+    let at-number-of = at-first .before .before in
+    sym (head-no-width _ _ _ _ _ (sym (at-number-of .number-of .ensures) ∙ at-first .first .given .1) (at-if1 .if1 .left) (sym (c .before .before .number-of2 .ensures) ∙ c .enum-told2 .given .1))
 
 returns-5 : tie.Need-returns-5
 returns-5 c =
-    let h = taken-within _ _ _ _ _ (sym (c .before .before .before .before .number-of2 .ensures) ∙ c .before .before .second .given .1) in
-    sym (head-opens _ _ _ _ _ (sym (c .before .before .before .before .before .before .before .before .before .number-of .ensures) ∙ c .before .before .before .before .before .before .before .first .given .1) _ _ (c .before .before .before .before .before .if1 .left) (sym (c .before .before .before .before .number-of2 .ensures) ∙ c .before .before .second .given .1) (omega arith))
+    let at-number-of2 = c .before .before .before .before in
+    let at-if1 = at-number-of2 .before in
+    let at-first = at-if1 .before .before in
+    let at-number-of = at-first .before .before in
+    let h = taken-within _ _ _ _ _ (sym (at-number-of2 .number-of2 .ensures) ∙ c .before .before .second .given .1) in
+    sym (head-opens _ _ _ _ _ (sym (at-number-of .number-of .ensures) ∙ at-first .first .given .1) _ _ (at-if1 .if1 .left) (sym (at-number-of2 .number-of2 .ensures) ∙ c .before .before .second .given .1) (omega arith))
 
 pub field-head-spec : {M : Type 1} → statement M
-field-head-spec = tie.close (tie.spec number-of-requires enum-told enum-known-first returns number-of-requires-2 enum-told-2 enum-known-second sub-left cast-wide returns-2 sub-handle returns-3 returns-4 returns-5)
+field-head-spec =
+    tie.close
+    (tie.spec
+    number-of-requires
+    enum-told
+    enum-known-first
+    returns
+    number-of-requires-2
+    enum-told-2
+    enum-known-second
+    sub-left
+    cast-wide
+    returns-2
+    sub-handle
+    returns-3
+    returns-4
+    returns-5)

@@ -51,16 +51,49 @@ cast-wide : tie.Need-cast-wide Inv-loop μ-loop
 cast-wide c = search needs
 
 add-n : tie.Need-add-n Inv-loop μ-loop
-add-n c = let v = c .before .before .before .before .before .before .before .before .loop .inv in omega (arith, v .within, v .slots)
+add-n c =
+    let earlier = c .before .before .before .before .before in
+    let at-loop = earlier .before .before .before in
+    let v = at-loop .loop .inv in omega (arith, v .within, v .slots)
 
 add-pos : tie.Need-add-pos Inv-loop μ-loop
-add-pos c = let k = opens-within _ _ _ _ _ _ (sym (c .before .before .before .before .before .before .before .field-head .ensures) ∙ c .before .before .before .before .before .head2 .given .1) in omega arith
+add-pos c =
+    let at-head2 = c .before .before .before .before .before in
+    let at-field-head = at-head2 .before .before in
+    let k = opens-within _ _ _ _ _ _ (sym (at-field-head .field-head .ensures) ∙ at-head2 .head2 .given .1) in omega arith
 
 loop-less : tie.Need-loop-less Inv-loop μ-loop
-loop-less c = let k = opens-within _ _ _ _ _ _ (sym (c .before .before .before .before .before .before .before .field-head .ensures) ∙ c .before .before .before .before .before .head2 .given .1) in omega arith
+loop-less c =
+    let at-head2 = c .before .before .before .before .before in
+    let at-field-head = at-head2 .before .before in
+    let k = opens-within _ _ _ _ _ _ (sym (at-field-head .field-head .ensures) ∙ at-head2 .head2 .given .1) in omega arith
 
 loop-again : tie.Need-loop-again Inv-loop μ-loop
-loop-again c = read-opened _ _ _ _ _ _ _ _ (c .before .before .before .before .before .before .before .before .loop .inv) _ _ _ _ (sym (c .before .before .before .before .before .before .before .field-head .ensures) ∙ c .before .before .before .before .before .head2 .given .1) (c .before .before .store-field .ensures) (c .before .before .store-field .kept .0)
+loop-again c =
+    let at-head2 = c .before .before .before .before .before in
+    let at-field-head = at-head2 .before .before in
+    let at-loop = at-field-head .before in
+    read-opened _ _ _ _ _ _ _ _ (at-loop .loop .inv) _ _ _ _ (sym (at-field-head .field-head .ensures) ∙ at-head2 .head2 .given .1) (c .before .before .store-field .ensures) (c .before .before .store-field .kept .0)
 
 pub read-fields-spec : {M : Type 1} → statement M
-read-fields-spec = tie.close (tie.spec Inv-loop μ-loop loop-holds field-head-requires enum-told same-length returns enum-known-head same-length-2 returns-2 enum-known-head-2 cast-start store-field-requires cast-wide add-n add-pos loop-less loop-again)
+read-fields-spec =
+    tie.close
+    (tie.spec
+    Inv-loop
+    μ-loop
+    loop-holds
+    field-head-requires
+    enum-told
+    same-length
+    returns
+    enum-known-head
+    same-length-2
+    returns-2
+    enum-known-head-2
+    cast-start
+    store-field-requires
+    cast-wide
+    add-n
+    add-pos
+    loop-less
+    loop-again)

@@ -30,7 +30,12 @@ cast-changes : tie.Need-cast-changes
 cast-changes c = search needs
 
 returns-4 : tie.Need-returns-4
-returns-4 c = headed-changes _ _ _ (c .before .before .before .before .before .before .if1 .left) _ (c .before .before .before .before .before .first-bit .ensures) _ (c .before .before .before .word-of .ensures) (c .before .before .before .before .if2 .left) _ (c .before .word-of2 .ensures) (c .before .before .if3 .left) (c .if4 .taken)
+returns-4 c =
+    let at-word-of = c .before .before .before in
+    let at-if2 = at-word-of .before in
+    let at-first-bit = at-if2 .before in
+    let at-if1 = at-first-bit .before in
+    headed-changes _ _ _ (at-if1 .if1 .left) _ (at-first-bit .first-bit .ensures) _ (at-word-of .word-of .ensures) (at-if2 .if2 .left) _ (c .before .word-of2 .ensures) (c .before .before .if3 .left) (c .if4 .taken)
 
 mul-least : tie.Need-mul-least
 mul-least c = omega arith
@@ -39,16 +44,47 @@ add-least : tie.Need-add-least
 add-least c = search needs
 
 mul-least-2 : tie.Need-mul-least-2
-mul-least-2 c = omega (arith, least-bound _ (c .before .word-of2 .result) (c .before .before .before .before .before .before .before .before .pre .2))
+mul-least-2 c =
+    let earlier = c .before .before .before .before .before in
+    let at-entry = earlier .before .before .before in
+    omega (arith, least-bound _ (c .before .word-of2 .result) (at-entry .pre .2))
 
 add-least-2 : tie.Need-add-least-2
-add-least-2 c = omega (arith, least-bound _ (c .before .word-of2 .result) (c .before .before .before .before .before .before .before .before .pre .2))
+add-least-2 c =
+    let earlier = c .before .before .before .before .before in
+    let at-entry = earlier .before .before .before in
+    omega (arith, least-bound _ (c .before .word-of2 .result) (at-entry .pre .2))
 
 add-result : tie.Need-add-result
-add-result c = omega (arith, least-bound _ (c .before .word-of2 .result) (c .before .before .before .before .before .before .before .before .pre .2))
+add-result c =
+    let earlier = c .before .before .before .before .before in
+    let at-entry = earlier .before .before .before in
+    omega (arith, least-bound _ (c .before .word-of2 .result) (at-entry .pre .2))
 
 returns-5 : tie.Need-returns-5
-returns-5 c = headed-last _ _ _ (c .before .before .before .before .before .before .if1 .left) _ (c .before .before .before .before .before .first-bit .ensures) _ (c .before .before .before .word-of .ensures) (c .before .before .before .before .if2 .left) _ (c .before .word-of2 .ensures) (c .before .before .if3 .left) (c .if4 .left)
+returns-5 c =
+    let at-word-of = c .before .before .before in
+    let at-if2 = at-word-of .before in
+    let at-first-bit = at-if2 .before in
+    let at-if1 = at-first-bit .before in
+    headed-last _ _ _ (at-if1 .if1 .left) _ (at-first-bit .first-bit .ensures) _ (at-word-of .word-of .ensures) (at-if2 .if2 .left) _ (c .before .word-of2 .ensures) (c .before .before .if3 .left) (c .if4 .left)
 
 pub is-headed-spec : {M : Type 1} → statement M
-is-headed-spec = tie.close (tie.spec returns first-bit-requires returns-2 word-of-requires cast-deletes returns-3 word-of-requires-2 cast-changes returns-4 mul-least add-least mul-least-2 add-least-2 add-result returns-5)
+is-headed-spec =
+    tie.close
+    (tie.spec
+    returns
+    first-bit-requires
+    returns-2
+    word-of-requires
+    cast-deletes
+    returns-3
+    word-of-requires-2
+    cast-changes
+    returns-4
+    mul-least
+    add-least
+    mul-least-2
+    add-least-2
+    add-result
+    returns-5)

@@ -45,4 +45,18 @@ returns : tie.Need-returns Inv-loop μ-loop
 returns c = deleting-ends _ _ _ _ _ _ (omega arith) (c .before .loop .inv)
 
 pub read-deleted-spec : {M : Type 1} → statement M
-read-deleted-spec = tie.close (tie.spec Inv-loop μ-loop loop-holds mul-pos add-pos signed-of-requires store-deleted-requires add-done loop-less loop-again same-length returns)
+read-deleted-spec =
+    tie.close
+    (tie.spec
+    Inv-loop
+    μ-loop
+    loop-holds
+    mul-pos
+    add-pos
+    signed-of-requires
+    store-deleted-requires
+    add-done
+    loop-less
+    loop-again
+    same-length
+    returns)

@@ -46,22 +46,37 @@ enum-told : tie.Need-enum-told Inv-loop μ-loop
 enum-told c = search needs
 
 same-length-3 : tie.Need-same-length-3 Inv-loop μ-loop
-same-length-3 c = c .before .before .before .before .before .before .before .before .before .loop .inv .same-items
+same-length-3 c =
+    let earlier = c .before .before .before .before .before in
+    let at-loop = earlier .before .before .before .before in
+    at-loop .loop .inv .same-items
 
 same-length-4 : tie.Need-same-length-4 Inv-loop μ-loop
-same-length-4 c = c .before .before .before .before .read-fields .kept .1 .1 .1 .0 ∙ c .before .before .before .before .before .before .before .before .before .loop .inv .same-fields
+same-length-4 c =
+    let at-read-fields = c .before .before .before .before in
+    let at-loop = at-read-fields .before .before .before .before .before in
+    at-read-fields .read-fields .kept .1 .1 .1 .0 ∙ at-loop .loop .inv .same-fields
 
 returns-2 : tie.Need-returns-2 Inv-loop μ-loop
-returns-2 c = walk-broken _ _ _ _ _ _ _ _ _ _ _ _ (c .before .before .before .before .before .before .before .before .before .loop .inv) (omega arith) (let v = c .before .before .before .before .before .before .before .before .before .loop .inv in omega (arith, v .within)) (sym (c .before .before .before .before .read-fields .ensures .0) ∙ c .enum-told .given .1) _ _
+returns-2 c =
+    let at-read-fields = c .before .before .before .before in
+    let at-loop = at-read-fields .before .before .before .before .before in
+    walk-broken _ _ _ _ _ _ _ _ _ _ _ _ (at-loop .loop .inv) (omega arith) (let v = at-loop .loop .inv in omega (arith, v .within)) (sym (at-read-fields .read-fields .ensures .0) ∙ c .enum-told .given .1) _ _
 
 enum-known-read : tie.Need-enum-known-read Inv-loop μ-loop
 enum-known-read c = search needs
 
 sub-here : tie.Need-sub-here Inv-loop μ-loop
-sub-here c = let k = read-within _ _ _ _ _ _ (let v = c .before .before .before .before .before .before .before .before .before .before .loop .inv in omega (arith, v .slots)) (sym (c .before .before .before .before .before .read-fields .ensures .0) ∙ c .before .read .given .1) in omega arith
+sub-here c =
+    let at-read-fields = c .before .before .before .before .before in
+    let at-loop = at-read-fields .before .before .before .before .before in
+    let k = read-within _ _ _ _ _ _ (let v = at-loop .loop .inv in omega (arith, v .slots)) (sym (at-read-fields .read-fields .ensures .0) ∙ c .before .read .given .1) in omega arith
 
 cast-here : tie.Need-cast-here Inv-loop μ-loop
-cast-here c = let k = read-within _ _ _ _ _ _ (let v = c .before .before .before .before .before .before .before .before .before .before .loop .inv in omega (arith, v .slots)) (sym (c .before .before .before .before .before .read-fields .ensures .0) ∙ c .before .read .given .1) in omega arith
+cast-here c =
+    let at-read-fields = c .before .before .before .before .before in
+    let at-loop = at-read-fields .before .before .before .before .before in
+    let k = read-within _ _ _ _ _ _ (let v = at-loop .loop .inv in omega (arith, v .slots)) (sym (at-read-fields .read-fields .ensures .0) ∙ c .before .read .given .1) in omega arith
 
 store-item-requires : tie.Need-store-item-requires Inv-loop μ-loop
 store-item-requires c κs = omega arith
@@ -73,7 +88,15 @@ loop-less : tie.Need-loop-less Inv-loop μ-loop
 loop-less c = omega arith
 
 loop-again : tie.Need-loop-again Inv-loop μ-loop
-loop-again c = walk-next _ _ _ _ _ _ _ _ _ _ _ _ (c .before .before .before .before .before .before .before .before .before .before .before .before .before .before .loop .inv) (omega arith) (let v = c .before .before .before .before .before .before .before .before .before .before .before .before .before .before .loop .inv in omega (arith, v .within)) _ _ _ _ _ _ (sym (c .before .before .before .before .before .before .before .before .before .read-fields .ensures .0) ∙ c .before .before .before .before .before .read .given .1) (c .before .before .before .before .before .before .before .before .before .read-fields .ensures .1) (c .before .before .before .before .before .before .before .before .before .before .before .word-of .ensures) refl (c .before .before .store-item .ensures) (c .before .before .store-item .kept .0) (c .before .before .before .before .before .before .before .before .before .read-fields .kept .1 .1 .1 .0)
+loop-again c =
+    let at-read = c .before .before .before .before .before in
+    let at-read-fields = at-read .before .before .before .before in
+    let at-word-of = at-read-fields .before .before in
+    let at-loop = at-word-of .before .before .before in
+    walk-next _ _ _ _ _ _ _ _ _ _ _ _ (at-loop .loop .inv) (omega arith) (let v = at-loop .loop .inv in omega (arith, v .within)) _ _ _ _ _ _
+    (sym (at-read-fields .read-fields .ensures .0) ∙ at-read .read .given .1) (at-read-fields .read-fields .ensures .1)
+    (at-word-of .word-of .ensures) refl (c .before .before .store-item .ensures) (c .before .before .store-item .kept .0)
+    (at-read-fields .read-fields .kept .1 .1 .1 .0)
 
 same-length-5 : tie.Need-same-length-5 Inv-loop μ-loop
 same-length-5 c = c .before .loop .inv .same-items
@@ -85,4 +108,31 @@ returns-3 : tie.Need-returns-3 Inv-loop μ-loop
 returns-3 c = walk-ends _ _ _ _ _ _ _ _ _ _ _ _ (c .before .loop .inv) (omega arith)
 
 pub read-items-spec : {M : Type 1} → statement M
-read-items-spec = tie.close (tie.spec Inv-loop μ-loop add-lead loop-holds sub-if1 same-length same-length-2 returns word-of-requires add-start read-fields-requires enum-told same-length-3 same-length-4 returns-2 enum-known-read sub-here cast-here store-item-requires add-done loop-less loop-again same-length-5 same-length-6 returns-3)
+read-items-spec =
+    tie.close
+    (tie.spec
+    Inv-loop
+    μ-loop
+    add-lead
+    loop-holds
+    sub-if1
+    same-length
+    same-length-2
+    returns
+    word-of-requires
+    add-start
+    read-fields-requires
+    enum-told
+    same-length-3
+    same-length-4
+    returns-2
+    enum-known-read
+    sub-here
+    cast-here
+    store-item-requires
+    add-done
+    loop-less
+    loop-again
+    same-length-5
+    same-length-6
+    returns-3)

@@ -57,4 +57,17 @@ unfolding takenOf asNumber
 returns-4 c = found-is (c .before .before) _ (c .enum-told3 .given .1)
 
 pub number-of-spec : {M : Type 1} → statement M
-number-of-spec = tie.close (tie.spec packed-at-requires enum-known-number mul-next add-next enum-told enum-told-2 enum-told-3 returns returns-2 returns-3 returns-4)
+number-of-spec =
+    tie.close
+    (tie.spec
+    packed-at-requires
+    enum-known-number
+    mul-next
+    add-next
+    enum-told
+    enum-told-2
+    enum-told-3
+    returns
+    returns-2
+    returns-3
+    returns-4)

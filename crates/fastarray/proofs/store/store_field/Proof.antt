@@ -47,4 +47,19 @@ returns-2 : tie.Need-returns-2
 returns-2 c = sym (store-out _ _ _ (omega arith))
 
 pub store-field-spec : {M : Type 1} → statement M
-store-field-spec = tie.close (tie.spec mul-i add-if1 mul-d slice-write-d add-d mul-d-2 slice-write-d-2 add-d-2 mul-d-3 slice-write-d-3 same-length returns returns-2)
+store-field-spec =
+    tie.close
+    (tie.spec
+    mul-i
+    add-if1
+    mul-d
+    slice-write-d
+    add-d
+    mul-d-2
+    slice-write-d-2
+    add-d-2
+    mul-d-3
+    slice-write-d-3
+    same-length
+    returns
+    returns-2)

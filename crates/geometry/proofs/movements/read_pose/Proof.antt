@@ -45,14 +45,18 @@ returns c =
     let k₃ = c .before in
     let k₂ = k₃ .before .before .before .before .before in
     let k₁ = k₂ .before .before .before .before .before in
-    pose-read _ _ _ _ (scaled _ _ (k₁ .before .before .quantized .ensures) (k₁ .before .before .before .scale-of .ensures)) (k₁ .place .given .1) (k₂ .before .before .before .moved .ensures) (k₂ .before .before .read-rotation .ensures) (k₂ .turn .given .1) (k₃ .before .before .before .moved2 .ensures) (k₃ .before .before .quantized2 .ensures) (k₃ .speed .given .1)
+    pose-read _ _ _ _ (scaled _ _ (k₁ .before .before .quantized .ensures) (k₁ .before .before .before .scale-of .ensures)) (k₁ .place .given .1)
+    (k₂ .before .before .before .moved .ensures) (k₂ .before .before .read-rotation .ensures) (k₂ .turn .given .1)
+    (k₃ .before .before .before .moved2 .ensures) (k₃ .before .before .quantized2 .ensures) (k₃ .speed .given .1)
 
 returns-2 : tie.Need-returns-2
 returns-2 c =
     let k₃ = c .before in
     let k₂ = k₃ .before .before .before .before .before in
     let k₁ = k₂ .before .before .before .before .before in
-    pose-third-refused _ _ _ _ (scaled _ _ (k₁ .before .before .quantized .ensures) (k₁ .before .before .before .scale-of .ensures)) (k₁ .place .given .1) (k₂ .before .before .before .moved .ensures) (k₂ .before .before .read-rotation .ensures) (k₂ .turn .given .1) (k₃ .before .before .before .moved2 .ensures) (k₃ .before .before .quantized2 .ensures) (k₃ .speed2 .given .1)
+    pose-third-refused _ _ _ _ (scaled _ _ (k₁ .before .before .quantized .ensures) (k₁ .before .before .before .scale-of .ensures))
+    (k₁ .place .given .1) (k₂ .before .before .before .moved .ensures) (k₂ .before .before .read-rotation .ensures) (k₂ .turn .given .1)
+    (k₃ .before .before .before .moved2 .ensures) (k₃ .before .before .quantized2 .ensures) (k₃ .speed2 .given .1)
 
 returns-3 : tie.Need-returns-3
 returns-3 c =

@@ -55,7 +55,10 @@ returns c =
     let k₃ = k₄ .before .before .before .before .before in
     let k₂ = k₃ .before .before .before .before .before in
     let k₁ = k₂ .before .before .before .before .before in
-    flags-read _ _ (k₁ .before .before .read-bit .ensures) (k₁ .first .given .1) (k₂ .before .before .before .moved .ensures) (k₂ .before .before .read-bit2 .ensures) (k₂ .second .given .1) (k₃ .before .before .before .moved2 .ensures) (k₃ .before .before .read-bit3 .ensures) (k₃ .third .given .1) (k₄ .before .before .before .moved3 .ensures) (k₄ .before .before .read-bit4 .ensures) (k₄ .fourth .given .1)
+    flags-read _ _ (k₁ .before .before .read-bit .ensures) (k₁ .first .given .1) (k₂ .before .before .before .moved .ensures)
+    (k₂ .before .before .read-bit2 .ensures) (k₂ .second .given .1) (k₃ .before .before .before .moved2 .ensures)
+    (k₃ .before .before .read-bit3 .ensures) (k₃ .third .given .1) (k₄ .before .before .before .moved3 .ensures)
+    (k₄ .before .before .read-bit4 .ensures) (k₄ .fourth .given .1)
 
 returns-2 : tie.Need-returns-2
 returns-2 c =
@@ -63,14 +66,19 @@ returns-2 c =
     let k₃ = k₄ .before .before .before .before .before in
     let k₂ = k₃ .before .before .before .before .before in
     let k₁ = k₂ .before .before .before .before .before in
-    flags-fourth-refused _ _ (k₁ .before .before .read-bit .ensures) (k₁ .first .given .1) (k₂ .before .before .before .moved .ensures) (k₂ .before .before .read-bit2 .ensures) (k₂ .second .given .1) (k₃ .before .before .before .moved2 .ensures) (k₃ .before .before .read-bit3 .ensures) (k₃ .third .given .1) (k₄ .before .before .before .moved3 .ensures) (k₄ .before .before .read-bit4 .ensures) (k₄ .fourth2 .given .1)
+    flags-fourth-refused _ _ (k₁ .before .before .read-bit .ensures) (k₁ .first .given .1) (k₂ .before .before .before .moved .ensures)
+    (k₂ .before .before .read-bit2 .ensures) (k₂ .second .given .1) (k₃ .before .before .before .moved2 .ensures)
+    (k₃ .before .before .read-bit3 .ensures) (k₃ .third .given .1) (k₄ .before .before .before .moved3 .ensures)
+    (k₄ .before .before .read-bit4 .ensures) (k₄ .fourth2 .given .1)
 
 returns-3 : tie.Need-returns-3
 returns-3 c =
     let k₃ = c .before in
     let k₂ = k₃ .before .before .before .before .before in
     let k₁ = k₂ .before .before .before .before .before in
-    flags-third-refused _ _ (k₁ .before .before .read-bit .ensures) (k₁ .first .given .1) (k₂ .before .before .before .moved .ensures) (k₂ .before .before .read-bit2 .ensures) (k₂ .second .given .1) (k₃ .before .before .before .moved2 .ensures) (k₃ .before .before .read-bit3 .ensures) (k₃ .third2 .given .1)
+    flags-third-refused _ _ (k₁ .before .before .read-bit .ensures) (k₁ .first .given .1) (k₂ .before .before .before .moved .ensures)
+    (k₂ .before .before .read-bit2 .ensures) (k₂ .second .given .1) (k₃ .before .before .before .moved2 .ensures)
+    (k₃ .before .before .read-bit3 .ensures) (k₃ .third2 .given .1)
 
 returns-4 : tie.Need-returns-4
 returns-4 c =

@@ -40,7 +40,12 @@ returns : tie.Need-returns
 returns c = search needs
 
 add-next : tie.Need-add-next
-add-next c = let d = left-there _ _ (c .before .before .before .before .before .before .before .before .before .before .before .bits-remaining .ensures) (c .before .before .before .before .before .before .before .before .before .found .given .1) in omega (arith, c .before .before .before .before .before .before .before .least .ensures, c .if1 .left)
+add-next c =
+    let earlier = c .before .before .before .before .before in
+    let at-least = earlier .before .before in
+    let at-found = at-least .before .before in
+    let at-bits-remaining = at-found .before .before in
+    let d = left-there _ _ (at-bits-remaining .bits-remaining .ensures) (at-found .found .given .1) in omega (arith, at-least .least .ensures, c .if1 .left)
 
 enum-told : tie.Need-enum-told
 enum-told c = search needs
@@ -53,8 +58,14 @@ read-three-requires-2 c κs = search needs
 
 returns-2 : tie.Need-returns-2
 returns-2 c =
-    let d = left-there _ _ (c .before .before .before .before .before .before .before .before .before .before .before .bits-remaining .ensures) (c .before .before .before .before .before .before .before .before .before .found .given .1) in
-    axes-left _ _ (d .0) _ _ _ _ (c .before .before .before .before .before .before .before .before .before .before .before .before .before .pre) (omega (arith, c .before .before .before .before .before .before .before .least .ensures)) refl (c .before .before .before .before .before .field-of .ensures) (c .before .before .before .before .cut-axes .ensures) (c .before .before .three .given .1) (c .if1 .left)
+    let at-cut-axes = c .before .before .before .before in
+    let at-field-of = at-cut-axes .before in
+    let at-least = at-field-of .before .before in
+    let at-found = at-least .before .before in
+    let at-bits-remaining = at-found .before .before in
+    let at-entry = at-bits-remaining .before .before in
+    let d = left-there _ _ (at-bits-remaining .bits-remaining .ensures) (at-found .found .given .1) in
+    axes-left _ _ (d .0) _ _ _ _ (at-entry .pre) (omega (arith, at-least .least .ensures)) refl (at-field-of .field-of .ensures) (at-cut-axes .cut-axes .ensures) (c .before .before .three .given .1) (c .if1 .left)
 
 returns-3 : tie.Need-returns-3
 returns-3 c = search needs

@@ -18,7 +18,10 @@ read-bits-requires : tie.Need-read-bits-requires
 read-bits-requires c κs = search needs
 
 returns : tie.Need-returns
-returns c = axis-set _ _ _ (sym (c .before .before .before .before .before .before .read-bit .ensures) ∙ c .before .before .before .before .bit .given .1) (c .before .before .if1 .taken) (c .before .moved .ensures) (c .read-bits .ensures)
+returns c =
+    let at-bit = c .before .before .before .before in
+    let at-read-bit = at-bit .before .before in
+    axis-set _ _ _ (sym (at-read-bit .read-bit .ensures) ∙ at-bit .bit .given .1) (c .before .before .if1 .taken) (c .before .moved .ensures) (c .read-bits .ensures)
 
 enum-known-bit-2 : tie.Need-enum-known-bit-2
 enum-known-bit-2 c = search needs

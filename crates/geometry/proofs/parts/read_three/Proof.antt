@@ -42,14 +42,18 @@ returns c =
     let k₃ = c .before in
     let k₂ = k₃ .before .before .before .before .before in
     let k₁ = k₂ .before .before .before .before .before in
-    three-read _ _ _ (k₁ .before .before .read-part .ensures) (k₁ .first .given .1) (k₂ .before .before .before .moved .ensures) (k₂ .before .before .read-part2 .ensures) (k₂ .second .given .1) (k₃ .before .before .before .moved2 .ensures) (k₃ .before .before .read-part3 .ensures) (k₃ .third .given .1)
+    three-read _ _ _ (k₁ .before .before .read-part .ensures) (k₁ .first .given .1) (k₂ .before .before .before .moved .ensures)
+    (k₂ .before .before .read-part2 .ensures) (k₂ .second .given .1) (k₃ .before .before .before .moved2 .ensures)
+    (k₃ .before .before .read-part3 .ensures) (k₃ .third .given .1)
 
 returns-2 : tie.Need-returns-2
 returns-2 c =
     let k₃ = c .before in
     let k₂ = k₃ .before .before .before .before .before in
     let k₁ = k₂ .before .before .before .before .before in
-    third-refused _ _ _ (k₁ .before .before .read-part .ensures) (k₁ .first .given .1) (k₂ .before .before .before .moved .ensures) (k₂ .before .before .read-part2 .ensures) (k₂ .second .given .1) (k₃ .before .before .before .moved2 .ensures) (k₃ .before .before .read-part3 .ensures) (k₃ .third2 .given .1)
+    third-refused _ _ _ (k₁ .before .before .read-part .ensures) (k₁ .first .given .1) (k₂ .before .before .before .moved .ensures)
+    (k₂ .before .before .read-part2 .ensures) (k₂ .second .given .1) (k₃ .before .before .before .moved2 .ensures)
+    (k₃ .before .before .read-part3 .ensures) (k₃ .third2 .given .1)
 
 returns-3 : tie.Need-returns-3
 returns-3 c =

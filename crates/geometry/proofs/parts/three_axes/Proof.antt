@@ -35,8 +35,11 @@ last-axes-requires c κs = search needs
 
 returns : tie.Need-returns
 returns c =
-    let d = room-there _ _ _ (c .before .before .before .before .before .before .skip-bits .ensures) (c .before .before .before .before .room .given .1) in
-    c .cut-axes .ensures ∙ axes-there _ _ (d .0) _ _ _ _ (c .before .before .before .before .before .before .before .before .pre) (d .1) refl (c .before .field-at .ensures) (axes-few _ _)
+    let at-room = c .before .before .before .before in
+    let at-skip-bits = at-room .before .before in
+    let at-entry = at-skip-bits .before .before in
+    let d = room-there _ _ _ (at-skip-bits .skip-bits .ensures) (at-room .room .given .1) in
+    c .cut-axes .ensures ∙ axes-there _ _ (d .0) _ _ _ _ (at-entry .pre) (d .1) refl (c .before .field-at .ensures) (axes-few _ _)
 
 returns-2 : tie.Need-returns-2
 returns-2 c = search needs

@@ -31,7 +31,10 @@ field-of-requires-2 : tie.Need-field-of-requires-2
 field-of-requires-2 c κs = let d = room-there _ _ _ (c .before .before .before .before .before .skip-bits .ensures) (c .before .before .before .room .given .1) in omega arith
 
 field-of-requires-3 : tie.Need-field-of-requires-3
-field-of-requires-3 c κs = let d = room-there _ _ _ (c .before .before .before .before .before .before .skip-bits .ensures) (c .before .before .before .before .room .given .1) in omega arith
+field-of-requires-3 c κs =
+    let at-room = c .before .before .before .before in
+    let at-skip-bits = at-room .before .before in
+    let d = room-there _ _ _ (at-skip-bits .skip-bits .ensures) (at-room .room .given .1) in omega arith
 
 enum-told : tie.Need-enum-told
 enum-told c = search needs
@@ -41,7 +44,9 @@ read-three-requires c κs = search needs
 
 returns : tie.Need-returns
 returns c =
-    let d = room-there _ _ _ (c .before .before .before .before .before .before .before .skip-bits .ensures) (c .before .before .before .before .before .room .given .1) in
+    let at-room = c .before .before .before .before .before in
+    let at-skip-bits = at-room .before .before in
+    let d = room-there _ _ _ (at-skip-bits .skip-bits .ensures) (at-room .room .given .1) in
     three-there _ _ (d .0) _ (omega arith) (d .1) refl (d .3) (c .before .before .field-of .ensures) (c .before .field-of2 .ensures) (c .field-of3 .ensures)
 
 returns-2 : tie.Need-returns-2

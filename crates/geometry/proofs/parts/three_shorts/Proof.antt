@@ -29,7 +29,9 @@ read-three-requires c κs = search needs
 
 returns : tie.Need-returns
 returns c =
-    let d = room-there _ _ _ (c .before .before .before .before .before .before .skip-bits .ensures) (c .before .before .before .before .room .given .1) in
+    let at-room = c .before .before .before .before in
+    let at-skip-bits = at-room .before .before in
+    let d = room-there _ _ _ (at-skip-bits .skip-bits .ensures) (at-room .room .given .1) in
     c .cut-apart .ensures ∙ shorts-there _ _ (d .0) (d .1) refl (d .3) (c .before .field-at .ensures)
 
 returns-2 : tie.Need-returns-2

@@ -25,7 +25,11 @@ enum-known-t-2 : tie.Need-enum-known-t-2
 enum-known-t-2 c = search needs
 
 returns : tie.Need-returns
-returns c = let p = c .before .before .before .before .before .before .before .pre in integers-read (c .before .before .before .before .before .before .before .args .w) (c .before .before .before .before .before .before .before .args .by) (p .0) (p .1) (p .2) (omega arith) (p .3) (c .before .before .before .before .before .t .given .1) (c .before .before .before .component .ensures) (c .before .before .component2 .ensures) (c .before .component3 .ensures) (c .made .ensures)
+returns c =
+    let at-component = c .before .before .before in
+    let at-t = at-component .before .before in
+    let at-entry = at-t .before .before in
+    let p = at-entry .pre in integers-read (at-entry .args .w) (at-entry .args .by) (p .0) (p .1) (p .2) (omega arith) (p .3) (at-t .t .given .1) (at-component .component .ensures) (c .before .before .component2 .ensures) (c .before .component3 .ensures) (c .made .ensures)
 
 returns-2 : tie.Need-returns-2
 returns-2 c = vector-refused _ (c .before .t2 .given .1)

@@ -31,7 +31,14 @@ not-finite-requires-3 : tie.Need-not-finite-requires-3
 not-finite-requires-3 c κs = search needs
 
 returns-3 : tie.Need-returns-3
-returns-3 c = c .not-finite3 .ensures ∙ third-infinite _ _ _ _ (sym (c .before .before .before .before .before .before .finite-double .ensures) ∙ not-false _ (c .before .before .before .before .before .if1 .left)) (sym (c .before .before .before .before .finite-double2 .ensures) ∙ not-false _ (c .before .before .before .if2 .left)) (sym (c .before .before .finite-double3 .ensures) ∙ not-true _ (c .before .if3 .taken))
+returns-3 c =
+    let at-if2 = c .before .before .before in
+    let at-finite-double2 = at-if2 .before in
+    let at-if1 = at-finite-double2 .before in
+    let at-finite-double = at-if1 .before in
+    c .not-finite3 .ensures ∙ third-infinite _ _ _ _ (sym (at-finite-double .finite-double .ensures) ∙ not-false _ (at-if1 .if1 .left))
+    (sym (at-finite-double2 .finite-double2 .ensures) ∙ not-false _ (at-if2 .if2 .left))
+    (sym (c .before .before .finite-double3 .ensures) ∙ not-true _ (c .before .if3 .taken))
 
 double-requires : tie.Need-double-requires
 double-requires c κs = sym (c .before .before .before .before .before .finite-double .ensures) ∙ not-false _ (c .before .before .before .before .if1 .left)
@@ -46,7 +53,16 @@ made-requires : tie.Need-made-requires
 made-requires c κs = search needs
 
 returns-4 : tie.Need-returns-4
-returns-4 c = c .made .ensures ∙ rw (c .before .before .before .double .ensures, c .before .before .double2 .ensures, c .before .double3 .ensures) (all-finite _ _ _ _ (sym (c .before .before .before .before .before .before .before .before .before .finite-double .ensures) ∙ not-false _ (c .before .before .before .before .before .before .before .before .if1 .left)) (sym (c .before .before .before .before .before .before .before .finite-double2 .ensures) ∙ not-false _ (c .before .before .before .before .before .before .if2 .left)) (sym (c .before .before .before .before .before .finite-double3 .ensures) ∙ not-false _ (c .before .before .before .before .if3 .left)))
+returns-4 c =
+    let at-double = c .before .before .before in
+    let at-if3 = at-double .before in
+    let at-finite-double3 = at-if3 .before in
+    let at-if2 = at-finite-double3 .before in
+    let at-finite-double2 = at-if2 .before in
+    let at-if1 = at-finite-double2 .before in
+    let at-finite-double = at-if1 .before in
+    c .made .ensures ∙ rw (at-double .double .ensures, c .before .before .double2 .ensures, c .before .double3 .ensures)
+    (all-finite _ _ _ _ (sym (at-finite-double .finite-double .ensures) ∙ not-false _ (at-if1 .if1 .left)) (sym (at-finite-double2 .finite-double2 .ensures) ∙ not-false _ (at-if2 .if2 .left)) (sym (at-finite-double3 .finite-double3 .ensures) ∙ not-false _ (at-if3 .if3 .left)))
 
 pub of-doubles-spec : {M : Type 1} → statement M
 of-doubles-spec =

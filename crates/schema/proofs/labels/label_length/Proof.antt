@@ -4,7 +4,7 @@ use native.Mathlib.Omega.{arith}
 use mathlib.Core.Path.{sym, ap, _∙_}
 use Prim.Native.Nat.{ℕ, _+_}
 use Rattle.schema.specs.Labels.{labelLength}
-use Rattle.schema.proofs.DecimalLaws.{decimal-some}
+use Rattle.bits.proofs.DecimalLaws.{decimal-some}
 use Rattle.schema.proofs.labels.label_length.Statement.{statement}
 use Rattle.schema.proofs.labels.label_length.Tie as tie
 
@@ -42,4 +42,16 @@ unfolding labelLength
 returns-3 c = ap (λ (n : ℕ). 2 + n) (c .decimal-length .ensures) ∙ sym (ap (labelLength (c .before .before .before .args .handle)) (c .before .enum-told .given .1))
 
 pub label-length-spec : {M : Type 1} → statement M
-label-length-spec = tie.close (tie.spec enum-known-label cast-result enum-known-label-2 cast-result-2 enum-told decimal-length-requires add-result returns returns-2 returns-3)
+label-length-spec =
+    tie.close
+    (tie.spec
+    enum-known-label
+    cast-result
+    enum-known-label-2
+    cast-result-2
+    enum-told
+    decimal-length-requires
+    add-result
+    returns
+    returns-2
+    returns-3)

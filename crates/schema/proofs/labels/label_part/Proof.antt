@@ -42,4 +42,17 @@ unfolding labelPart
 returns-3 c = sym (ap (labelPart _ _) (c .before .enum-told .given .1))
 
 pub label-part-spec : {M : Type 1} → statement M
-label-part-spec = tie.close (tie.spec enum-known-label part-of-requires enum-known-label-2 part-of-requires-2 enum-told sub-result part-result-start part-result-end returns returns-2 returns-3)
+label-part-spec =
+    tie.close
+    (tie.spec
+    enum-known-label
+    part-of-requires
+    enum-known-label-2
+    part-of-requires-2
+    enum-told
+    sub-result
+    part-result-start
+    part-result-end
+    returns
+    returns-2
+    returns-3)

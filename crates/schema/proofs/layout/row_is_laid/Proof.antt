@@ -39,7 +39,10 @@ kind-fits-requires : tie.Need-kind-fits-requires
 kind-fits-requires c κs = search needs
 
 returns-2 : tie.Need-returns-2
-returns-2 c = by-kind _ _ _ _ _ _ _ _ (c .before .before .before .before .before .cell-at .ensures) (c .before .before .before .before .if1 .left) (c .before .before .before .cell-at2 .ensures) (c .before .before .cell-at3 .ensures) (c .before .cell-at4 .ensures) (c .kind-fits .result) (c .kind-fits .ensures)
+returns-2 c =
+    by-kind _ _ _ _ _ _ _ _ (c .before .before .before .before .before .cell-at .ensures) (c .before .before .before .before .if1 .left)
+    (c .before .before .before .cell-at2 .ensures) (c .before .before .cell-at3 .ensures) (c .before .cell-at4 .ensures) (c .kind-fits .result)
+    (c .kind-fits .ensures)
 
 pub row-is-laid-spec : {M : Type 1} → statement M
 row-is-laid-spec = tie.close (tie.spec cell-at-requires returns cell-at-requires-2 cell-at-requires-3 cell-at-requires-4 kind-fits-requires returns-2)

@@ -45,4 +45,17 @@ unfolding declaredName
 returns-4 c = simp (lt-ltb _ _ (c .before .before .before .before .if1 .left), ne-eqb _ _ (c .before .before .if2 .left))
 
 pub declared-name-spec : {M : Type 1} → statement M
-declared-name-spec = tie.close (tie.spec mul-at returns mul-start shared-slice-read-start returns-2 add-if3 returns-3 add-len mul-len shared-slice-read-len returns-4)
+declared-name-spec =
+    tie.close
+    (tie.spec
+    mul-at
+    returns
+    mul-start
+    shared-slice-read-start
+    returns-2
+    add-if3
+    returns-3
+    add-len
+    mul-len
+    shared-slice-read-len
+    returns-4)

@@ -62,7 +62,8 @@ loop-less c = omega arith
 
 -- the child after row i - 1, found there or kept
 child-after : (c : tie.Joined1 Inv-loop μ-loop) →
-    let a = c .before .before .before .before .before .before .args in
+    let earlier = c .before .before .before .before .before in
+    let a = earlier .before .args in
     let i = c .before .before .before .loop .i in
     c .if1 .child ≡ childAt (a .rows .now) (firstRow (c .before .before .before .before .clipped .result - (i - 1)) (a .rows .now) (a .level) arrayKind (a .handle) (i - 1))
 child-after c =
@@ -76,16 +77,20 @@ child-after c =
 
 loop-again : tie.Need-loop-again Inv-loop μ-loop
 loop-again c =
-    let v = c .before .before .before .before .before .before .loop .inv in
-    let t = c .before .before .before .before .before .loop-test .taken in
+    let joined = c .before .before .before in
+    let at-kind-at = joined .before in
+    let at-loop-test = at-kind-at .before in
+    let at-loop = at-loop-test .before in
+    let v = at-loop .loop .inv in
+    let t = at-loop-test .loop-test .taken in
     record {
       below = v .below;
       within = omega arith;
       above = omega arith;
-      child-is = child-after (c .before .before .before);
+      child-is = child-after joined;
       name-is =
           ap₂ At (c .before .cell-at2 .ensures) (c .cell-at3 .ensures)
-          ∙ sym (ap (nameAt _) (back-hit _ _ _ _ _ _ (omega arith) (v .within) (sym (c .before .before .before .before .kind-at .ensures .1) ∙ eq-eqb _ _ (c .before .before .if2 .taken))));
+          ∙ sym (ap (nameAt _) (back-hit _ _ _ _ _ _ (omega arith) (v .within) (sym (at-kind-at .kind-at .ensures .1) ∙ eq-eqb _ _ (c .before .before .if2 .taken))));
     }
 
 loop-less-2 : tie.Need-loop-less-2 Inv-loop μ-loop
@@ -112,4 +117,20 @@ returns c =
     λ i. record { child = e i; name = f i }
 
 pub entry-in-spec : {M : Type 1} → statement M
-entry-in-spec = tie.close (tie.spec Inv-loop μ-loop clipped-requires loop-holds sub-i kind-at-requires cell-at-requires cell-at-requires-2 cell-at-requires-3 loop-less loop-again loop-less-2 loop-again-2 returns)
+entry-in-spec =
+    tie.close
+    (tie.spec
+    Inv-loop
+    μ-loop
+    clipped-requires
+    loop-holds
+    sub-i
+    kind-at-requires
+    cell-at-requires
+    cell-at-requires-2
+    cell-at-requires-3
+    loop-less
+    loop-again
+    loop-less-2
+    loop-again-2
+    returns)

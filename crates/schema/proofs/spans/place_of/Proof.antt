@@ -1,4 +1,4 @@
--- `schema::place_of` meets its contract: below 64 the level counts, and from there on one place serves.
+-- `schema::place_of` meets its contract: below `maxLevels` the level counts, and from there on one place serves.
 use borrow.Author.Needs.{needs}
 use native.Mathlib.Omega.{arith}
 use Rattle.schema.proofs.SpanLaws.{place-low, place-high}

@@ -50,4 +50,21 @@ returns-2 : tie.Need-returns-2
 returns-2 c = widened-more _ _ _ _ (c .before .before .place-of .ensures .0) (c .if1 .left)
 
 pub widen-spec : {M : Type 1} → statement M
-widen-spec = tie.close (tie.spec place-of-requires add-next add-if1 mul-if1 element-copy-out-if1 mul-spans element-write-spans add-spans mul-spans-2 element-write-spans-2 returns add-spans-2 mul-spans-3 element-write-spans-3 returns-2)
+widen-spec =
+    tie.close
+    (tie.spec
+    place-of-requires
+    add-next
+    add-if1
+    mul-if1
+    element-copy-out-if1
+    mul-spans
+    element-write-spans
+    add-spans
+    mul-spans-2
+    element-write-spans-2
+    returns
+    add-spans-2
+    mul-spans-3
+    element-write-spans-3
+    returns-2)

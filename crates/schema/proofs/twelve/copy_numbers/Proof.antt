@@ -43,4 +43,18 @@ returns : tie.Need-returns Inv-loop μ-loop
 returns c = copy-end _ _ _ _ (c .before .loop .inv) (c .loop-test .left)
 
 pub copy-numbers-spec : {M : Type 1} → statement M
-copy-numbers-spec = tie.close (tie.spec Inv-loop μ-loop loop-holds mul-d shared-slice-read-d mul-d-2 slice-write-d add-j loop-less loop-again same-length returns)
+copy-numbers-spec =
+    tie.close
+    (tie.spec
+    Inv-loop
+    μ-loop
+    loop-holds
+    mul-d
+    shared-slice-read-d
+    mul-d-2
+    slice-write-d
+    add-j
+    loop-less
+    loop-again
+    same-length
+    returns)

@@ -32,8 +32,23 @@ same-length-2 c = search needs
 returns-3 : tie.Need-returns-3
 unfolding schemaRows schemaNames ascii
 returns-3 c =
-    let f = both-fit _ _ _ _ (c .before .before .before .before .before .before .before .before .before .before .before .if1 .left) (c .before .before .before .before .before .before .before .before .before .before .if2 .left) (c .before .before .before .before .before .before .before .copy-numbers .ensures) (c .before .before .copy-bytes .ensures) in
+    let earlier = c .before .before .before .before .before in
+    let at-copy-numbers = earlier .before .before in
+    let at-if2 = at-copy-numbers .before .before .before in
+    let at-if1 = at-if2 .before in
+    let f = both-fit _ _ _ _ (at-if1 .if1 .left) (at-if2 .if2 .left) (at-copy-numbers .copy-numbers .ensures) (c .before .before .copy-bytes .ensures) in
     (f .answer, (f .rows-are, f .names-are))
 
 pub fill-schema-spec : {M : Type 1} → statement M
-fill-schema-spec = tie.close (tie.spec returns returns-2 slice-aggregate-copy-numbers copy-numbers-requires slice-aggregate-copy-bytes copy-bytes-requires same-length same-length-2 returns-3)
+fill-schema-spec =
+    tie.close
+    (tie.spec
+    returns
+    returns-2
+    slice-aggregate-copy-numbers
+    copy-numbers-requires
+    slice-aggregate-copy-bytes
+    copy-bytes-requires
+    same-length
+    same-length-2
+    returns-3)

@@ -1,18 +1,18 @@
 -- The laws of decimals: the last digit apart, how many digits there are, and a run of bytes that grows to the left.
 use mathlib.Core.Path.{_≡_, sym, ap, _∙_}
-use mathlib.Core.List.{List, [], _∷_, _++_, append-assoc, append-nil}
+use mathlib.Core.List.{List, [], _∷_, _++_, append-assoc}
 use mathlib.Core.Bool.{Bool, true, false}
 use Prim.Native.Nat.{ℕ, zero, suc, _+_, _-_, _/_, _%_, _^_, _≤_, _<_}
-use native.Mathlib.Nat.{pow-suc, add-zero}
+use native.Mathlib.Nat.{pow-suc}
 use native.Mathlib.Numerals.{add-one}
 use native.Mathlib.Omega.{arith}
 use lib.Dec.{ltb}
-use lib.ListN.{length, getD, take, drop, set, length-append, take-append-drop}
+use lib.ListN.{length, getD, take, drop, set, length-append}
 use lib.Seq.{take-suc, set-at, length-take-le}
-use borrow.Author.Tests.{lt-ltb, le-ltb, le-leb, lt-leb}
+use borrow.Author.Tests.{lt-ltb, le-ltb}
 use Rattle.bits.specs.Choice.{if_then_else_}
 use Rattle.bits.specs.Runs.{put}
-use Rattle.schema.specs.Decimals.{digits, decimal}
+use Rattle.bits.specs.Decimals.{digits, decimal}
 
 -- digits that a number does not have are not written
 digits-enough : (more n : ℕ) → n < 10 ^ (more + 1) → digits more n ≡ digits (suc more) n
@@ -56,11 +56,6 @@ unfolding decimal
 decimal-some n = digits-some 9 n
 
 -- a run that is written from its end on
-pub put-empty : (d : List ℕ) (i : ℕ) → d ≡ put d i []
-unfolding put
-put-empty d i =
-    sym (ap (λ (k : ℕ). take i d ++ [] ++ drop k d) (add-zero i) ∙ ap (λ (r : List ℕ). r ++ drop i d) (append-nil (take i d)) ∙ take-append-drop i d)
-
 pub put-before : (d run : List ℕ) (k x : ℕ) → k < length d → set (put d (k + 1) run) k x ≡ put d k (x ∷ run)
 unfolding put
 put-before d run k x h =

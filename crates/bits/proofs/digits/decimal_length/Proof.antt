@@ -1,13 +1,13 @@
--- `schema::decimal_length` meets its contract: each turn takes one digit off.
+-- `bits::digits::decimal_length` meets its contract: each turn takes one digit off.
 use borrow.Author.Needs.{needs}
 use native.Mathlib.Omega.{arith}
 use mathlib.Core.Path.{_≡_}
 use Prim.Native.Nat.{ℕ, _+_, _<_}
 use lib.ListN.{length}
-use Rattle.schema.specs.Decimals.{decimal}
-use Rattle.schema.proofs.DecimalLaws.{length-more, length-one, decimal-some}
-use Rattle.schema.proofs.decimal.decimal_length.Statement.{statement}
-use Rattle.schema.proofs.decimal.decimal_length.Tie as tie
+use Rattle.bits.specs.Decimals.{decimal}
+use Rattle.bits.proofs.DecimalLaws.{length-more, length-one, decimal-some}
+use Rattle.bits.proofs.digits.decimal_length.Statement.{statement}
+use Rattle.bits.proofs.digits.decimal_length.Tie as tie
 
 record Counted (n v k : ℕ) : Type 0 where
   pub small : v < 10000000000
@@ -56,4 +56,20 @@ returns : tie.Need-returns Inv-loop μ-loop
 returns c = omega (arith, length-one (c .before .loop .v) (omega arith))
 
 pub decimal-length-spec : {M : Type 1} → statement M
-decimal-length-spec = tie.close (tie.spec Inv-loop μ-loop loop-holds add-scratch cast-scratch array-write-scratch add-k loop-less loop-again add-scratch-2 cast-scratch-2 array-write-scratch-2 add-result returns)
+decimal-length-spec =
+    tie.close
+    (tie.spec
+    Inv-loop
+    μ-loop
+    loop-holds
+    add-scratch
+    cast-scratch
+    array-write-scratch
+    add-k
+    loop-less
+    loop-again
+    add-scratch-2
+    cast-scratch-2
+    array-write-scratch-2
+    add-result
+    returns)

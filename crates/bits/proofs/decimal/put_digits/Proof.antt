@@ -1,12 +1,13 @@
--- `schema::put_digits` meets its contract: the digits stand from j on, and those of v are still to be written before them.
+-- `bits::decimal::put_digits` meets its contract: the digits stand from j on, and those of v are still to be written before them.
 use borrow.Author.Needs.{needs}
 use native.Mathlib.Omega.{arith}
-use mathlib.Core.Path.{refl}
+use mathlib.Core.Path.{refl, sym}
 use mathlib.Core.List.{[], append-nil}
 use lib.ListN.{length-set}
-use Rattle.schema.proofs.DecimalLaws.{Written, put-empty, digit-there, written-more, written-last}
-use Rattle.schema.proofs.decimal.put_digits.Statement.{statement}
-use Rattle.schema.proofs.decimal.put_digits.Tie as tie
+use Rattle.bits.proofs.RunLaws.{put-none}
+use Rattle.bits.proofs.DecimalLaws.{Written, digit-there, written-more, written-last}
+use Rattle.bits.proofs.decimal.put_digits.Statement.{statement}
+use Rattle.bits.proofs.decimal.put_digits.Tie as tie
 
 abbrev Inv-loop : tie.InvT-loop
 Inv-loop d₀ at k n v₀ j₀ d v j = Written d₀ d at n v j
@@ -23,7 +24,7 @@ loop-holds c =
       run = [];
       whole = append-nil _;
       place = omega arith;
-      now-is = put-empty _ _;
+      now-is = sym (put-none _ _);
       same = refl;
       room = omega arith;
       below = omega arith;
@@ -64,4 +65,21 @@ returns : tie.Need-returns Inv-loop μ-loop
 returns c = written-last _ _ _ _ _ _ (c .before .loop .inv) (omega arith)
 
 pub put-digits-spec : {M : Type 1} → statement M
-put-digits-spec = tie.close (tie.spec Inv-loop μ-loop add-j loop-holds sub-j add-d cast-d slice-write-d loop-less loop-again add-d-2 cast-d-2 slice-write-d-2 same-length returns)
+put-digits-spec =
+    tie.close
+    (tie.spec
+    Inv-loop
+    μ-loop
+    add-j
+    loop-holds
+    sub-j
+    add-d
+    cast-d
+    slice-write-d
+    loop-less
+    loop-again
+    add-d-2
+    cast-d-2
+    slice-write-d-2
+    same-length
+    returns)

@@ -1,25 +1,10 @@
-// Decimals of u32 numbers.
+// Decimals of u32 numbers, written to a buffer.
 ghost use mathlib.Core.Path.{_≡_};
 ghost use Prim.Native.Nat.{_+_, _≤_};
 ghost use lib.ListN.{length};
 ghost use Rattle.bits.specs.Runs.{put, store};
-ghost use Rattle.schema.specs.Decimals.{decimal, placeAfter};
-
-// How many digits n has.
-pub fn decimal_length(n: u32) -> usize
-    ensures { λ r. ⌜ r ≡ length (decimal n) ⌝ }
-{
-    let mut scratch = [0u8; 10];
-    let mut v = n;
-    let mut k: usize = 0;
-    while 9 < v {
-        scratch[k] = (48 + v % 10) as u8;
-        v = v / 10;
-        k += 1;
-    }
-    scratch[k] = (48 + v) as u8;
-    k + 1
-}
+ghost use Rattle.bits.specs.Decimals.{decimal, placeAfter};
+use crate::digits::decimal_length;
 
 // The digits of n, of which there are k, from byte at of d. The last one is written first.
 fn put_digits(d: &mut [u8], at: usize, k: usize, n: u32)
