@@ -4,15 +4,17 @@ use mathlib.Core.List.{map}
 use Rattle.bits.specs.Bits.{num, field}
 use Rattle.bits.specs.Packed.{after, earlierByte, fifthByte, packedFrom, packed}
 use Rattle.schema.specs.Tables.{cell, fits, firstRow, rowOf, child, schemaName, declaredName}
-use Rattle.schema.specs.Decimals.{digits, decimal}
+use Rattle.bits.specs.Decimals.{digits, decimal}
 use Rattle.schema.specs.Labels.{bySchema, containerLabel, byDeclaration, leafLabel, labelBytes, atIndex, dot}
 use Rattle.schema.specs.TwelveLevels.{ascii, schemaRows, schemaNames}
 use Rattle.framing.specs.Windows.{reading}
-use Rattle.framing.specs.Paths.{grown, noted, given}
+use Rattle.framing.specs.Paths.{grownPath, overIfLong, leafOrOver}
 use Rattle.framing.specs.Walk.{lead, fieldAt, tail, fields, closing, inItem, entering, elements, level}
 use Rattle.framing.specs.Sinks.{structSink, objectSink, sinkOf, walkWindow, walk}
-use Rattle.framing.specs.Cases.{CaseAnswer, Case, cases, found}
+use Rattle.framing.specs.Cases.{cases, found}
 
 pub cases-hold : map found cases ≡ map (λ c. c .answer) cases
-unfolding ascii schemaRows schemaNames num field after earlierByte fifthByte packedFrom packed cell fits firstRow rowOf child schemaName declaredName digits decimal bySchema containerLabel byDeclaration leafLabel labelBytes atIndex dot reading grown noted given lead fieldAt tail fields closing inItem entering elements level structSink objectSink sinkOf walkWindow walk
+unfolding ascii schemaRows schemaNames num field after earlierByte fifthByte packedFrom packed cell fits firstRow rowOf child schemaName
+    declaredName digits decimal bySchema containerLabel byDeclaration leafLabel labelBytes atIndex dot reading grownPath overIfLong leafOrOver lead fieldAt
+    tail fields closing inItem entering elements level structSink objectSink sinkOf walkWindow walk
 cases-hold = refl

@@ -1,31 +1,31 @@
 -- What clean means. A window of at least one bit is walked clean exactly if it is the bits of an array of the grammar; and then the walk's leaves,
--- pairs and elements are that array's.
-use Prim.Native.Nat.{ℕ, _*_, _-_, _^_, _≤_, _<_}
+-- pairs and elements are that array's. Of each kind of walk it was shown for a level (GrammarStruct, GrammarObject, GrammarGiven); a window is the
+-- bits of an array if they stand in it from its first bit to its last.
+use Prim.Native.Nat.{ℕ, _*_, _^_, _≤_, _<_}
 use mathlib.Core.Path.{_≡_, refl, sym, ap, _∙_, subst}
 use mathlib.Core.Bool.{Bool, true, false}
-use mathlib.Core.List.{List, [], _∷_}
+use mathlib.Core.List.{List, []}
 use native.Mathlib.Omega.{arith}
-use lib.Dec.{eqb}
 use lib.ListN.{length}
 use borrow.Author.Tests.{eqb-true, eq-eqb, ne-eqb}
-use Rattle.bits.specs.Choice.{if_then_else_}
 use Rattle.bits.specs.Bits.{num}
 use Rattle.bits.proofs.FieldLaws.{field-lt}
-use Rattle.schema.specs.Tables.{Tables, absent}
+use Rattle.bits.specs.Sizes.{levelsBelow}
+use Rattle.schema.specs.Tables.{Tables}
 use Rattle.framing.specs.Windows.{Window, windowOf}
-use Rattle.framing.specs.Events.{Leaf, Pair, root, leaves, pairs, overs, Trace}
+use Rattle.framing.specs.Events.{root, leaves, pairs, overs, Trace}
 use Rattle.framing.specs.Counters.{counters, faults, isClean}
 use Rattle.framing.specs.Walk.{level}
-use Rattle.framing.specs.Sinks.{levelsBelow, structSink, objectSink, Walk, struct, exact, object, Leafy, declaredOnly, sinkOf, silent, walkWindow, walk}
+use Rattle.framing.specs.declared.Walk.the-variants as how
+use Rattle.framing.specs.Sinks.{Walker, walker, object, Leafy, sinkOf, walkWindow, walk}
 use Rattle.framing.specs.Grammar.{arrayBits}
 use Rattle.framing.specs.GrammarRules.{contentBits, referenceBits}
-use Rattle.framing.specs.GrammarGives.{structLeaves}
-use Rattle.framing.specs.InGrammar.{StructWindow, ObjectWindow, InGrammar, treeLeaves, treePairs, treeElements}
+use Rattle.framing.specs.InGrammar.{StructWindow, InGrammar, treeLeaves, treePairs, treeElements}
 use Rattle.framing.proofs.Demand3.{walk-inside}
 use Rattle.framing.proofs.GrammarBits.{Span}
 use Rattle.framing.proofs.GrammarFound.{Fine}
 use Rattle.framing.proofs.GrammarStruct.{Tells, InStruct, span-whole, whole-span, found-struct, walked-struct}
-use Rattle.framing.proofs.GrammarObject.{InObject, found-object, walked-object}
+use Rattle.framing.proofs.GrammarObject.{found-object, walked-object}
 use Rattle.framing.proofs.GrammarGiven.{struct-leaves, struct-elements, object-pairs, object-elements}
 
 -- clean and without fault are the same
@@ -40,11 +40,11 @@ root-tells n h = omega arith
 
 module _ (w : Window) (some : 1 ≤ w .size) (whole : w .bits < 2 ^ w .size) where
   -- a window with bits is walked
-  loud : (k : Walk) → walkWindow k w ≡ level (sinkOf k) w []
+  loud : (k : Walker) → walkWindow k w ≡ level (sinkOf k) w []
   unfolding walkWindow
-  loud (struct t lvl) = rw (ne-eqb (w .size) 0 (λ z. omega arith)) refl
-  loud (exact d n) = rw (ne-eqb (w .size) 0 (λ z. omega arith)) refl
-  loud object = refl
+  loud (walker how.Struct t lvl) = rw (ne-eqb (w .size) 0 (λ z. omega arith)) refl
+  loud (walker how.Exact t lvl) = rw (ne-eqb (w .size) 0 (λ z. omega arith)) refl
+  loud (walker how.Object t lvl) = refl
 
   as-tree : (t : Tables) (takes : Bool) (lvl : ℕ) → InStruct levelsBelow (t .rows) takes lvl w → StructWindow t takes lvl w
   as-tree t takes lvl f = record { tree = f .it; allowed = f .ok; bits = span-whole w (arrayBits (contentBits levelsBelow) (f .it)) whole (f .span) }
@@ -52,41 +52,41 @@ module _ (w : Window) (some : 1 ≤ w .size) (whole : w .bits < 2 ^ w .size) whe
   stands : (t : Tables) (takes : Bool) (lvl : ℕ) (g : StructWindow t takes lvl w) → Span w 0 (w .size) (arrayBits (contentBits levelsBelow) (g .tree))
   stands t takes lvl g = whole-span w (arrayBits (contentBits levelsBelow) (g .tree)) whole (g .bits)
 
-  fine-in : (k : Walk) → Fine (level (sinkOf k) w []) → InGrammar k w
+  fine-in : (k : Walker) → Fine (level (sinkOf k) w []) → InGrammar k w
   unfolding sinkOf
-  fine-in (struct t lvl) h = as-tree t true lvl (found-struct levelsBelow t true root lvl root-tells w [] h)
-  fine-in (exact d n) h = as-tree (declaredOnly d n) false absent (found-struct levelsBelow (declaredOnly d n) false root absent root-tells w [] h)
-  fine-in object h =
+  fine-in (walker how.Struct t lvl) h = as-tree t true lvl (found-struct levelsBelow t true root lvl root-tells w [] h)
+  fine-in (walker how.Exact t lvl) h = as-tree t false lvl (found-struct levelsBelow t false root lvl root-tells w [] h)
+  fine-in (walker how.Object t lvl) h =
       let f = found-object w [] h in
       record { tree = f .it; allowed = f .ok; bits = span-whole w (arrayBits referenceBits (f .it)) whole (f .span) }
 
-  in-fine : (k : Walk) → InGrammar k w → Fine (level (sinkOf k) w [])
+  in-fine : (k : Walker) → InGrammar k w → Fine (level (sinkOf k) w [])
   unfolding sinkOf
-  in-fine (struct t lvl) g = walked-struct levelsBelow t true root lvl refl (g .tree) (g .allowed) w (stands t true lvl g) []
-  in-fine (exact d n) g = walked-struct levelsBelow (declaredOnly d n) false root absent refl (g .tree) (g .allowed) w (stands (declaredOnly d n) false absent g) []
-  in-fine object g = walked-object (g .tree) (g .allowed) w (whole-span w (arrayBits referenceBits (g .tree)) whole (g .bits)) []
+  in-fine (walker how.Struct t lvl) g = walked-struct levelsBelow t true root lvl refl (g .tree) (g .allowed) w (stands t true lvl g) []
+  in-fine (walker how.Exact t lvl) g = walked-struct levelsBelow t false root lvl refl (g .tree) (g .allowed) w (stands t false lvl g) []
+  in-fine (walker how.Object t lvl) g = walked-object (g .tree) (g .allowed) w (whole-span w (arrayBits referenceBits (g .tree)) whole (g .bits)) []
 
   -- A window that is walked clean is the bits of an array of the grammar.
-  pub clean-in-grammar : (k : Walk) → isClean (counters (walkWindow k w)) ≡ true → InGrammar k w
+  pub clean-in-grammar : (k : Walker) → isClean (counters (walkWindow k w)) ≡ true → InGrammar k w
   clean-in-grammar k h = fine-in k (subst Fine (loud k) (clean-fine (walkWindow k w) h))
 
   -- A window that is the bits of an array of the grammar is walked clean.
-  pub grammar-clean : (k : Walk) → InGrammar k w → isClean (counters (walkWindow k w)) ≡ true
+  pub grammar-clean : (k : Walker) → InGrammar k w → isClean (counters (walkWindow k w)) ≡ true
   grammar-clean k g = fine-clean (walkWindow k w) (subst Fine (sym (loud k)) (in-fine k g))
 
   -- Then its leaves are the array's, unless a path is too long, which is refusal 5.
-  tree-leaves : (k : Walk) (g : InGrammar k w) → overs (level (sinkOf k) w []) ≡ 0 → Leafy k → leaves (level (sinkOf k) w []) ≡ treeLeaves k w g
+  tree-leaves : (k : Walker) (g : InGrammar k w) → overs (level (sinkOf k) w []) ≡ 0 → Leafy k → leaves (level (sinkOf k) w []) ≡ treeLeaves k w g
   unfolding sinkOf
-  tree-leaves (struct t lvl) g h leafy = struct-leaves levelsBelow t true root lvl refl (g .tree) (g .allowed) w (stands t true lvl g) [] h
-  tree-leaves (exact d n) g h leafy =
-      struct-leaves levelsBelow (declaredOnly d n) false root absent refl (g .tree) (g .allowed) w (stands (declaredOnly d n) false absent g) [] h
-  tree-leaves object g h leafy = absurd leafy
+  tree-leaves (walker how.Struct t lvl) g h leafy = struct-leaves levelsBelow t true root lvl refl (g .tree) (g .allowed) w (stands t true lvl g) [] h
+  tree-leaves (walker how.Exact t lvl) g h leafy =
+      struct-leaves levelsBelow t false root lvl refl (g .tree) (g .allowed) w (stands t false lvl g) [] h
+  tree-leaves (walker how.Object t lvl) g h leafy = absurd leafy
 
-  pub grammar-leaves : (k : Walk) (g : InGrammar k w) → overs (walkWindow k w) ≡ 0 → Leafy k → leaves (walkWindow k w) ≡ treeLeaves k w g
+  pub grammar-leaves : (k : Walker) (g : InGrammar k w) → overs (walkWindow k w) ≡ 0 → Leafy k → leaves (walkWindow k w) ≡ treeLeaves k w g
   grammar-leaves k g h leafy = ap leaves (loud k) ∙ tree-leaves k g (ap overs (sym (loud k)) ∙ h) leafy
 
   -- Two arrays with the window's bits have the same leaves.
-  pub one-meaning : (k : Walk) (g h : InGrammar k w) → overs (walkWindow k w) ≡ 0 → Leafy k → treeLeaves k w g ≡ treeLeaves k w h
+  pub one-meaning : (k : Walker) (g h : InGrammar k w) → overs (walkWindow k w) ≡ 0 → Leafy k → treeLeaves k w g ≡ treeLeaves k w h
   one-meaning k g h e leafy = sym (grammar-leaves k g e leafy) ∙ grammar-leaves k h e leafy
 
   -- An object walk's pairs are the array's.
@@ -98,18 +98,18 @@ module _ (w : Window) (some : 1 ≤ w .size) (whole : w .bits < 2 ^ w .size) whe
   one-list g h = sym (grammar-pairs g) ∙ grammar-pairs h
 
   -- The elements entered are the array's.
-  tree-elements : (k : Walk) (g : InGrammar k w) → (counters (level (sinkOf k) w [])) .elements ≡ treeElements k w g
+  tree-elements : (k : Walker) (g : InGrammar k w) → (counters (level (sinkOf k) w [])) .elements ≡ treeElements k w g
   unfolding sinkOf
-  tree-elements (struct t lvl) g = struct-elements levelsBelow t true root lvl refl (g .tree) (g .allowed) w (stands t true lvl g) []
-  tree-elements (exact d n) g =
-      struct-elements levelsBelow (declaredOnly d n) false root absent refl (g .tree) (g .allowed) w (stands (declaredOnly d n) false absent g) []
-  tree-elements object g = object-elements (g .tree) (g .allowed) w (whole-span w (arrayBits referenceBits (g .tree)) whole (g .bits)) []
+  tree-elements (walker how.Struct t lvl) g = struct-elements levelsBelow t true root lvl refl (g .tree) (g .allowed) w (stands t true lvl g) []
+  tree-elements (walker how.Exact t lvl) g =
+      struct-elements levelsBelow t false root lvl refl (g .tree) (g .allowed) w (stands t false lvl g) []
+  tree-elements (walker how.Object t lvl) g = object-elements (g .tree) (g .allowed) w (whole-span w (arrayBits referenceBits (g .tree)) whole (g .bits)) []
 
-  pub grammar-elements : (k : Walk) (g : InGrammar k w) → (counters (walkWindow k w)) .elements ≡ treeElements k w g
+  pub grammar-elements : (k : Walker) (g : InGrammar k w) → (counters (walkWindow k w)) .elements ≡ treeElements k w g
   grammar-elements k g = ap (λ (t : Trace). (counters t) .elements) (loud k) ∙ tree-elements k g
 
 -- The same of the first n bits of some bytes, as a call walks them.
-module _ (k : Walk) (bytes : List ℕ) (n : ℕ) (some : 1 ≤ n) (inside : n ≤ 8 * length bytes) where
+module _ (k : Walker) (bytes : List ℕ) (n : ℕ) (some : 1 ≤ n) (inside : n ≤ 8 * length bytes) where
   pub clean-call : isClean (counters (walk k bytes n)) ≡ true → InGrammar k (windowOf bytes n)
   clean-call h =
       clean-in-grammar (windowOf bytes n) some (field-lt (num bytes) 0 n) k (subst (λ (t : Trace). isClean (counters t) ≡ true) (walk-inside k bytes n inside) h)

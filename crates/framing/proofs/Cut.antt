@@ -6,12 +6,12 @@ use mathlib.Core.List.{List, [], _∷_, _++_}
 use Prim.Native.Nat.{ℕ, zero, suc, _+_, _*_, _≤_}
 use lib.ListN.{length}
 use lib.Dec.{ltb, leb, eqb}
-use Rattle.bits.specs.Choice.{if_then_else_}
 use Rattle.bits.specs.Packed.{Number}
-use Rattle.framing.specs.Windows.{Window, part, opening, Reading, got, failed, reading}
-use Rattle.framing.specs.Events.{Leaf, rawHandle, numbers, Event, number, element, leaf, truncation, error, implicit, over, Trace}
-use Rattle.framing.specs.Paths.{longestPath, given}
-use Rattle.framing.specs.Walk.{Sink, Lead, ends, fails, closes, opens, lead, Due, cut, broken, closed, present, fieldAt, rawLeaf, tail, Run, done, stopped, prepend, onField, onLastField, fields, closing, inItem, entering, behind, onIndex, onLastIndex, elements, onCount, level, maxFields, maxElements}
+use Rattle.bits.specs.Sizes.{longestPath, maxFields, maxElements}
+use Rattle.framing.specs.Windows.{Window, part, opening, Reading, got}
+use Rattle.framing.specs.Events.{Leaf, rawHandle, numbers, Event, number, leaf, truncation, error, implicit, over, Trace}
+use Rattle.framing.specs.Paths.{leafOrOver}
+use Rattle.framing.specs.Walk.{Sink, Lead, opens, Due, rawLeaf, tail, Run, done, stopped, prepend, onField, onLastField, fields, closing, inItem, entering, behind, beyond, onIndex, onLastIndex, elements, tooMany, onCount, level}
 use Rattle.framing.proofs.Shorter.{part-opening, Reads, agree, short, reads, Leads, at-end, unread, at-zero, at-more, leads, Dues, at-field, dues}
 
 -- what may stand behind a truncation
@@ -73,11 +73,11 @@ pub numbers-error : (ns : List Number) → Broken (numbers ns ++ (error ∷ []))
 numbers-error [] = at-error
 numbers-error (x ∷ ns) = read (numbers-error ns)
 
-given-tail : (x : Leaf) → x .handle ≡ rawHandle → Tail (given x)
-unfolding given
-given-tail x h = go (leb (length (x .path)) longestPath) refl
+raw-tail : (x : Leaf) → x .handle ≡ rawHandle → Tail (leafOrOver x)
+unfolding leafOrOver
+raw-tail x h = go (leb (length (x .path)) longestPath) refl
   where
-    go : (b : Bool) → leb (length (x .path)) longestPath ≡ b → Tail (given x)
+    go : (b : Bool) → leb (length (x .path)) longestPath ≡ b → Tail (leafOrOver x)
     go true e = rw e (kept h)
     go false e = rw e too-long
 
@@ -86,7 +86,7 @@ unfolding tail
 tail-of s v path p = go (s .flattens && ltb p (v .size)) refl
   where
     go : (x : Bool) → s .flattens && ltb p (v .size) ≡ x → Tail (tail s v path p)
-    go true e = rw e (given-tail (rawLeaf v path p) refl)
+    go true e = rw e (raw-tail (rawLeaf v path p) refl)
     go false e = rw e skipped
 
 module _ (s : Sink) (w : Window) (m : ℕ) (mn : m ≤ w .size) where
@@ -131,9 +131,9 @@ module _ (s : Sink) (w : Window) (m : ℕ) (mn : m ≤ w .size) where
     one-element path count f g r at-end = breaks at-implicit
     one-element path count f g r unread = breaks at-error
     one-element path count f g r (at-zero {q = q} h) = same (end q h)
-    one-element path count f g r (at-more {e = x} {n = n} {q = q} h) = go (leb count n) refl
+    one-element path count f g r (at-more {e = x} {n = n} {q = q} h) = go (beyond count n) refl
       where
-        go : (b : Bool) → leb count n ≡ b → Cut Ending (onIndex s (opening m w) path count f (opens x n q)) (onIndex s w path count g (opens x n q))
+        go : (b : Bool) → beyond count n ≡ b → Cut Ending (onIndex s (opening m w) path count f (opens x n q)) (onIndex s w path count g (opens x n q))
         go true e = rw e (same (breaks at-error))
         go false e = rw e (same (same (after (entering s path n) (go-on f g r (fields-cut n (inItem s path n) maxFields q true)))))
 
@@ -146,9 +146,9 @@ module _ (s : Sink) (w : Window) (m : ℕ) (mn : m ≤ w .size) where
 
     count-cut : (path : List ℕ) {r t : Reading} → Reads m 0 r t → Cut Ending (onCount s (opening m w) path r) (onCount s w path t)
     count-cut path short = breaks at-error
-    count-cut path (agree {v = v} {b = b} h) = go (ltb maxElements v) refl
+    count-cut path (agree {v = v} {b = b} h) = go (tooMany v) refl
       where
-        go : (x : Bool) → ltb maxElements v ≡ x → Cut Ending (onCount s (opening m w) path (got v b)) (onCount s w path (got v b))
+        go : (x : Bool) → tooMany v ≡ x → Cut Ending (onCount s (opening m w) path (got v b)) (onCount s w path (got v b))
         go true e = rw e (same (breaks (at-truncation (tail-of s (opening m w) path (8 * b)))))
         go false e = rw e (same (elements-cut path v maxElements (8 * b)))
 

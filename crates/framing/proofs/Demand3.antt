@@ -1,4 +1,5 @@
--- Demand 3, of the definitions.
+-- Demand 3, of the definitions. The two traces agree until the shorter breaks off or both are behind their index terminator (Cut): a trace that
+-- broke off has a fault, and behind both terminators a clean end means that nothing but a zero trailer is missing.
 use mathlib.Core.Path.{_≡_, refl, sym, ap, _∙_}
 use mathlib.Core.Bool.{Bool, true, false, _&&_}
 use mathlib.Core.List.{List, [], _∷_}
@@ -14,11 +15,13 @@ use Rattle.bits.proofs.FieldLaws.{field-low, field-same}
 use Rattle.bits.proofs.PackedWindows as PW
 use Rattle.bits.specs.declared.Packed.{Packed}
 use Rattle.bits.specs.declared.Packed.the-variants.{Whole, Cut, GoesOn, Overflows}
+use Rattle.bits.specs.Sizes.{trailerBits}
 use Rattle.framing.specs.Windows.{Window, windowOf, opening, Reading, got, failed, readingOf, reading}
 use Rattle.framing.specs.Events.{Leaf, rawHandle, Event, number, element, leaf, pair, truncation, error, implicit, nested, root, over, leaves, pairs, Trace}
 use Rattle.framing.specs.Counters.{counters, faults, isClean}
 use Rattle.framing.specs.Walk.{Sink, trailerOf, closing}
-use Rattle.framing.specs.Sinks.{structSink, objectSink, Walk, struct, exact, object, sinkOf, silent, walkWindow, walk}
+use Rattle.framing.specs.declared.Walk.the-variants as how
+use Rattle.framing.specs.Sinks.{structSink, objectSink, Walker, walker, sinkOf, silent, walkWindow, walk}
 use Rattle.framing.specs.Demand.{dropTail, Opens, nothing-sent, lacks-trailer, CutOf}
 use Rattle.framing.proofs.Shorter.{Reads, agree, short, reads}
 use Rattle.framing.proofs.Cut as Cuts
@@ -78,18 +81,22 @@ root-clean n c = let f = eqb-true (faults (counters (root n ∷ []))) 0 c in ome
 
 -- ---- behind both terminators
 
+-- behind bit m there is a trailer and nothing else
+abbrev LacksTrailer : Sink → Window → (m : ℕ) → Type 0
+LacksTrailer s w m = (s .trailer ≡ true) × (m + trailerBits ≡ w .size) × (field (w .bits) m trailerBits ≡ 0)
+
 record Ends (s : Sink) (w : Window) (m : ℕ) (a b : Trace) : Type 0 where
   no-leaves : leaves a ≡ []
   no-pairs : pairs a ≡ []
   verdict : isClean (counters b) ≡ true → m < w .size → isClean (counters a) ≡ true
-      → (s .trailer ≡ true) × (m + 8 ≡ w .size) × (field (w .bits) m 8 ≡ 0)
+      → LacksTrailer s w m
 
 -- with the trailer's bits left, a number that is zero is a zero byte
-pub zero-byte : (w : Window) (q v b : ℕ) → q + 8 ≡ w .size → reading w q ≡ got v b → v ≡ 0 → field (w .bits) q 8 ≡ 0
+pub zero-byte : (w : Window) (q v b : ℕ) → q + trailerBits ≡ w .size → reading w q ≡ got v b → v ≡ 0 → field (w .bits) q trailerBits ≡ 0
 unfolding reading
 zero-byte w q v b fit e z = go (packed (w .bits) (w .size) q) refl e
   where
-    go : (r : Packed) → packed (w .bits) (w .size) q ≡ r → readingOf r ≡ got v b → field (w .bits) q 8 ≡ 0
+    go : (r : Packed) → packed (w .bits) (w .size) q ≡ r → readingOf r ≡ got v b → field (w .bits) q trailerBits ≡ 0
     go (Whole x n) p f = let val : x ≡ 0 = (let f′ : x ≡ v = cc in f′ ∙ z) in PW.zero-byte (w .bits) (w .size) q x n fit p val
     go (Cut n) p f = let no-way : _≡_ {A = ℕ} 0 1 = cc in omega arith
     go GoesOn p f = let no-way : _≡_ {A = ℕ} 0 1 = cc in omega arith
@@ -97,51 +104,51 @@ zero-byte w q v b fit e z = go (packed (w .bits) (w .size) q) refl e
 
 -- the shorter's end took a trailer, or left bits; the sink counts them at the root
 module _ (s : Sink) (w : Window) (m : ℕ) (mn : m ≤ w .size) (tells : (n : ℕ) → s .leftover n ≡ root n) where
-  left-over : (v : Window) (q : ℕ) → s .trailer && eqb (v .size - q) 8 ≡ false → closing s v q ≡ root (v .size - q) ∷ []
+  left-over : (v : Window) (q : ℕ) → s .trailer && eqb (v .size - q) trailerBits ≡ false → closing s v q ≡ root (v .size - q) ∷ []
   unfolding closing
   left-over v q e = rw (e, tells (v .size - q))
 
-  taken : (v : Window) (q : ℕ) → s .trailer && eqb (v .size - q) 8 ≡ true → closing s v q ≡ trailerOf s v q (reading v q)
+  taken : (v : Window) (q : ℕ) → s .trailer && eqb (v .size - q) trailerBits ≡ true → closing s v q ≡ trailerOf s v q (reading v q)
   unfolding closing
   taken v q e = rw e
 
   -- a clean end with eight bits left is a zero byte
-  trailer-zero : (q : ℕ) → q + 8 ≡ w .size → (r : Reading) → reading w q ≡ r → isClean (counters (trailerOf s w q r)) ≡ true → field (w .bits) q 8 ≡ 0
+  trailer-zero : (q : ℕ) → q + trailerBits ≡ w .size → (r : Reading) → reading w q ≡ r → isClean (counters (trailerOf s w q r)) ≡ true → field (w .bits) q trailerBits ≡ 0
   trailer-zero q fit failed e c = absurd (broken-unclean at-error c)
   trailer-zero q fit (got v b) e c = go (eqb v 0) refl c
     where
-      go : (x : Bool) → eqb v 0 ≡ x → isClean (counters (trailerOf s w q (got v b))) ≡ true → field (w .bits) q 8 ≡ 0
+      go : (x : Bool) → eqb v 0 ≡ x → isClean (counters (trailerOf s w q (got v b))) ≡ true → field (w .bits) q trailerBits ≡ 0
       go true t c = zero-byte w q v b fit e (eqb-true v 0 t)
       go false t c =
-          let c′ : isClean (counters (root 8 ∷ [])) ≡ true = rw (t, tells 8) at c in
-          let f = root-clean 8 c′ in
+          let c′ : isClean (counters (root trailerBits ∷ [])) ≡ true = rw (t, tells trailerBits) at c in
+          let f = root-clean trailerBits c′ in
           omega arith
 
   -- the shorter ends with nothing left at q, which is m
   at-q : (q : ℕ) → q ≡ m → m < w .size → isClean (counters (closing s w q)) ≡ true
-      → (s .trailer ≡ true) × (q + 8 ≡ w .size) × (field (w .bits) q 8 ≡ 0)
+      → LacksTrailer s w q
   unfolding closing
-  at-q q e lt c = go (s .trailer && eqb (w .size - q) 8) refl
+  at-q q e lt c = go (s .trailer && eqb (w .size - q) trailerBits) refl
     where
-      go : (x : Bool) → s .trailer && eqb (w .size - q) 8 ≡ x → (s .trailer ≡ true) × (q + 8 ≡ w .size) × (field (w .bits) q 8 ≡ 0)
+      go : (x : Bool) → s .trailer && eqb (w .size - q) trailerBits ≡ x → LacksTrailer s w q
       go true t =
-          let ts = and-true (s .trailer) (eqb (w .size - q) 8) t in
-          let d = eqb-true (w .size - q) 8 (ts .1) in
-          let fit : q + 8 ≡ w .size = omega arith in
+          let ts = and-true (s .trailer) (eqb (w .size - q) trailerBits) t in
+          let d = eqb-true (w .size - q) trailerBits (ts .1) in
+          let fit : q + trailerBits ≡ w .size = omega arith in
           (ts .0, fit, trailer-zero q fit (reading w q) refl (rw t at c))
       go false t =
           let f = root-clean (w .size - q) (rw (left-over w q t) at c) in
           absurd (omega arith)
 
   -- the shorter took its last eight bits, so the longer leaves more than eight
-  past-q : (q : ℕ) → m - q ≡ 8 → m < w .size → isClean (counters (closing s w q)) ≡ true → ⊥
-  past-q q d lt c = go (s .trailer && eqb (w .size - q) 8) refl
+  past-q : (q : ℕ) → m - q ≡ trailerBits → m < w .size → isClean (counters (closing s w q)) ≡ true → ⊥
+  past-q q d lt c = go (s .trailer && eqb (w .size - q) trailerBits) refl
     where
-      go : (x : Bool) → s .trailer && eqb (w .size - q) 8 ≡ x → ⊥
-      go true t = let d′ = eqb-true (w .size - q) 8 (and-true (s .trailer) (eqb (w .size - q) 8) t .1) in omega arith
+      go : (x : Bool) → s .trailer && eqb (w .size - q) trailerBits ≡ x → ⊥
+      go true t = let d′ = eqb-true (w .size - q) trailerBits (and-true (s .trailer) (eqb (w .size - q) trailerBits) t .1) in omega arith
       go false t = let f = root-clean (w .size - q) (rw (left-over w q t) at c) in omega arith
 
-  took : (q : ℕ) → m - q ≡ 8 → {r t : Reading} → Reads m q r t → Cuts.Cut (Ends s w m) (trailerOf s (opening m w) q r) (closing s w q)
+  took : (q : ℕ) → m - q ≡ trailerBits → {r t : Reading} → Reads m q r t → Cuts.Cut (Ends s w m) (trailerOf s (opening m w) q r) (closing s w q)
   took q d short = breaks at-error
   took q d (agree {v = v} {b = b} h) = go (eqb v 0) refl
     where
@@ -150,16 +157,16 @@ module _ (s : Sink) (w : Window) (m : ℕ) (mn : m ≤ w .size) (tells : (n : �
           rw (e, tells 0)
           (ending (record { no-leaves = refl; no-pairs = refl; verdict = λ c lt c′. absurd (past-q q d lt c) }))
       go false e =
-          rw (e, tells 8)
-          (ending {a = root 8 ∷ []} {b = closing s w q} (record { no-leaves = refl; no-pairs = refl; verdict = λ c lt c′. let f = root-clean 8 c′ in absurd (omega arith) }))
+          rw (e, tells trailerBits)
+          (ending {a = root trailerBits ∷ []} {b = closing s w q} (record { no-leaves = refl; no-pairs = refl; verdict = λ c lt c′. let f = root-clean trailerBits c′ in absurd (omega arith) }))
 
   closing-cut : (q : ℕ) → q ≤ m → Cuts.Cut (Ends s w m) (closing s (opening m w) q) (closing s w q)
-  closing-cut q h = go (s .trailer && eqb (m - q) 8) refl
+  closing-cut q h = go (s .trailer && eqb (m - q) trailerBits) refl
     where
-      go : (x : Bool) → s .trailer && eqb (m - q) 8 ≡ x → Cuts.Cut (Ends s w m) (closing s (opening m w) q) (closing s w q)
+      go : (x : Bool) → s .trailer && eqb (m - q) trailerBits ≡ x → Cuts.Cut (Ends s w m) (closing s (opening m w) q) (closing s w q)
       go true t =
           rw (taken (opening m w) q t)
-          (took q (eqb-true (m - q) 8 (and-true (s .trailer) (eqb (m - q) 8) t .1)) (reads w m mn q))
+          (took q (eqb-true (m - q) trailerBits (and-true (s .trailer) (eqb (m - q) trailerBits) t .1)) (reads w m mn q))
       go false t =
           rw (left-over (opening m w) q t)
           (ending {a = root (m - q) ∷ []} {b = closing s w q} (record { no-leaves = refl; no-pairs = refl; verdict = λ c lt c′. let e : q ≡ m = (let f = root-clean (m - q) c′ in omega arith) in rw e at (at-q q e lt c) }))
@@ -197,26 +204,26 @@ module _ (s : Sink) (w : Window) (m : ℕ) where
   cut-pairs (same {e = over} c) = cut-pairs c
 
   cut-verdict : {a b : Trace} → Cuts.Cut (Ends s w m) a b → isClean (counters b) ≡ true → m < w .size → isClean (counters a) ≡ true
-      → (s .trailer ≡ true) × (m + 8 ≡ w .size) × (field (w .bits) m 8 ≡ 0)
+      → LacksTrailer s w m
   cut-verdict (breaks h) l lt c = absurd (broken-unclean h c)
   cut-verdict (ending e) l lt c = e .verdict l lt c
   cut-verdict (same {e = e} {a = a} {b = b} k) l lt c = cut-verdict k (clean-rest e b l) lt (clean-rest e a c)
 
 -- ---- the walks
 
-root-told : (k : Walk) (n : ℕ) → (sinkOf k) .leftover n ≡ root n
+root-told : (k : Walker) (n : ℕ) → (sinkOf k) .leftover n ≡ root n
 unfolding sinkOf structSink objectSink
-root-told (struct t l) n = refl
-root-told (exact d p) n = refl
-root-told object n = refl
+root-told (walker how.Struct t l) n = refl
+root-told (walker how.Exact t lvl) n = refl
+root-told (walker how.Object t lvl) n = refl
 
-loud-mono : (k : Walk) (m n : ℕ) → m ≤ n → silent k m ≡ false → silent k n ≡ false
-loud-mono (struct t l) m n h e = let f = eqb-false m 0 e in ne-eqb n 0 (λ z. f (omega arith))
-loud-mono (exact d p) m n h e = let f = eqb-false m 0 e in ne-eqb n 0 (λ z. f (omega arith))
-loud-mono object m n h e = refl
+loud-mono : (k : Walker) (m n : ℕ) → m ≤ n → silent k m ≡ false → silent k n ≡ false
+loud-mono (walker how.Struct t l) m n h e = let f = eqb-false m 0 e in ne-eqb n 0 (λ z. f (omega arith))
+loud-mono (walker how.Exact t lvl) m n h e = let f = eqb-false m 0 e in ne-eqb n 0 (λ z. f (omega arith))
+loud-mono (walker how.Object t lvl) m n h e = refl
 
 -- Demand 3 of a window and its first m bits.
-pub demand3-window : (k : Walk) (w : Window) (m : ℕ) → m ≤ w .size → CutOf k w m (walkWindow k (opening m w)) (walkWindow k w)
+pub demand3-window : (k : Walker) (w : Window) (m : ℕ) → m ≤ w .size → CutOf k w m (walkWindow k (opening m w)) (walkWindow k w)
 unfolding walkWindow dropTail
 demand3-window k w m mn = go (silent k m) refl
   where
@@ -235,7 +242,7 @@ demand3-window k w m mn = go (silent k m) refl
         })
 
 -- a window inside its bytes
-pub walk-inside : (k : Walk) (bytes : List ℕ) (n : ℕ) → n ≤ 8 * length bytes → walk k bytes n ≡ walkWindow k (windowOf bytes n)
+pub walk-inside : (k : Walker) (bytes : List ℕ) (n : ℕ) → n ≤ 8 * length bytes → walk k bytes n ≡ walkWindow k (windowOf bytes n)
 unfolding walk walkWindow
 walk-inside k bytes n h = go (silent k n) refl
   where
@@ -252,20 +259,14 @@ opening-of longer shorter n m mn e =
 -- Demand 3 of two slices whose first m bits are the same, walked the same way: without a last kept tail the shorter's leaves open the longer's
 -- list unchanged, and so do pairs; and if the longer is clean and the shorter strictly shorter, the shorter is not clean, but for the empty window
 -- of a struct or exact walk and the window that lacks exactly the zero trailer.
-pub demand3 : (k : Walk) (longer shorter : List ℕ) (n m : ℕ) → m ≤ n → n ≤ 8 * length longer → m ≤ 8 * length shorter
+pub demand3 : (k : Walker) (longer shorter : List ℕ) (n m : ℕ) → m ≤ n → n ≤ 8 * length longer → m ≤ 8 * length shorter
     → field (num shorter) 0 m ≡ field (num longer) 0 m → CutOf k (windowOf longer n) m (walk k shorter m) (walk k longer n)
 demand3 k longer shorter n m mn fits-longer fits-shorter e =
     rw (walk-inside k longer n fits-longer, walk-inside k shorter m fits-shorter, opening-of longer shorter n m mn e)
     (demand3-window k (windowOf longer n) m mn)
 
--- the same, with the bits compared one by one
-pub demand3-bits : (k : Walk) (longer shorter : List ℕ) (n m : ℕ) → m ≤ n → n ≤ 8 * length longer → m ≤ 8 * length shorter
-    → ((i : ℕ) → i < m → field (num shorter) (0 + i) 1 ≡ field (num longer) (0 + i) 1) → CutOf k (windowOf longer n) m (walk k shorter m) (walk k longer n)
-demand3-bits k longer shorter n m mn fits-longer fits-shorter h =
-    demand3 k longer shorter n m mn fits-longer fits-shorter (field-same (num shorter) (num longer) 0 0 m h)
-
 -- Bits outside the window alter nothing: two slices that hold it and have its bits give the same trace.
-pub outside-alters-nothing : (k : Walk) (a b : List ℕ) (n : ℕ) → n ≤ 8 * length a → n ≤ 8 * length b
+pub outside-alters-nothing : (k : Walker) (a b : List ℕ) (n : ℕ) → n ≤ 8 * length a → n ≤ 8 * length b
     → ((i : ℕ) → i < n → field (num a) (0 + i) 1 ≡ field (num b) (0 + i) 1) → walk k a n ≡ walk k b n
 outside-alters-nothing k a b n ha hb h =
     walk-inside k a n ha

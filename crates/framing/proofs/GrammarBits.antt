@@ -2,17 +2,17 @@
 use Prim.Native.Nat.{ℕ, zero, suc, _+_, _-_, _*_, _/_, _%_, _^_, _≤_, _<_}
 use mathlib.Core.Path.{_≡_, refl, sym, ap, ap₂, _∙_, subst}
 use mathlib.Core.Bool.{Bool, true, false}
-use native.Mathlib.Nat.{mod-one, mul-comm, add-comm, lt-of-lt-of-le}
+use native.Mathlib.Nat.{mul-comm, add-comm, lt-of-lt-of-le}
 use native.Mathlib.Omega.{arith}
 use lib.Dec.{leb, eqb}
-use lib.Pow.{pow-pos, pow-add, pow-mono, high, low}
+use lib.Pow.{pow-add, pow-mono, high, low}
 use borrow.Author.Tests.{le-leb, leb-true, leb-false, eq-eqb, ne-eqb, eqb-true, eqb-false}
 use Rattle.bits.specs.Bits.{field}
 use Rattle.bits.specs.Packed.{after, earlierByte, fifthByte, fifthMost, packedFrom, packed}
 use Rattle.bits.specs.declared.Packed.{Packed}
 use Rattle.bits.specs.declared.Packed.the-variants.{Whole, Cut, GoesOn, Overflows}
 use Rattle.bits.proofs.FieldLaws.{field-lt, field-none, field-split, field-low, field-high}
-use Rattle.framing.specs.Windows.{Window, Reading, got, failed, readingOf, reading}
+use Rattle.framing.specs.Windows.{Window, got, readingOf, reading}
 use Rattle.framing.specs.Grammar.{Bits, noBits, _then_, Num, packedBits, numBits, IsNum}
 
 -- ---- spans: the bits b stand in the window from bit p to bit q
@@ -25,9 +25,6 @@ pub record Span (w : Window) (p q : ℕ) (b : Bits) : Type 0 where
 -- as many bits as their size says
 abbrev pub Below : Bits → Type 0
 Below b = b .number < 2 ^ b .size
-
-pub span-below : (w : Window) (p q : ℕ) (b : Bits) → Span w p q b → Below b
-span-below w p q b s = subst (λ (x : ℕ). x < 2 ^ b .size) (s .same) (field-lt (w .bits) p (b .size))
 
 pub span-none : (w : Window) (p : ℕ) → p ≤ w .size → Span w p p noBits
 span-none w p h = record { ends = omega arith; within = h; same = field-none (w .bits) p }

@@ -1,26 +1,28 @@
 -- A level that is walked clean is the bits of an array of the grammar. Stated once for every sink: `find` turns a payload whose field the sink took
--- without fault into what the grammar has there.
+-- without fault into what the grammar has there. Any other way out of a level leaves a fault.
 use Prim.Native.Nat.{ℕ, zero, suc, _+_, _-_, _*_, _^_, _≤_, _<_}
 use mathlib.Core.Path.{_≡_, refl, sym, ap, _∙_, subst}
 use mathlib.Core.Bool.{Bool, true, false, _&&_}
 use mathlib.Core.List.{List, [], _∷_, _++_}
 use native.Mathlib.Nat.{zero-add}
 use native.Mathlib.Omega.{arith}
-use lib.Dec.{leb, ltb, eqb}
+use lib.Dec.{eqb}
 use lib.ListN.{length}
-use borrow.Author.Tests.{leb-false, ltb-false, eqb-true}
+use borrow.Author.Tests.{eqb-true}
 use Rattle.bits.specs.Bits.{field}
 use Rattle.bits.proofs.FieldLaws.{field-lt}
 use Rattle.bits.specs.Packed.{Number}
 use Rattle.bits.proofs.Never.{never}
+use Rattle.bits.specs.Sizes.{maxElements, maxFields, trailerBits}
 use Rattle.framing.specs.Windows.{Window, part, Reading, got, failed, reading}
 use Rattle.framing.specs.Events.{numbers, Event, number, element, truncation, error, implicit, Trace}
 use Rattle.framing.specs.Counters.{counters, faults}
-use Rattle.framing.specs.Walk.{maxElements, maxFields, trailerBits, Sink, numberAt, Lead, ends, fails, closes, opens, lead, Due, cut, broken, closed, present, fieldAt, tail, Run, done, stopped, prepend, onField, onLastField, fields, trailerOf, closing, inItem, entering, behind, onIndex, onLastIndex, elements, onCount, level}
+use Rattle.framing.specs.Walk.{Sink, numberAt, Lead, ends, fails, closes, opens, lead, Due, cut, broken, closed, present, fieldAt, tail, Run, done, stopped, prepend, onField, onLastField, fields, trailerOf, closing, inItem, entering, behind, beyond, onIndex, onLastIndex, elements, tooMany, onCount, level}
 use Rattle.framing.specs.Grammar.{Bits, noBits, numBits, Field, Element, Array, fieldBits, fieldsBits, elementBits, elementsBits, trailing, arrayBits}
 use Rattle.framing.specs.GrammarRules.{Each, FieldsOk, ElementOk, ArrayOk}
 use Rattle.framing.proofs.TraceLaws.{counters-append}
 use Rattle.bits.proofs.ChoiceLaws.{and-true}
+use Rattle.framing.proofs.StepLaws.{count-few, index-below}
 use Rattle.framing.proofs.Demand3.{zero-byte}
 use Rattle.framing.proofs.GrammarBits.{Span, span-none, span-join, read-num}
 use Rattle.framing.proofs.GrammarLeads.{Stands, Opens, Present, closes-stands, opens-stands, present-stands, closed-stands}
@@ -210,11 +212,11 @@ module _ (s : Sink) (P : Type 0) (bitsOf : P → Bits) (allowed : Bool → ℕ �
       where
         go : (t : Bool) → eqb v 0 ≡ t → Closing p
         go true k =
-            let z : field (w .bits) p 8 ≡ 0 = zero-byte w p v b e f (eqb-true v 0 k) in
+            let z : field (w .bits) p trailerBits ≡ 0 = zero-byte w p v b e f (eqb-true v 0 k) in
             record { trailer = true; taken = λ x. takes; span = record { ends = sym e; within = omega arith; same = z } }
         go false k =
-            let g′ : Fine (s .leftover 8 ∷ []) = rw k at g in
-            let z = tells 8 g′ in
+            let g′ : Fine (s .leftover trailerBits ∷ []) = rw k at g in
+            let z = tells trailerBits g′ in
             absurd (omega arith)
 
     closing-found : (p : ℕ) → p ≤ w .size → Fine (closing s w p) → Closing p
@@ -299,7 +301,7 @@ module _ (s : Sink) (P : Type 0) (bitsOf : P → Bits) (allowed : Bool → ℕ �
     element-found path count left p ends e rest g = absurd (omega arith)
     element-found path count left p fails e rest g = absurd (omega arith)
     element-found path count left p (closes x q) e rest g = closed-level count (suc left) p q (closes-stands w p x q e) (fine-rest (number x) (closing s w q) g)
-    element-found path count left p (opens x i q) e rest g = go (leb count i) refl
+    element-found path count left p (opens x i q) e rest g = go (beyond count i) refl
       where
         run : Run → Trace
         run r = behind (λ q. elements s w path count left q) r
@@ -310,13 +312,13 @@ module _ (s : Sink) (P : Type 0) (bitsOf : P → Bits) (allowed : Bool → ℕ �
             one-element count left p q m i (opens-stands w p x i q e) low (fields-found i (inItem s path i) maxFields q true t m f (parts .0)) (rest m (parts .1))
         ran low (stopped t) f h = absurd (fields-stopped i (inItem s path i) maxFields q true t f h)
 
-        go : (b : Bool) → leb count i ≡ b → ElementsFound count (suc left) p
+        go : (b : Bool) → beyond count i ≡ b → ElementsFound count (suc left) p
         go true k = let g′ : Fine (number x ∷ error ∷ []) = rw k at g in absurd (omega arith)
         go false k =
             let g′ : Fine (number x ∷ element i ∷ (entering s path i ++ run (fields s w i (inItem s path i) maxFields q true))) = rw k at g in
             let u : Trace = entering s path i ++ run (fields s w i (inItem s path i) maxFields q true) in
             let h = fine-rest (element i) u (fine-rest (number x) (element i ∷ u) g′) in
-            ran (leb-false count i k) (fields s w i (inItem s path i) maxFields q true) refl
+            ran (index-below count i k) (fields s w i (inItem s path i) maxFields q true) refl
             (fine-append (entering s path i) (run (fields s w i (inItem s path i) maxFields q true)) h .1)
 
     elements-found : (path : List ℕ) (count left p : ℕ) → Fine (elements s w path count left p) → ElementsFound count left p
@@ -334,16 +336,16 @@ module _ (s : Sink) (P : Type 0) (bitsOf : P → Bits) (allowed : Bool → ℕ �
 
     count-found : (path : List ℕ) (r : Reading) → reading w 0 ≡ r → Fine (onCount s w path r) → Found
     count-found path failed e g = absurd (let z : Fine (error ∷ []) = g in omega arith)
-    count-found path (got v b) e g = go (ltb maxElements v) refl
+    count-found path (got v b) e g = go (tooMany v) refl
       where
-        go : (x : Bool) → ltb maxElements v ≡ x → Found
+        go : (x : Bool) → tooMany v ≡ x → Found
         go true k = let g′ : Fine (number (numberAt w 0 b v) ∷ truncation ∷ tail s w path (8 * b)) = rw k at g in absurd (omega arith)
         go false k =
             let g′ : Fine (number (numberAt w 0 b v) ∷ elements s w path v maxElements (8 * b)) = rw k at g in
             let n = read-num w 0 v b e in
             let es = elements-found path v maxElements (8 * b) (fine-rest (number (numberAt w 0 b v)) (elements s w path v maxElements (8 * b)) g′) in
             let cl = es .close in
-            let small : v ≤ maxElements = ltb-false maxElements v k in
+            let small = count-few v k in
             let sp = n .1 in
             record {
               array = record { count = record { value = v; bytes = b }; elements = es .list; close = cl .num; trailer = es .ending .trailer };

@@ -1,33 +1,33 @@
--- The leaves, pairs and element count of a walk without fault are those of the array that it walked.
-use Prim.Native.Nat.{ℕ, zero, suc, _+_, _-_, _*_, _^_, _≤_, _<_}
-use mathlib.Core.Path.{_≡_, refl, sym, ap, ap₂, _∙_, subst}
+-- The leaves, pairs and element count of a walk without fault are those of the array that it walked: they are read off the trace that GrammarWalked
+-- finds, part by part.
+use Prim.Native.Nat.{ℕ, zero, suc, _+_, _-_, _*_}
+use mathlib.Core.Path.{_≡_, refl, sym, ap, ap₂, _∙_}
 use mathlib.Core.Bool.{Bool, true, false, _&&_}
 use mathlib.Core.List.{List, [], _∷_, _++_, append-nil}
 use native.Mathlib.Omega.{arith}
 use lib.Dec.{eqb, leb}
 use lib.ListN.{length}
 use borrow.Author.Tests.{eq-eqb, ne-eqb}
-use Rattle.bits.specs.Choice.{if_then_else_}
+use Rattle.bits.specs.Sizes.{longestPath}
 use Rattle.schema.specs.Tables.{Tables, child}
 use Rattle.schema.specs.Labels.{atIndex, dot, labelBytes, containerLabel, leafLabel}
 use Rattle.schema.specs.declared.Child.{Child}
 use Rattle.schema.specs.declared.Child.the-variants as Child
 use Rattle.framing.specs.Windows.{Window}
-use Rattle.framing.specs.Events as Ev
-use Rattle.framing.specs.Events.{Leaf, Pair, Event, number, element, pair, nested, root, over, leaves, pairs, overs, Trace}
+use Rattle.framing.specs.Events.{Leaf, Pair, Event, number, nested, over, leaves, pairs, overs, Trace}
 use Rattle.framing.specs.Counters.{counters}
-use Rattle.framing.specs.Paths.{longestPath, grown, noted, given}
+use Rattle.framing.specs.Paths.{grownPath, overIfLong, leafOrOver}
 use Rattle.framing.specs.Walk.{Sink, inItem, entering, level}
 use Rattle.framing.specs.Sinks.{leafOf, onChild, structSink, tooDeep, objectSink}
-use Rattle.framing.specs.Grammar.{Bits, Num, numBits, IsNum, Field, Element, Array, fieldBits, fieldsBits, elementBits, elementsBits, arrayBits}
-use Rattle.framing.specs.GrammarRules.{Each, FieldOk, FieldsOk, ElementOk, ArrayOk, plain, contentBits, PlainOk, NestedOk, array, allowedIn, StructArray, Reference, noGuid, guid, referenceBits, referenceIn, ObjectArray}
+use Rattle.framing.specs.Grammar.{Bits, numBits, Field, Element, Array, fieldBits, fieldsBits, elementBits, elementsBits, arrayBits}
+use Rattle.framing.specs.GrammarRules.{Each, FieldsOk, ElementOk, ArrayOk, plain, contentBits, PlainOk, NestedOk, array, allowedIn, IsStructArray, Reference, noGuid, guid, referenceBits, referenceIn, IsObjectArray}
 use Rattle.framing.specs.GrammarRules as G
 use Rattle.framing.specs.GrammarGives.{fieldsLeaves, elementsLeaves, arrayLeaves, plainLeaves, nestedLeaves, contentLeaves, structLeaves, referencePairs, fieldsPairs, elementsPairs, objectPairs, fieldsCount, elementsCount, arrayCount, contentCount}
 use Rattle.framing.proofs.TraceLaws.{leaves-append, pairs-append, overs-append, counters-append}
 use Rattle.framing.proofs.GrammarBits.{Span, Below}
-use Rattle.framing.proofs.GrammarWalked.{numAt, windowAt, fieldsTrace, bodyTrace, elementsTrace, endTrace, arrayTrace, level-walked}
+use Rattle.framing.proofs.GrammarWalked.{numAt, windowAt, fieldsTrace, elementsTrace, endTrace, arrayTrace, level-walked}
 use Rattle.framing.proofs.GrammarStruct.{whole-span, allowed-below}
-use Rattle.framing.proofs.GrammarObject.{reference-below, guid-field, absent-field, object-walked}
+use Rattle.framing.proofs.GrammarObject.{guid-field, absent-field, object-walked}
 
 -- ---- paths that are not too long are what they are
 
@@ -37,27 +37,27 @@ within n m h = (omega arith, omega arith)
 split-overs : (t u : Trace) → overs (t ++ u) ≡ 0 → (overs t ≡ 0) × (overs u ≡ 0)
 split-overs t u h = within (overs t) (overs u) (sym (overs-append t u) ∙ h)
 
-given-is : (x : Leaf) → overs (given x) ≡ 0 → leaves (given x) ≡ x ∷ []
-unfolding given
-given-is x h = go (leb (length (x .path)) longestPath) refl
+leaf-is : (x : Leaf) → overs (leafOrOver x) ≡ 0 → leaves (leafOrOver x) ≡ x ∷ []
+unfolding leafOrOver
+leaf-is x h = go (leb (length (x .path)) longestPath) refl
   where
-    go : (b : Bool) → leb (length (x .path)) longestPath ≡ b → leaves (given x) ≡ x ∷ []
+    go : (b : Bool) → leb (length (x .path)) longestPath ≡ b → leaves (leafOrOver x) ≡ x ∷ []
     go true e = rw e refl
     go false e = let h′ : overs (over ∷ []) ≡ 0 = rw e at h in absurd (omega arith)
 
-grown-is : (path longer : List ℕ) → overs (noted longer) ≡ 0 → grown path longer ≡ longer
-unfolding grown noted
-grown-is path longer h = go (leb (length longer) longestPath) refl
+path-is : (path longer : List ℕ) → overs (overIfLong longer) ≡ 0 → grownPath path longer ≡ longer
+unfolding grownPath overIfLong
+path-is path longer h = go (leb (length longer) longestPath) refl
   where
-    go : (b : Bool) → leb (length longer) longestPath ≡ b → grown path longer ≡ longer
+    go : (b : Bool) → leb (length longer) longestPath ≡ b → grownPath path longer ≡ longer
     go true e = rw e refl
     go false e = let h′ : overs (over ∷ []) ≡ 0 = rw e at h in absurd (omega arith)
 
-noted-leafless : (longer : List ℕ) → leaves (noted longer) ≡ []
-unfolding noted
-noted-leafless longer = go (leb (length longer) longestPath) refl
+over-leafless : (longer : List ℕ) → leaves (overIfLong longer) ≡ []
+unfolding overIfLong
+over-leafless longer = go (leb (length longer) longestPath) refl
   where
-    go : (b : Bool) → leb (length longer) longestPath ≡ b → leaves (noted longer) ≡ []
+    go : (b : Bool) → leb (length longer) longestPath ≡ b → leaves (overIfLong longer) ≡ []
     go true e = rw e refl
     go false e = rw e refl
 
@@ -70,11 +70,11 @@ module _ (s : Sink) (flat : s .flattens ≡ true) {P : Type 0} (bitsOf : P → B
     (rest : leaves (s .leftover 0 ∷ []) ≡ []) (o : ℕ) where
   item-is : (path : List ℕ) (i : ℕ) → overs (entering s path i) ≡ 0 → inItem s path i ≡ atIndex path i
   unfolding inItem entering
-  item-is path i h = let h′ : overs (noted (atIndex path i)) ≡ 0 = rw flat at h in rw flat (grown-is path (atIndex path i) h′)
+  item-is path i h = let h′ : overs (overIfLong (atIndex path i)) ≡ 0 = rw flat at h in rw flat (path-is path (atIndex path i) h′)
 
   entering-leafless : (path : List ℕ) (i : ℕ) → leaves (entering s path i) ≡ []
   unfolding entering
-  entering-leafless path i = rw flat (noted-leafless (atIndex path i))
+  entering-leafless path i = rw flat (over-leafless (atIndex path i))
 
   fields-leaves : (i : ℕ) (path : List ℕ) (first : Bool) (p : ℕ) (fs : List (Field P)) → FieldsOk bitsOf allowed first fs
       → overs (fieldsTrace s bitsOf o i path first p fs) ≡ 0 → leaves (fieldsTrace s bitsOf o i path first p fs) ≡ fieldsLeaves bitsOf ofPayload o path p fs
@@ -132,36 +132,36 @@ module _ (s : Sink) (flat : s .flattens ≡ true) {P : Type 0} (bitsOf : P → B
 
 plain-given : (t : Tables) (lvl : ℕ) (into : ℕ → List ℕ → List ℕ → ℕ → Window → Trace) (path : List ℕ) (h : ℕ) (b : Bits) (o p : ℕ) (c : Child) → PlainOk b c
     → overs (onChild t lvl into path h (windowAt o p b) c) ≡ 0 → leaves (onChild t lvl into path h (windowAt o p b) c) ≡ plainLeaves t lvl path h (o + p) b c
-plain-given t lvl into path h b o p Child.Leaf ok e = given-is (leafOf (dot path (labelBytes t h (leafLabel t lvl h))) h (windowAt o p b)) e
+plain-given t lvl into path h b o p Child.Leaf ok e = leaf-is (leafOf (dot path (labelBytes t h (leafLabel t lvl h))) h (windowAt o p b)) e
 plain-given t lvl into path h b o p (Child.Array below) (G.empty z) e = rw (eq-eqb (b .size) 0 z) refl
 
 nested-given : (deeper : ℕ) (t : Tables) (takes : Bool) (lvl : ℕ) (a : Array (G.Content deeper)) (path : List ℕ) (h o p : ℕ)
     → Below (arrayBits (contentBits deeper) a)
-    → ((below : ℕ) → StructArray deeper (t .rows) takes below a → (v : Window) → Span v 0 (v .size) (arrayBits (contentBits deeper) a) → (place : List ℕ)
+    → ((below : ℕ) → IsStructArray deeper (t .rows) takes below a → (v : Window) → Span v 0 (v .size) (arrayBits (contentBits deeper) a) → (place : List ℕ)
     → overs (level (structSink deeper t takes nested below) v place) ≡ 0
     → leaves (level (structSink deeper t takes nested below) v place) ≡ structLeaves deeper t below (v .origin) place a)
-    → (c : Child) → NestedOk ((arrayBits (contentBits deeper) a) .size) (λ below. StructArray deeper (t .rows) takes below a) c
-    → overs (onChild t lvl (λ below path longer handle w. noted longer ++ level (structSink deeper t takes nested below) w (grown path longer)) path h
+    → (c : Child) → NestedOk ((arrayBits (contentBits deeper) a) .size) (λ below. IsStructArray deeper (t .rows) takes below a) c
+    → overs (onChild t lvl (λ below path longer handle w. overIfLong longer ++ level (structSink deeper t takes nested below) w (grownPath path longer)) path h
     (windowAt o p (arrayBits (contentBits deeper) a)) c) ≡ 0
-    → leaves (onChild t lvl (λ below path longer handle w. noted longer ++ level (structSink deeper t takes nested below) w (grown path longer)) path h
+    → leaves (onChild t lvl (λ below path longer handle w. overIfLong longer ++ level (structSink deeper t takes nested below) w (grownPath path longer)) path h
     (windowAt o p (arrayBits (contentBits deeper) a)) c)
     ≡ nestedLeaves (λ below longer. structLeaves deeper t below (o + p) longer a) t lvl path h c
 nested-given deeper t takes lvl a path h o p b inside (Child.Array below) (array some inner) e =
     let v = windowAt o p (arrayBits (contentBits deeper) a) in
     let longer = dot path (labelBytes t h (containerLabel t lvl h)) in
     let k = ne-eqb ((arrayBits (contentBits deeper) a) .size) 0 (λ z. omega arith) in
-    let tr = level (structSink deeper t takes nested below) v (grown path longer) in
-    let e′ : overs (noted longer ++ tr) ≡ 0 = rw k at e in
-    let parts = split-overs (noted longer) tr e′ in
+    let tr = level (structSink deeper t takes nested below) v (grownPath path longer) in
+    let e′ : overs (overIfLong longer ++ tr) ≡ 0 = rw k at e in
+    let parts = split-overs (overIfLong longer) tr e′ in
     rw k
-    (leaves-append (noted longer) tr
-    ∙ ap (λ (l : List Leaf). l ++ leaves tr) (noted-leafless longer)
-    ∙ inside below inner v (whole-span v (arrayBits (contentBits deeper) a) b refl) (grown path longer) (parts .1)
-    ∙ ap (λ (q : List ℕ). structLeaves deeper t below (o + p) q a) (grown-is path longer (parts .0)))
+    (leaves-append (overIfLong longer) tr
+    ∙ ap (λ (l : List Leaf). l ++ leaves tr) (over-leafless longer)
+    ∙ inside below inner v (whole-span v (arrayBits (contentBits deeper) a) b refl) (grownPath path longer) (parts .1)
+    ∙ ap (λ (q : List ℕ). structLeaves deeper t below (o + p) q a) (path-is path longer (parts .0)))
 
 -- Where no path is too long, the leaves of the walk are those of the struct array.
 pub struct-leaves : (deeper : ℕ) (t : Tables) (takes : Bool) (leftover : ℕ → Event) (lvl : ℕ) → leaves (leftover 0 ∷ []) ≡ [] → (a : Array (G.Content deeper))
-    → StructArray deeper (t .rows) takes lvl a → (w : Window) → Span w 0 (w .size) (arrayBits (contentBits deeper) a) → (path : List ℕ)
+    → IsStructArray deeper (t .rows) takes lvl a → (w : Window) → Span w 0 (w .size) (arrayBits (contentBits deeper) a) → (path : List ℕ)
     → overs (level (structSink deeper t takes leftover lvl) w path) ≡ 0
     → leaves (level (structSink deeper t takes leftover lvl) w path) ≡ structLeaves deeper t lvl (w .origin) path a
 unfolding structSink
@@ -186,7 +186,7 @@ struct-leaves (suc deeper) t takes leftover lvl rest a ok w sp path h =
     (each (λ below x y v z place u. struct-leaves deeper t takes nested below refl x y v z place u)) rest (w .origin) takes path a ok (ap overs (sym walked) ∙ h)
   where
     Inside : Type 0
-    Inside = (below : ℕ) (x : Array (G.Content deeper)) → StructArray deeper (t .rows) takes below x → (v : Window)
+    Inside = (below : ℕ) (x : Array (G.Content deeper)) → IsStructArray deeper (t .rows) takes below x → (v : Window)
         → Span v 0 (v .size) (arrayBits (contentBits deeper) x) → (place : List ℕ) → overs (level (structSink deeper t takes nested below) v place) ≡ 0
         → leaves (level (structSink deeper t takes nested below) v place) ≡ structLeaves deeper t below (v .origin) place x
 
@@ -194,7 +194,7 @@ struct-leaves (suc deeper) t takes leftover lvl rest a ok w sp path h =
         → overs ((structSink (suc deeper) t takes leftover lvl) .field i path first h (windowAt o p (contentBits (suc deeper) x))) ≡ 0
         → leaves ((structSink (suc deeper) t takes leftover lvl) .field i path first h (windowAt o p (contentBits (suc deeper) x))) ≡ contentLeaves (suc deeper) t lvl path h (o + p) x
     each inside i path first h (plain b) y o p e =
-        plain-given t lvl (λ below path longer handle w. noted longer ++ level (structSink deeper t takes nested below) w (grown path longer)) path h b o p (child (t .rows) lvl h) (y .1) e
+        plain-given t lvl (λ below path longer handle w. overIfLong longer ++ level (structSink deeper t takes nested below) w (grownPath path longer)) path h b o p (child (t .rows) lvl h) (y .1) e
     each inside i path first h (G.nested z) y o p e =
         nested-given deeper t takes lvl z path h o p (allowed-below (suc deeper) (t .rows) takes lvl first h (G.nested z) y)
         (λ below u v q place r. inside below z u v q place r) (child (t .rows) lvl h) y e
@@ -257,19 +257,19 @@ module _ (s : Sink) {P : Type 0} (bitsOf : P → Bits) (allowed : Bool → ℕ �
       omega arith
 
 -- what a path or a leaf enters: nothing
-noted-enters : (longer : List ℕ) → entered (noted longer) ≡ 0
-unfolding noted
-noted-enters longer = go (leb (length longer) longestPath) refl
+over-enters : (longer : List ℕ) → entered (overIfLong longer) ≡ 0
+unfolding overIfLong
+over-enters longer = go (leb (length longer) longestPath) refl
   where
-    go : (b : Bool) → leb (length longer) longestPath ≡ b → entered (noted longer) ≡ 0
+    go : (b : Bool) → leb (length longer) longestPath ≡ b → entered (overIfLong longer) ≡ 0
     go true e = rw e refl
     go false e = rw e refl
 
-given-enters : (x : Leaf) → entered (given x) ≡ 0
-unfolding given
-given-enters x = go (leb (length (x .path)) longestPath) refl
+leaf-enters : (x : Leaf) → entered (leafOrOver x) ≡ 0
+unfolding leafOrOver
+leaf-enters x = go (leb (length (x .path)) longestPath) refl
   where
-    go : (b : Bool) → leb (length (x .path)) longestPath ≡ b → entered (given x) ≡ 0
+    go : (b : Bool) → leb (length (x .path)) longestPath ≡ b → entered (leafOrOver x) ≡ 0
     go true e = rw e refl
     go false e = rw e refl
 
@@ -278,34 +278,34 @@ unfolding entering
 entering-enters s path i = go (s .flattens) refl
   where
     go : (b : Bool) → s .flattens ≡ b → entered (entering s path i) ≡ 0
-    go true e = rw e (noted-enters (atIndex path i))
+    go true e = rw e (over-enters (atIndex path i))
     go false e = rw e refl
 
 plain-count : (t : Tables) (lvl : ℕ) (into : ℕ → List ℕ → List ℕ → ℕ → Window → Trace) (path : List ℕ) (h : ℕ) (b : Bits) (o p : ℕ) (c : Child) → PlainOk b c
     → entered (onChild t lvl into path h (windowAt o p b) c) ≡ 0
-plain-count t lvl into path h b o p Child.Leaf ok = given-enters _
+plain-count t lvl into path h b o p Child.Leaf ok = leaf-enters _
 plain-count t lvl into path h b o p (Child.Array below) (G.empty z) = rw (eq-eqb (b .size) 0 z) refl
 
 nested-count : (deeper : ℕ) (t : Tables) (takes : Bool) (lvl : ℕ) (a : Array (G.Content deeper)) (path : List ℕ) (h o p : ℕ)
     → Below (arrayBits (contentBits deeper) a)
-    → ((below : ℕ) → StructArray deeper (t .rows) takes below a → (v : Window) → Span v 0 (v .size) (arrayBits (contentBits deeper) a) → (place : List ℕ)
+    → ((below : ℕ) → IsStructArray deeper (t .rows) takes below a → (v : Window) → Span v 0 (v .size) (arrayBits (contentBits deeper) a) → (place : List ℕ)
     → entered (level (structSink deeper t takes nested below) v place) ≡ arrayCount (contentCount deeper) a)
-    → (c : Child) → NestedOk ((arrayBits (contentBits deeper) a) .size) (λ below. StructArray deeper (t .rows) takes below a) c
-    → entered (onChild t lvl (λ below path longer handle w. noted longer ++ level (structSink deeper t takes nested below) w (grown path longer)) path h
+    → (c : Child) → NestedOk ((arrayBits (contentBits deeper) a) .size) (λ below. IsStructArray deeper (t .rows) takes below a) c
+    → entered (onChild t lvl (λ below path longer handle w. overIfLong longer ++ level (structSink deeper t takes nested below) w (grownPath path longer)) path h
     (windowAt o p (arrayBits (contentBits deeper) a)) c)
     ≡ arrayCount (contentCount deeper) a
 nested-count deeper t takes lvl a path h o p b inside (Child.Array below) (array some inner) =
     let v = windowAt o p (arrayBits (contentBits deeper) a) in
     let longer = dot path (labelBytes t h (containerLabel t lvl h)) in
-    let tr = level (structSink deeper t takes nested below) v (grown path longer) in
-    let x = entered-append (noted longer) tr in
-    let y = noted-enters longer in
-    let z = inside below inner v (whole-span v (arrayBits (contentBits deeper) a) b refl) (grown path longer) in
+    let tr = level (structSink deeper t takes nested below) v (grownPath path longer) in
+    let x = entered-append (overIfLong longer) tr in
+    let y = over-enters longer in
+    let z = inside below inner v (whole-span v (arrayBits (contentBits deeper) a) b refl) (grownPath path longer) in
     rw (ne-eqb ((arrayBits (contentBits deeper) a) .size) 0 (λ z. omega arith)) (omega arith)
 
 -- The elements that the walk enters are those of the struct array.
 pub struct-elements : (deeper : ℕ) (t : Tables) (takes : Bool) (leftover : ℕ → Event) (lvl : ℕ) → entered (leftover 0 ∷ []) ≡ 0 → (a : Array (G.Content deeper))
-    → StructArray deeper (t .rows) takes lvl a → (w : Window) → Span w 0 (w .size) (arrayBits (contentBits deeper) a) → (path : List ℕ)
+    → IsStructArray deeper (t .rows) takes lvl a → (w : Window) → Span w 0 (w .size) (arrayBits (contentBits deeper) a) → (path : List ℕ)
     → entered (level (structSink deeper t takes leftover lvl) w path) ≡ arrayCount (contentCount deeper) a
 unfolding structSink
 struct-elements zero t takes leftover lvl rest a ok w sp path =
@@ -326,14 +326,14 @@ struct-elements (suc deeper) t takes leftover lvl rest a ok w sp path =
     (each (λ below x y v z place. struct-elements deeper t takes nested below refl x y v z place)) (λ q i. entering-enters s q i) rest (w .origin) takes path a ok
   where
     Inside : Type 0
-    Inside = (below : ℕ) (x : Array (G.Content deeper)) → StructArray deeper (t .rows) takes below x → (v : Window)
+    Inside = (below : ℕ) (x : Array (G.Content deeper)) → IsStructArray deeper (t .rows) takes below x → (v : Window)
         → Span v 0 (v .size) (arrayBits (contentBits deeper) x) → (place : List ℕ)
         → entered (level (structSink deeper t takes nested below) v place) ≡ arrayCount (contentCount deeper) x
 
     each : Inside → (i : ℕ) (path : List ℕ) (first : Bool) (h : ℕ) (x : G.Content (suc deeper)) → allowedIn (suc deeper) (t .rows) takes lvl first h x → (o p : ℕ)
         → entered ((structSink (suc deeper) t takes leftover lvl) .field i path first h (windowAt o p (contentBits (suc deeper) x))) ≡ contentCount (suc deeper) x
     each inside i path first h (plain b) y o p =
-        plain-count t lvl (λ below path longer handle w. noted longer ++ level (structSink deeper t takes nested below) w (grown path longer)) path h b o p (child (t .rows) lvl h) (y .1)
+        plain-count t lvl (λ below path longer handle w. overIfLong longer ++ level (structSink deeper t takes nested below) w (grownPath path longer)) path h b o p (child (t .rows) lvl h) (y .1)
     each inside i path first h (G.nested z) y o p =
         nested-count deeper t takes lvl z path h o p (allowed-below (suc deeper) (t .rows) takes lvl first h (G.nested z) y)
         (λ below u v q place. inside below z u v q place) (child (t .rows) lvl h) y
@@ -393,7 +393,7 @@ end-pairless o true p = refl
 end-pairless o false p = refl
 
 -- The pairs of the object walk are those of the object array.
-pub object-pairs : (a : Array Reference) → ObjectArray a → (w : Window) → Span w 0 (w .size) (arrayBits referenceBits a) → (path : List ℕ)
+pub object-pairs : (a : Array Reference) → IsObjectArray a → (w : Window) → Span w 0 (w .size) (arrayBits referenceBits a) → (path : List ℕ)
     → pairs (level objectSink w path) ≡ objectPairs a
 object-pairs a ok w sp path =
     let o = w .origin in
@@ -407,7 +407,7 @@ object-pairs a ok w sp path =
     ∙ append-nil (objectPairs a)
 
 -- and its elements too
-pub object-elements : (a : Array Reference) → ObjectArray a → (w : Window) → Span w 0 (w .size) (arrayBits referenceBits a) → (path : List ℕ)
+pub object-elements : (a : Array Reference) → IsObjectArray a → (w : Window) → Span w 0 (w .size) (arrayBits referenceBits a) → (path : List ℕ)
     → entered (level objectSink w path) ≡ arrayCount (λ x. 0) a
 unfolding objectSink
 object-elements a ok w sp path =

@@ -1,16 +1,17 @@
--- What is due at a bit, told by the bits that stand there, and the other way round.
-use Prim.Native.Nat.{ℕ, _+_, _-_, _*_, _≤_, _<_}
+-- What is due at a bit, told by the bits that stand there, and the other way round: a number is read exactly where its bits stand (GrammarBits),
+-- and what is due follows from the numbers read.
+use Prim.Native.Nat.{ℕ, _+_, _-_, _*_, _≤_}
 use mathlib.Core.Path.{_≡_, refl, sym, ap, _∙_, subst}
 use mathlib.Core.Bool.{Bool, true, false}
 use mathlib.Core.List.{List, [], _∷_}
 use native.Mathlib.Omega.{arith}
 use lib.Dec.{leb, ltb, eqb}
-use borrow.Author.Tests.{lt-leb, le-ltb, eq-eqb, ne-eqb, eqb-true, eqb-false, ltb-false}
+use borrow.Author.Tests.{lt-leb, le-ltb, ne-eqb, eqb-true, eqb-false, ltb-false}
 use Rattle.bits.specs.Packed.{Number}
 use Rattle.bits.proofs.Never.{never}
 use Rattle.framing.specs.Windows.{Window, Reading, got, failed, reading}
-use Rattle.framing.specs.Walk.{numberAt, Lead, ends, fails, closes, opens, leadOf, lead, Due, cut, broken, closed, present, withWidth, fieldOf, fieldAt}
-use Rattle.framing.specs.Grammar.{Bits, _then_, Num, numBits, IsNum}
+use Rattle.framing.specs.Walk.{numberAt, Lead, ends, fails, closes, opens, leadOf, lead, broken, closed, present, withWidth, fieldOf, fieldAt}
+use Rattle.framing.specs.Grammar.{Num, numBits, IsNum}
 use Rattle.framing.proofs.GrammarBits.{Span, read-num, num-read}
 
 -- ---- from what is due to the number that stands there

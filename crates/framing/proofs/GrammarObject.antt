@@ -1,26 +1,26 @@
--- The object walk: a level is walked without fault exactly if its window is the bits of an object array.
-use Prim.Native.Nat.{ℕ, zero, suc, _+_, _-_, _*_, _^_, _≤_, _<_}
-use mathlib.Core.Path.{_≡_, refl, sym, ap, _∙_, subst}
-use mathlib.Core.Bool.{Bool, true, false, _&&_}
-use mathlib.Core.List.{List, [], _∷_, _++_}
+-- The object walk: a level is walked without fault exactly if its window is the bits of an object array. A field without fault is empty, or the
+-- first of its element and one packed number that fills it; the rest is GrammarFound and GrammarWalked.
+use Prim.Native.Nat.{ℕ, _+_, _*_, _^_, _<_}
+use mathlib.Core.Path.{_≡_, refl, sym, subst}
+use mathlib.Core.Bool.{Bool, true, false}
+use mathlib.Core.List.{List, [], _∷_}
 use native.Mathlib.Omega.{arith}
 use lib.Dec.{eqb}
 use borrow.Author.Tests.{eqb-true, eqb-false, eq-eqb, ne-eqb}
-use Rattle.bits.proofs.Never.{never}
 use Rattle.framing.specs.Windows.{Window, Reading, got, failed, reading}
-use Rattle.framing.specs.Events.{number, pair, error, nested, root, Trace}
-use Rattle.framing.specs.Walk.{Sink, numberAt, level}
+use Rattle.framing.specs.Events.{number, pair, error, nested}
+use Rattle.framing.specs.Walk.{numberAt, level}
 use Rattle.framing.specs.Sinks.{guidOf, objectField, objectSink}
-use Rattle.framing.specs.Grammar.{Bits, noBits, Num, numBits, IsNum, Array, arrayBits}
-use Rattle.framing.specs.GrammarRules.{ArrayOk, Reference, noGuid, guid, referenceBits, referenceIn, ObjectArray}
+use Rattle.framing.specs.Grammar.{noBits, Num, numBits, IsNum, Array, arrayBits}
+use Rattle.framing.specs.GrammarRules.{Reference, noGuid, guid, referenceBits, referenceIn, IsObjectArray}
 use Rattle.framing.proofs.GrammarBits.{Span, Below, read-num, num-read}
-use Rattle.framing.proofs.GrammarFound.{Fine, fine-number, bitsIn, Content, Found, level-found}
+use Rattle.framing.proofs.GrammarFound.{Fine, Content, level-found}
 use Rattle.framing.proofs.GrammarWalked.{windowAt, num-below, arrayTrace, level-walked}
 use Rattle.framing.proofs.GrammarStruct.{span-whole, whole-span, array-fine}
 
 pub record InObject (w : Window) : Type 0 where
   pub it : Array Reference
-  pub ok : ObjectArray it
+  pub ok : IsObjectArray it
   pub span : Span w 0 (w .size) (arrayBits referenceBits it)
 
 -- ---- clean, so in the grammar
@@ -99,13 +99,13 @@ always i path first h (guid n) ok o p =
     subst (λ (f : Bool). Fine (objectSink .field i path f h (windowAt o p (numBits n)))) (sym (ok .0)) (subst Fine (sym (guid-field i h path n (ok .1) o p)) refl)
 
 -- the level is walked as the array says
-pub object-walked : (a : Array Reference) → ObjectArray a → (w : Window) → Span w 0 (w .size) (arrayBits referenceBits a) → (path : List ℕ)
+pub object-walked : (a : Array Reference) → IsObjectArray a → (w : Window) → Span w 0 (w .size) (arrayBits referenceBits a) → (path : List ℕ)
     → level objectSink w path ≡ arrayTrace objectSink referenceBits (w .origin) path a
 unfolding objectSink
 object-walked a ok w sp path = level-walked referenceBits referenceIn reference-below objectSink w path a ok sp
 
 -- An object array's bits are walked without fault.
-pub walked-object : (a : Array Reference) → ObjectArray a → (w : Window) → Span w 0 (w .size) (arrayBits referenceBits a) → (path : List ℕ) → Fine (level objectSink w path)
+pub walked-object : (a : Array Reference) → IsObjectArray a → (w : Window) → Span w 0 (w .size) (arrayBits referenceBits a) → (path : List ℕ) → Fine (level objectSink w path)
 unfolding objectSink
 walked-object a ok w sp path =
     subst Fine (sym (object-walked a ok w sp path))

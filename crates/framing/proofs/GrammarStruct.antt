@@ -1,6 +1,7 @@
--- Struct and exact walks: a level is walked without fault exactly if its window is the bits of a struct array.
-use Prim.Native.Nat.{ℕ, zero, suc, _+_, _-_, _*_, _/_, _%_, _^_, _≤_, _<_}
-use mathlib.Core.Path.{_≡_, refl, sym, ap, ap₂, _∙_, subst}
+-- Struct and exact walks: a level is walked without fault exactly if its window is the bits of a struct array. By induction over the levels that
+-- may stand below: a field without fault is a leaf, an empty array, or a level without fault.
+use Prim.Native.Nat.{ℕ, zero, suc, _+_, _-_, _*_, _%_, _^_, _≤_, _<_}
+use mathlib.Core.Path.{_≡_, refl, sym, ap, _∙_, subst}
 use mathlib.Core.Bool.{Bool, true, false, _&&_}
 use mathlib.Core.List.{List, [], _∷_, _++_}
 use native.Mathlib.Nat.{div-one, mod-eq-of-lt}
@@ -9,23 +10,22 @@ use lib.Dec.{eqb, leb}
 use lib.ListN.{length}
 use borrow.Author.Tests.{eqb-true, eqb-false, eq-eqb, ne-eqb}
 use Rattle.bits.specs.Bits.{field}
-use Rattle.bits.specs.Choice.{if_then_else_}
-use Rattle.bits.proofs.Never.{never}
+use Rattle.bits.specs.Sizes.{longestPath}
 use Rattle.schema.specs.Tables.{Tables, child}
-use Rattle.schema.specs.Labels.{atIndex, dot, labelBytes, containerLabel, leafLabel}
+use Rattle.schema.specs.Labels.{atIndex, dot, labelBytes, containerLabel}
 use Rattle.schema.specs.declared.Child.{Child}
 use Rattle.schema.specs.declared.Child.the-variants as Child
-use Rattle.framing.specs.Windows.{Window, part}
+use Rattle.framing.specs.Windows.{Window}
 use Rattle.framing.specs.Events as Ev
-use Rattle.framing.specs.Events.{Event, number, element, truncation, error, nested, over, Trace}
-use Rattle.framing.specs.Paths.{longestPath, grown, noted, given}
+use Rattle.framing.specs.Events.{Event, number, element, truncation, nested, Trace}
+use Rattle.framing.specs.Paths.{grownPath, overIfLong, leafOrOver}
 use Rattle.framing.specs.Walk.{Sink, inItem, entering, level}
 use Rattle.framing.specs.Sinks.{leafOf, onChild, structSink, tooDeep}
-use Rattle.framing.specs.Grammar.{Bits, Num, Field, Element, Array, fieldBits, fieldsBits, elementBits, elementsBits, arrayBits}
-use Rattle.framing.specs.GrammarRules.{Each, FieldOk, FieldsOk, ElementOk, ArrayOk, Payload, plain, contentBits, PlainOk, NestedOk, array, allowedIn, StructArray}
+use Rattle.framing.specs.Grammar.{Bits, Field, Element, Array, fieldBits, fieldsBits, elementBits, elementsBits, arrayBits}
+use Rattle.framing.specs.GrammarRules.{Each, FieldsOk, ElementOk, ArrayOk, plain, contentBits, PlainOk, NestedOk, array, allowedIn, IsStructArray}
 use Rattle.framing.specs.GrammarRules as G
 use Rattle.framing.proofs.GrammarBits.{Span, Below}
-use Rattle.framing.proofs.GrammarFound.{Fine, fine-append, fine-join, fine-rest, fine-number, fine-element, bitsIn, Content, Found, level-found}
+use Rattle.framing.proofs.GrammarFound.{Fine, fine-append, fine-join, fine-number, fine-element, bitsIn, Content, level-found}
 use Rattle.framing.proofs.GrammarWalked.{numAt, windowAt, fieldsTrace, bodyTrace, elementsTrace, endTrace, arrayTrace, array-below, level-walked}
 
 -- ---- a whole window as bits
@@ -56,7 +56,7 @@ nested-tells n h = omega arith
 
 pub record InStruct (deeper : ℕ) (rows : List ℕ) (takes : Bool) (lvl : ℕ) (w : Window) : Type 0 where
   pub it : Array (G.Content deeper)
-  pub ok : StructArray deeper rows takes lvl it
+  pub ok : IsStructArray deeper rows takes lvl it
   pub span : Span w 0 (w .size) (arrayBits (contentBits deeper) it)
 
 plain-zero : (rows : List ℕ) (takes : Bool) (lvl : ℕ) (first : Bool) (h : ℕ) (v : Window) → v .bits < 2 ^ v .size → PlainOk (bitsIn v) (child rows lvl h)
@@ -78,7 +78,7 @@ nested-more deeper rows takes lvl first h below v b some e r =
       it = G.nested (r .it);
       same = whole;
       ok =
-          subst (λ (c : Child). NestedOk ((arrayBits (contentBits deeper) (r .it)) .size) (λ below. StructArray deeper rows takes below (r .it)) c) (sym e)
+          subst (λ (c : Child). NestedOk ((arrayBits (contentBits deeper) (r .it)) .size) (λ below. IsStructArray deeper rows takes below (r .it)) c) (sym e)
           (array large (r .ok));
     }
   where
@@ -102,7 +102,7 @@ found-struct zero t takes leftover lvl tells w path g =
         go true k = plain-zero (t .rows) takes lvl first h v b (subst (λ (c : Child). PlainOk (bitsIn v) c) (sym e) (G.empty (eqb-true _ _ k)))
         go false k =
             let longer = dot path (labelBytes t h (containerLabel t lvl h)) in
-            let g′ : Fine (truncation ∷ given (leafOf longer h v)) = rw k at g in
+            let g′ : Fine (truncation ∷ leafOrOver (leafOf longer h v)) = rw k at g in
             absurd (omega arith)
 
     find : (i : ℕ) (path : List ℕ) (first : Bool) (h : ℕ) (v : Window) → v .bits < 2 ^ v .size
@@ -117,7 +117,7 @@ found-struct (suc deeper) t takes leftover lvl tells w path g =
     Inside = (below : ℕ) (v : Window) (place : List ℕ) → Fine (level (structSink deeper t takes nested below) v place) → InStruct deeper (t .rows) takes below v
 
     look : Inside → (i : ℕ) (path : List ℕ) (first : Bool) (h : ℕ) (v : Window) → v .bits < 2 ^ v .size → (c : Child) → child (t .rows) lvl h ≡ c
-        → Fine (onChild t lvl (λ below path longer handle w. noted longer ++ level (structSink deeper t takes nested below) w (grown path longer)) path h v c)
+        → Fine (onChild t lvl (λ below path longer handle w. overIfLong longer ++ level (structSink deeper t takes nested below) w (grownPath path longer)) path h v c)
         → Content (G.Content (suc deeper)) (contentBits (suc deeper)) (λ f k x. allowedIn (suc deeper) (t .rows) takes lvl f k x) first h v
     look inside i path first h v b Child.Leaf e g = plain-more deeper (t .rows) takes lvl first h v b (subst (λ (c : Child). PlainOk (bitsIn v) c) (sym e) G.leaf)
     look inside i path first h v b (Child.Array below) e g = go (eqb (v .size) 0) refl
@@ -126,9 +126,9 @@ found-struct (suc deeper) t takes leftover lvl tells w path g =
         go true k = plain-more deeper (t .rows) takes lvl first h v b (subst (λ (c : Child). PlainOk (bitsIn v) c) (sym e) (G.empty (eqb-true _ _ k)))
         go false k =
             let longer = dot path (labelBytes t h (containerLabel t lvl h)) in
-            let g′ : Fine (noted longer ++ level (structSink deeper t takes nested below) v (grown path longer)) = rw k at g in
+            let g′ : Fine (overIfLong longer ++ level (structSink deeper t takes nested below) v (grownPath path longer)) = rw k at g in
             nested-more deeper (t .rows) takes lvl first h below v b (eqb-false _ _ k) e
-            (inside below v (grown path longer) (fine-append (noted longer) (level (structSink deeper t takes nested below) v (grown path longer)) g′ .1))
+            (inside below v (grownPath path longer) (fine-append (overIfLong longer) (level (structSink deeper t takes nested below) v (grownPath path longer)) g′ .1))
 
     find : Inside → (i : ℕ) (path : List ℕ) (first : Bool) (h : ℕ) (v : Window) → v .bits < 2 ^ v .size
         → Fine ((structSink (suc deeper) t takes leftover lvl) .field i path first h v)
@@ -137,19 +137,19 @@ found-struct (suc deeper) t takes leftover lvl tells w path g =
 
 -- ---- in the grammar, so clean
 
-noted-fine : (longer : List ℕ) → Fine (noted longer)
-unfolding noted
-noted-fine longer = go (leb (length longer) longestPath) refl
+over-fine : (longer : List ℕ) → Fine (overIfLong longer)
+unfolding overIfLong
+over-fine longer = go (leb (length longer) longestPath) refl
   where
-    go : (b : Bool) → leb (length longer) longestPath ≡ b → Fine (noted longer)
+    go : (b : Bool) → leb (length longer) longestPath ≡ b → Fine (overIfLong longer)
     go true e = rw e refl
     go false e = rw e refl
 
-given-fine : (x : Ev.Leaf) → Fine (given x)
-unfolding given
-given-fine x = go (leb (length (x .path)) longestPath) refl
+leaf-fine : (x : Ev.Leaf) → Fine (leafOrOver x)
+unfolding leafOrOver
+leaf-fine x = go (leb (length (x .path)) longestPath) refl
   where
-    go : (b : Bool) → leb (length (x .path)) longestPath ≡ b → Fine (given x)
+    go : (b : Bool) → leb (length (x .path)) longestPath ≡ b → Fine (leafOrOver x)
     go true e = rw e refl
     go false e = rw e refl
 
@@ -158,7 +158,7 @@ unfolding entering
 entering-fine s path i = go (s .flattens) refl
   where
     go : (b : Bool) → s .flattens ≡ b → Fine (entering s path i)
-    go true e = rw e (noted-fine (atIndex path i))
+    go true e = rw e (over-fine (atIndex path i))
     go false e = rw e refl
 
 module _ (s : Sink) {P : Type 0} (bitsOf : P → Bits) (allowed : Bool → ℕ → P → Type 0)
@@ -208,7 +208,7 @@ module _ (s : Sink) {P : Type 0} (bitsOf : P → Bits) (allowed : Bool → ℕ �
 -- what is allowed has as many bits as its size says
 nested-below : (deeper : ℕ) (rows : List ℕ) (takes : Bool) (a : Array (G.Content deeper))
     → ((lvl : ℕ) (first : Bool) (h : ℕ) (x : G.Content deeper) → allowedIn deeper rows takes lvl first h x → Below (contentBits deeper x))
-    → {c : Child} → NestedOk ((arrayBits (contentBits deeper) a) .size) (λ below. StructArray deeper rows takes below a) c → Below (arrayBits (contentBits deeper) a)
+    → {c : Child} → NestedOk ((arrayBits (contentBits deeper) a) .size) (λ below. IsStructArray deeper rows takes below a) c → Below (arrayBits (contentBits deeper) a)
 nested-below deeper rows takes a inside (array {below = below} some inner) =
     array-below (contentBits deeper) (λ f k x. allowedIn deeper rows takes below f k x) (λ f k x y. inside below f k x y) takes a inner
 
@@ -223,25 +223,25 @@ allowed-below (suc deeper) rows takes lvl first h (G.nested a) ok =
 -- a plain payload and a nested array as the sink takes them
 plain-fine : (t : Tables) (lvl : ℕ) (into : ℕ → List ℕ → List ℕ → ℕ → Window → Trace) (path : List ℕ) (h : ℕ) (v : Window) (c : Child) → PlainOk (bitsIn v) c
     → Fine (onChild t lvl into path h v c)
-plain-fine t lvl into path h v Child.Leaf ok = given-fine _
+plain-fine t lvl into path h v Child.Leaf ok = leaf-fine _
 plain-fine t lvl into path h v (Child.Array below) (G.empty e) = rw (eq-eqb (v .size) 0 e) refl
 
 nested-fine : (deeper : ℕ) (t : Tables) (takes : Bool) (lvl : ℕ) (a : Array (G.Content deeper))
-    → ((below : ℕ) → StructArray deeper (t .rows) takes below a → (v : Window) → Span v 0 (v .size) (arrayBits (contentBits deeper) a) → (path : List ℕ)
+    → ((below : ℕ) → IsStructArray deeper (t .rows) takes below a → (v : Window) → Span v 0 (v .size) (arrayBits (contentBits deeper) a) → (path : List ℕ)
     → Fine (level (structSink deeper t takes nested below) v path))
-    → (path : List ℕ) (h o p : ℕ) {c : Child} → NestedOk ((arrayBits (contentBits deeper) a) .size) (λ below. StructArray deeper (t .rows) takes below a) c
+    → (path : List ℕ) (h o p : ℕ) {c : Child} → NestedOk ((arrayBits (contentBits deeper) a) .size) (λ below. IsStructArray deeper (t .rows) takes below a) c
     → Below (arrayBits (contentBits deeper) a)
-    → Fine (onChild t lvl (λ below path longer handle w. noted longer ++ level (structSink deeper t takes nested below) w (grown path longer)) path h
+    → Fine (onChild t lvl (λ below path longer handle w. overIfLong longer ++ level (structSink deeper t takes nested below) w (grownPath path longer)) path h
     (windowAt o p (arrayBits (contentBits deeper) a)) c)
 nested-fine deeper t takes lvl a inside path h o p (array {below = below} some inner) b =
     let v = windowAt o p (arrayBits (contentBits deeper) a) in
     let longer = dot path (labelBytes t h (containerLabel t lvl h)) in
     rw (ne-eqb ((arrayBits (contentBits deeper) a) .size) 0 (λ z. omega arith))
-    (fine-join (noted longer) _ (noted-fine longer) (inside below inner v (whole-span v (arrayBits (contentBits deeper) a) b refl) (grown path longer)))
+    (fine-join (overIfLong longer) _ (over-fine longer) (inside below inner v (whole-span v (arrayBits (contentBits deeper) a) b refl) (grownPath path longer)))
 
 -- A struct array's bits are walked without fault.
 pub walked-struct : (deeper : ℕ) (t : Tables) (takes : Bool) (leftover : ℕ → Event) (lvl : ℕ) → Fine (leftover 0 ∷ []) → (a : Array (G.Content deeper))
-    → StructArray deeper (t .rows) takes lvl a → (w : Window) → Span w 0 (w .size) (arrayBits (contentBits deeper) a) → (path : List ℕ)
+    → IsStructArray deeper (t .rows) takes lvl a → (w : Window) → Span w 0 (w .size) (arrayBits (contentBits deeper) a) → (path : List ℕ)
     → Fine (level (structSink deeper t takes leftover lvl) w path)
 unfolding structSink
 walked-struct zero t takes leftover lvl none a ok w sp path =
@@ -264,7 +264,7 @@ walked-struct (suc deeper) t takes leftover lvl none a ok w sp path =
     (always (λ below x y v z place. walked-struct deeper t takes nested below refl x y v z place)) none (w .origin) takes path a ok)
   where
     Inside : Type 0
-    Inside = (below : ℕ) (x : Array (G.Content deeper)) → StructArray deeper (t .rows) takes below x → (v : Window)
+    Inside = (below : ℕ) (x : Array (G.Content deeper)) → IsStructArray deeper (t .rows) takes below x → (v : Window)
         → Span v 0 (v .size) (arrayBits (contentBits deeper) x) → (path : List ℕ) → Fine (level (structSink deeper t takes nested below) v path)
 
     always : Inside → (i : ℕ) (path : List ℕ) (first : Bool) (h : ℕ) (x : G.Content (suc deeper)) → allowedIn (suc deeper) (t .rows) takes lvl first h x → (o p : ℕ)

@@ -1,4 +1,5 @@
--- The bits of an array of the grammar are walked as its parts say: the walk's trace, read off the array. Stated once for every sink.
+-- The bits of an array of the grammar are walked as its parts say: the walk's trace, read off the array. Stated once for every sink. Each number is
+-- read where its bits stand, and the limits that the grammar keeps are those that the walk tests.
 use Prim.Native.Nat.{ℕ, zero, suc, _+_, _-_, _*_, _/_, _^_, _≤_, _<_}
 use mathlib.Core.Path.{_≡_, refl, sym, ap, ap₂, _∙_, subst}
 use mathlib.Core.Bool.{Bool, true, false, _&&_}
@@ -8,16 +9,17 @@ use native.Mathlib.Omega.{arith}
 use lib.Dec.{eqb}
 use lib.ListN.{length}
 use lib.Pow.{pow-add}
-use borrow.Author.Tests.{le-ltb, lt-leb, eq-eqb}
+use borrow.Author.Tests.{eq-eqb}
 use Rattle.bits.proofs.ChoiceLaws.{and-false}
 use Rattle.bits.specs.Bits.{field}
 use Rattle.bits.specs.Packed.{Number}
+use Rattle.bits.specs.Sizes.{maxElements, maxFields, trailerBits}
 use Rattle.framing.specs.Windows.{Window, part, got, reading}
 use Rattle.framing.specs.Events.{number, element, Trace}
-use Rattle.framing.specs.Walk.{maxElements, maxFields, trailerBits, Sink, numberAt, closes, opens, closed, done, prepend, onField, onLastField, fields, closing, inItem, entering, behind, onIndex, onLastIndex, elements, onCount, level}
+use Rattle.framing.specs.Walk.{Sink, numberAt, opens, closed, done, prepend, onField, onLastField, fields, closing, inItem, entering, behind, onIndex, onLastIndex, elements, onCount, level}
 use Rattle.framing.specs.Grammar.{Bits, _then_, Num, packedBits, numBits, IsNum, Field, Element, Array, fieldBits, fieldsBits, elementBits, elementsBits, trailing, arrayBits}
 use Rattle.framing.specs.GrammarRules.{Each, FieldOk, FieldsOk, ElementOk, ArrayOk}
-use Rattle.framing.proofs.StepLaws.{fields-last, fields-step, fields-present, elements-last, elements-step, level-count}
+use Rattle.framing.proofs.StepLaws.{fields-last, fields-step, fields-present, elements-last, elements-step, level-count, count-allowed, index-allowed}
 use Rattle.framing.proofs.GrammarBits.{Span, Below, span-first, span-second, num-read}
 use Rattle.framing.proofs.GrammarLeads.{stands-closes, stands-opens, stands-closed, stands-present}
 
@@ -246,7 +248,7 @@ module _ {P : Type 0} (bitsOf : P → Bits) (allowed : Bool → ℕ → P → Ty
         entered : (path : List ℕ) (count i q : ℕ) (n : Number) (left : ℕ) → i < count
             → onIndex s w path count (λ m. elements s w path count left m) (opens n i q)
             ≡ number n ∷ element i ∷ (entering s path i ++ behind (λ m. elements s w path count left m) (fields s w i (inItem s path i) maxFields q true))
-        entered path count i q n left h = rw (lt-leb count i h) refl
+        entered path count i q n left h = rw (index-allowed count i h) refl
 
     -- The level is walked as the array says.
     pub level-walked : (path : List ℕ) (a : Array P) → ArrayOk bitsOf allowed (s .trailer) a → Span w 0 (w .size) (arrayBits bitsOf a)
@@ -282,4 +284,4 @@ module _ {P : Type 0} (bitsOf : P → Bits) (allowed : Bool → ℕ → P → Ty
       where
         counted : (path : List ℕ) (v b : ℕ) → v ≤ maxElements
             → onCount s w path (got v b) ≡ number (numberAt w 0 b v) ∷ elements s w path v maxElements (8 * b)
-        counted path v b h = rw (le-ltb maxElements v h) refl
+        counted path v b h = rw (count-allowed v h) refl

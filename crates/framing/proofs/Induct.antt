@@ -5,14 +5,17 @@ use mathlib.Core.List.{List, [], _∷_, _++_}
 use Prim.Native.Nat.{ℕ, zero, suc, _+_, _-_, _*_, _≤_, _<_}
 use native.Mathlib.Omega.{arith}
 use lib.Dec.{ltb, leb, eqb}
-use borrow.Author.Tests.{ltb-false, leb-true, leb-false, eqb-true}
+use borrow.Author.Tests.{ltb-false, leb-true, leb-false, eqb-true, eqb-false}
 use Rattle.bits.specs.declared.Packed.{Packed}
 use Rattle.bits.proofs.PackedWindows as PW
 use Rattle.bits.proofs.PackedWindows.{Lies, packed-lies}
 use Rattle.bits.specs.Packed.{Number}
+use Rattle.bits.specs.Sizes.{maxFields, maxElements, trailerBits}
 use Rattle.framing.specs.Windows.{Window, part, Reading, got, failed, readingOf, reading}
-use Rattle.framing.specs.Events.{number, element, truncation, error, implicit, Trace}
-use Rattle.framing.specs.Walk.{Sink, numberAt, Lead, ends, fails, closes, opens, leadOf, lead, Due, cut, broken, closed, present, withWidth, fieldOf, fieldAt, tail, Run, done, stopped, prepend, onField, onLastField, fields, trailerOf, closing, inItem, entering, behind, onIndex, onLastIndex, elements, onCount, level, maxFields, maxElements}
+use Rattle.framing.specs.Events.{rawHandle, number, element, truncation, error, implicit, Trace}
+use Rattle.framing.specs.Walk.{Sink, numberAt, Lead, ends, fails, closes, opens, leadOf, lead, Due, cut, broken, closed, present, withWidth, fieldOf, fieldAt, tail, Run, done, stopped, prepend, onField, onLastField, fields, trailerOf, closing, inItem, entering, behind, beyond, onIndex, onLastIndex, elements, tooMany, onCount, level}
+use Rattle.framing.proofs.StepLaws.{count-few, index-below}
+use Rattle.framing.proofs.GrammarBits.{read-num}
 use Rattle.bits.proofs.ChoiceLaws.{and-true}
 
 -- ---- numbers lie in the window and take at least a byte
@@ -92,6 +95,40 @@ pub due-in : (w : Window) (p : ℕ) → DueIn w p (fieldAt w p)
 unfolding fieldAt
 due-in w p = due-of-in w p (lead-in w p)
 
+-- a field's handle is below the one of a kept tail
+abbrev pub LowHandle : Due → Type 0
+LowHandle cut = Unit
+LowHandle (broken ns) = Unit
+LowHandle (closed x q) = Unit
+LowHandle (present ns h q k) = h < rawHandle
+
+width-low : (w : Window) (x : Number) (h q : ℕ) → h < rawHandle → (r : Reading) → LowHandle (withWidth w x h q r)
+width-low w x h q low failed = tt
+width-low w x h q low (got k b) = go (ltb (w .size) (q + 8 * b + k)) refl
+  where
+    go : (z : Bool) → ltb (w .size) (q + 8 * b + k) ≡ z → LowHandle (withWidth w x h q (got k b))
+    go true t = rw t tt
+    go false t = rw t low
+
+due-of-low : (w : Window) (p : ℕ) (r : Reading) → reading w p ≡ r → LowHandle (fieldOf w (leadOf w p r))
+due-of-low w p failed e = tt
+due-of-low w p (got v b) e = go (eqb v 0) refl
+  where
+    go : (z : Bool) → eqb v 0 ≡ z → LowHandle (fieldOf w (leadOf w p (got v b)))
+    go true t = rw t tt
+    go false t =
+        let word = read-num w p v b e .0 .word in
+        let more = eqb-false v 0 t in
+        rw t (width-low w (numberAt w p b v) (v - 1) (p + 8 * b) (omega arith) (reading w (p + 8 * b)))
+
+pub due-low : (w : Window) (p : ℕ) → LowHandle (fieldAt w p)
+unfolding fieldAt lead
+due-low w p = go (leb (w .size) p) refl
+  where
+    go : (z : Bool) → leb (w .size) p ≡ z → LowHandle (fieldAt w p)
+    go true t = rw t tt
+    go false t = rw t (due-of-low w p (reading w p) refl)
+
 -- ---- the scheme
 
 -- where a tail may be kept: at the level, or in one of its elements
@@ -105,7 +142,7 @@ pub record Scheme (s : Sink) (w : Window) (path : List ℕ) (Good : ℕ → ℕ 
   pub halt : {p q : ℕ} {t u : Trace} → Good p q t → Stop q u → Stop p (t ++ u)
   pub read : {x : Number} {p q : ℕ} → Read w x p q → Good p q (number x ∷ [])
   pub entered : {x : Number} {i p q : ℕ} → Read w x p q → i < maxElements → Good p q (number x ∷ element i ∷ entering s path i)
-  pub given : {x y : Number} {i h p q r k : ℕ} {first : Bool} → i < maxElements → Read w x p q → Read w y q r → r + k ≤ w .size
+  pub given : {x y : Number} {i h p q r k : ℕ} {first : Bool} → i < maxElements → h < rawHandle → Read w x p q → Read w y q r → r + k ≤ w .size
       → Good p (r + k) (number x ∷ number y ∷ s .field i (inItem s path i) first h (part w r k))
   pub ended : {p : ℕ} → w .size ≤ p → p ≤ w .size → Stop p (implicit ∷ [])
   pub failed : {p : ℕ} → p ≤ w .size → Stop p (error ∷ [])
@@ -129,21 +166,21 @@ module _ (s : Sink) (w : Window) (path : List ℕ) (Good : ℕ → ℕ → Trace
     last-field p h (in-more t) = stops (𝓢 .limited h (at-item small))
 
     one-field : (p : ℕ) → p ≤ w .size → (first : Bool) (more : ℕ → Bool → Run) → ((q : ℕ) (b : Bool) → q ≤ w .size → Holds q (more q b))
-        → {d : Due} → DueIn w p d → Holds p (onField s w i (inItem s path i) first more d)
-    one-field p h first more f (in-end e) = stops (𝓢 .ended e h)
-    one-field p h first more f (in-fail e) = stops (𝓢 .failed h)
-    one-field p h first more f (in-fail₁ t) = stops (𝓢 .halt (𝓢 .read t) (𝓢 .failed (t .fits)))
-    one-field p h first more f (in-fail₂ t u) = stops (𝓢 .halt (𝓢 .read t) (𝓢 .halt (𝓢 .read u) (𝓢 .failed (u .fits))))
-    one-field p h first more f (in-zero t) = closes-at (t .fits) (𝓢 .read t)
-    one-field p h first more f (in-field {r = r} {k = k} t u fit) = before (𝓢 .given small t u fit) (f (r + k) (first && eqb k 0) fit)
+        → {d : Due} → DueIn w p d → LowHandle d → Holds p (onField s w i (inItem s path i) first more d)
+    one-field p h first more f (in-end e) low = stops (𝓢 .ended e h)
+    one-field p h first more f (in-fail e) low = stops (𝓢 .failed h)
+    one-field p h first more f (in-fail₁ t) low = stops (𝓢 .halt (𝓢 .read t) (𝓢 .failed (t .fits)))
+    one-field p h first more f (in-fail₂ t u) low = stops (𝓢 .halt (𝓢 .read t) (𝓢 .halt (𝓢 .read u) (𝓢 .failed (u .fits))))
+    one-field p h first more f (in-zero t) low = closes-at (t .fits) (𝓢 .read t)
+    one-field p h first more f (in-field {r = r} {k = k} t u fit) low = before (𝓢 .given small low t u fit) (f (r + k) (first && eqb k 0) fit)
 
     fields-hold : (left p : ℕ) → p ≤ w .size → (first : Bool) → Holds p (fields s w i (inItem s path i) left p first)
     unfolding fields
     fields-hold zero p h first = last-field p h (lead-in w p)
     fields-hold (suc left) p h first =
-        one-field p h first (λ q f. fields s w i (inItem s path i) left q f) (λ q f k. fields-hold left q k f) (due-in w p)
+        one-field p h first (λ q f. fields s w i (inItem s path i) left q f) (λ q f k. fields-hold left q k f) (due-in w p) (due-low w p)
 
-  trailer-holds : (p : ℕ) → p + 8 ≡ w .size → {r : Reading} → Inside (w .size) p r → Stop p (trailerOf s w p r)
+  trailer-holds : (p : ℕ) → p + trailerBits ≡ w .size → {r : Reading} → Inside (w .size) p r → Stop p (trailerOf s w p r)
   trailer-holds p fit nothing = 𝓢 .failed (omega arith)
   trailer-holds p fit (inside {v = v} {b = b} h pos) = go (eqb v 0) refl
     where
@@ -155,15 +192,15 @@ module _ (s : Sink) (w : Window) (path : List ℕ) (Good : ℕ → ℕ → Trace
 
       go : (x : Bool) → eqb v 0 ≡ x → Stop p (trailerOf s w p (got v b))
       go true e = rw e (𝓢 .halt (𝓢 .read took) (rest (w .size) 0 (omega arith) (omega arith)))
-      go false e = rw e (rest p 8 (omega arith) (omega arith))
+      go false e = rw e (rest p trailerBits (omega arith) (omega arith))
 
   closing-holds : (p : ℕ) → p ≤ w .size → Stop p (closing s w p)
   unfolding closing
-  closing-holds p h = go (s .trailer && eqb (w .size - p) 8) refl
+  closing-holds p h = go (s .trailer && eqb (w .size - p) trailerBits) refl
     where
-      go : (x : Bool) → s .trailer && eqb (w .size - p) 8 ≡ x → Stop p (closing s w p)
+      go : (x : Bool) → s .trailer && eqb (w .size - p) trailerBits ≡ x → Stop p (closing s w p)
       go true e =
-          let d = eqb-true (w .size - p) 8 (and-true (s .trailer) (eqb (w .size - p) 8) e .1) in
+          let d = eqb-true (w .size - p) trailerBits (and-true (s .trailer) (eqb (w .size - p) trailerBits) e .1) in
           rw e (trailer-holds p (omega arith) (reading-inside w p))
       go false e = rw e (𝓢 .left h)
 
@@ -183,12 +220,12 @@ module _ (s : Sink) (w : Window) (path : List ℕ) (Good : ℕ → ℕ → Trace
     one-element p h more f (in-end e) = 𝓢 .ended e h
     one-element p h more f (in-fail e) = 𝓢 .failed h
     one-element p h more f (in-zero {q = q} t) = 𝓢 .halt (𝓢 .read t) (closing-holds q (t .fits))
-    one-element p h more f (in-more {x = x} {i = i} {q = q} t) = go (leb count i) refl
+    one-element p h more f (in-more {x = x} {i = i} {q = q} t) = go (beyond count i) refl
       where
-        go : (b : Bool) → leb count i ≡ b → Stop p (onIndex s w path count more (opens x i q))
+        go : (b : Bool) → beyond count i ≡ b → Stop p (onIndex s w path count more (opens x i q))
         go true e = rw e (𝓢 .halt (𝓢 .read t) (𝓢 .failed (t .fits)))
         go false e =
-            let lt = leb-false count i e in
+            let lt = index-below count i e in
             let low : i < maxElements = omega arith in
             rw e (𝓢 .halt (𝓢 .entered t low) (go-on more f (fields-hold i low maxFields q (t .fits) true)))
 
@@ -199,14 +236,14 @@ module _ (s : Sink) (w : Window) (path : List ℕ) (Good : ℕ → ℕ → Trace
 
   count-holds : {r : Reading} → Inside (w .size) 0 r → Stop 0 (onCount s w path r)
   count-holds nothing = 𝓢 .failed (omega arith)
-  count-holds (inside {v = v} {b = b} h pos) = go (ltb maxElements v) refl
+  count-holds (inside {v = v} {b = b} h pos) = go (tooMany v) refl
     where
       took : Read w (numberAt w 0 b v) 0 (8 * b)
       took = record { starts = refl; runs = omega arith; some = pos; fits = omega arith }
 
-      go : (x : Bool) → ltb maxElements v ≡ x → Stop 0 (onCount s w path (got v b))
+      go : (x : Bool) → tooMany v ≡ x → Stop 0 (onCount s w path (got v b))
       go true e = rw e (𝓢 .halt (𝓢 .read took) (𝓢 .limited (took .fits) at-level))
-      go false e = rw e (𝓢 .halt (𝓢 .read took) (elements-hold v (ltb-false maxElements v e) maxElements (8 * b) (took .fits)))
+      go false e = rw e (𝓢 .halt (𝓢 .read took) (elements-hold v (count-few v e) maxElements (8 * b) (took .fits)))
 
   pub level-holds : Stop 0 (level s w path)
   unfolding level

@@ -6,6 +6,9 @@ pub mod TraceLaws
 pub mod StepLaws
 pub mod RecordLaws
 pub mod Induct
+pub mod Lift
+pub mod EachEvent
+pub mod Weighed
 pub mod Bounded
 pub mod PairOrder
 pub mod RefusingLaws

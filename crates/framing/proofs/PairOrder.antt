@@ -1,14 +1,13 @@
 -- Rule 8 of document 01 gives an element's pair behind its fields. In the definitions the pair stands at the field that gives it. No answer shows
--- the difference: moving the pairs of a trace behind its other events changes no leaf, no pair, no counter.
+-- the difference: moving the pairs of a trace behind its other events changes no leaf, no pair, no counter, since these are lists of one kind of
+-- event, and sums.
 use mathlib.Core.Path.{_≡_, refl, sym, ap, ap₂, _∙_}
 use mathlib.Core.List.{List, [], _∷_, _++_, append-nil}
 use Prim.Native.Nat.{ℕ, _+_}
 use native.Mathlib.Omega.{arith}
-use native.Mathlib.Nat.{add-zero}
-use Rattle.framing.specs.Events.{Event, Pair, number, element, leaf, pair, truncation, error, implicit, nested, root, over, leaves, pairs, overs, Trace}
+use Rattle.framing.specs.Events.{Pair, number, element, leaf, pair, truncation, error, implicit, nested, root, over, leaves, pairs, Trace}
 use Rattle.framing.specs.Counters.{Counters, counted, counters, sums, tally}
-use Rattle.framing.specs.Walk.{Run, done, stopped}
-use Rattle.framing.proofs.TraceLaws.{counters-append, leaves-append, pairs-append, overs-append, sums-zero, sums-assoc}
+use Rattle.framing.proofs.TraceLaws.{counters-append, leaves-append, pairs-append, sums-assoc}
 
 -- the other events, and the pairs as events
 abbrev pub others : Trace → Trace

@@ -1,4 +1,4 @@
--- The laws of records, path bytes and payload bytes: one list of leaves behind another.
+-- The laws of records, path bytes and payload bytes: one list of leaves behind another. By induction over the first list.
 use mathlib.Core.Path.{_≡_, refl, sym, ap, ap₂, _∙_}
 use mathlib.Core.List.{List, [], _∷_, _++_, append-assoc}
 use Prim.Native.Nat.{ℕ, _+_}

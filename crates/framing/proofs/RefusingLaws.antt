@@ -1,13 +1,12 @@
--- The cases of `decided`: 1, 2, 5, 3, and acceptance.
+-- The cases of `decided`: 1, 2, 5, 3, and acceptance. Each is one branch of the definition, under the tests that lead to it.
 use mathlib.Core.Path.{_≡_}
 use mathlib.Core.Bool.{Bool, true, false}
 use Prim.Native.Nat.{ℕ, _≤_, _<_}
-use native.Mathlib.Omega.{arith}
 use borrow.Author.Tests.{lt-ltb, le-ltb}
-use Rattle.bitio.specs.Cursors.{longestWindow}
+use Rattle.bits.specs.Sizes.{longestWindow}
 use Rattle.framing.specs.Events.{overs, Trace}
 use Rattle.framing.specs.Counters.{counters}
-use Rattle.framing.specs.Refusing.{Answer, refused, accepted, decided}
+use Rattle.framing.specs.Refusing.{refused, accepted, decided}
 
 module _ {Need : Type 0} (bits : ℕ) (ok : Bool) (t : Trace) (nothing need : Need) (enough : Bool) where
   pub decided-long : longestWindow < bits → decided bits ok t nothing need enough ≡ refused 1 nothing

@@ -1,4 +1,5 @@
--- Reading in the first m bits of a window, and in the whole of it.
+-- Reading in the first m bits of a window, and in the whole of it: a number that ends inside the first m bits is the same in both, and any other
+-- fails in the first.
 use mathlib.Core.Path.{_≡_, refl}
 use mathlib.Core.Bool.{Bool, true, false}
 use mathlib.Core.List.{List}

@@ -1,9 +1,10 @@
--- The laws of traces: counters, leaves and pairs of two traces one behind the other.
+-- The laws of traces: counters, leaves and pairs of two traces one behind the other. By induction over the first trace, since each event adds its
+-- own.
 use mathlib.Core.Path.{_≡_, refl, sym, ap, _∙_}
-use mathlib.Core.List.{List, [], _∷_, _++_}
-use Prim.Native.Nat.{ℕ, suc, _+_}
+use mathlib.Core.List.{[], _∷_, _++_}
+use Prim.Native.Nat.{suc, _+_}
 use native.Mathlib.Nat.{zero-add, suc-add, add-assoc}
-use Rattle.framing.specs.Events.{Event, number, element, leaf, pair, truncation, error, implicit, nested, root, over, leaves, pairs, overs, Trace}
+use Rattle.framing.specs.Events.{number, element, leaf, pair, truncation, error, implicit, nested, root, over, leaves, pairs, overs, Trace}
 use Rattle.framing.specs.Counters.{Counters, counted, counters, sums, tally}
 
 pub sums-zero : (c : Counters) → sums (counted 0 0 0 0 0 0 0) c ≡ c

@@ -1,7 +1,7 @@
--- The seven counters of a walk, and whether they are clean.
+-- The seven counters of a walk, and whether they are clean (01, Walking an array, behind rule 9).
 use Prim.Native.Nat.{ℕ, _+_}
 use mathlib.Core.Bool.{Bool}
-use mathlib.Core.List.{List, [], _∷_}
+use mathlib.Core.List.{[], _∷_}
 use lib.Dec.{eqb}
 use Rattle.framing.specs.Events.{Event, number, element, leaf, pair, truncation, error, implicit, nested, root, over, Trace}
 

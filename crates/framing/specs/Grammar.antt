@@ -7,7 +7,7 @@
 use Prim.Native.Nat.{ℕ, zero, suc, _+_, _*_, _/_, _%_, _^_, _≤_, _<_}
 use mathlib.Core.Bool.{Bool, true, false}
 use mathlib.Core.List.{List, [], _∷_}
-use Rattle.framing.specs.Walk.{trailerBits}
+use Rattle.bits.specs.Sizes.{trailerBits}
 
 -- ---- bits, the first bit lowest
 

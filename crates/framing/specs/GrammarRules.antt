@@ -6,11 +6,11 @@ use mathlib.Core.Bool.{Bool, true, _&&_}
 use mathlib.Core.List.{List, [], _∷_}
 use lib.ListN.{length}
 use lib.Dec.{eqb}
+use Rattle.bits.specs.Sizes.{maxElements, maxFields}
 use Rattle.schema.specs.Tables.{child}
 use Rattle.schema.specs.declared.Child.{Child}
 use Rattle.schema.specs.declared.Child.the-variants as Child
 use Rattle.schema.specs.declared.Child.the-variants.{Leaf}
-use Rattle.framing.specs.Walk.{maxElements, maxFields}
 use Rattle.framing.specs.Grammar.{Bits, noBits, Num, numBits, IsNum, Field, Element, Array, arrayBits}
 
 -- ---- fields, elements and arrays
@@ -86,8 +86,8 @@ allowedIn (suc deeper) rows takes lvl first h (nested a) =
     (λ below. ArrayOk (contentBits deeper) (λ f k x. allowedIn deeper rows takes below f k x) takes a) (child rows lvl h)
 
 -- an array of the struct walk, with so many levels below it, whose elements have that level of the schema
-abbrev pub StructArray : (deeper : ℕ) (rows : List ℕ) (takes : Bool) (level : ℕ) → Array (Content deeper) → Type 0
-StructArray deeper rows takes lvl a = ArrayOk (contentBits deeper) (λ f k x. allowedIn deeper rows takes lvl f k x) takes a
+abbrev pub IsStructArray : (deeper : ℕ) (rows : List ℕ) (takes : Bool) (level : ℕ) → Array (Content deeper) → Type 0
+IsStructArray deeper rows takes lvl a = ArrayOk (contentBits deeper) (λ f k x. allowedIn deeper rows takes lvl f k x) takes a
 
 -- ---- in an object walk: a field is empty, or one packed number that fills its payload; at most one of an element is not empty
 
@@ -103,5 +103,5 @@ abbrev pub referenceIn : (first : Bool) (handle : ℕ) → Reference → Type 0
 referenceIn first h noGuid = Unit
 referenceIn first h (guid n) = (first ≡ true) × IsNum n
 
-abbrev pub ObjectArray : Array Reference → Type 0
-ObjectArray a = ArrayOk referenceBits referenceIn true a
+abbrev pub IsObjectArray : Array Reference → Type 0
+IsObjectArray a = ArrayOk referenceBits referenceIn true a

@@ -9,19 +9,48 @@ use Rattle.framing.specs.Events.{Leaf, Pair}
 abbrev pub payloadOf : Leaf → List ℕ
 payloadOf x = bytesOf (bytesFor (x .width)) (x .payload)
 
--- records: the one place that says how many numbers a leaf and a pair have, and which
+-- ---- records: the one place that says how many numbers a leaf and a pair have, and which
+
 abbrev pub leafWords : ℕ
 leafWords = 5
 
--- pathAt, payloadAt: where the leaf's path and payload start in their buffers
-abbrev pub leafRecord : (pathAt payloadAt : ℕ) → Leaf → List ℕ
-leafRecord pathAt payloadAt x = pathAt ∷ length (x .path) ∷ x .handle ∷ x .width ∷ payloadAt ∷ []
+abbrev pub leafNumbers : (pathStart pathLength handle payloadBits payloadStart : ℕ) → List ℕ
+leafNumbers pathStart pathLength handle payloadBits payloadStart = pathStart ∷ pathLength ∷ handle ∷ payloadBits ∷ payloadStart ∷ []
+
+-- where they stand
+abbrev pub pathStartAt : ℕ
+pathStartAt = 0
+
+abbrev pub pathLengthAt : ℕ
+pathLengthAt = 1
+
+abbrev pub handleAt : ℕ
+handleAt = 2
+
+abbrev pub payloadBitsAt : ℕ
+payloadBitsAt = 3
+
+abbrev pub payloadStartAt : ℕ
+payloadStartAt = 4
+
+-- pathStart, payloadStart: where the leaf's path and payload start in their buffers
+abbrev pub leafRecord : (pathStart payloadStart : ℕ) → Leaf → List ℕ
+leafRecord pathStart payloadStart x = leafNumbers pathStart (length (x .path)) (x .handle) (x .width) payloadStart
 
 abbrev pub pairWords : ℕ
 pairWords = 2
 
+abbrev pub pairNumbers : (index guid : ℕ) → List ℕ
+pairNumbers index guid = index ∷ guid ∷ []
+
+abbrev pub indexAt : ℕ
+indexAt = 0
+
+abbrev pub guidAt : ℕ
+guidAt = 1
+
 abbrev pub pairRecord : Pair → List ℕ
-pairRecord x = x .index ∷ x .guid ∷ []
+pairRecord x = pairNumbers (x .index) (x .guid)
 
 unfoldable pub pathBytes : List Leaf → List ℕ
 pathBytes [] = []

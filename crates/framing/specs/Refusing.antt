@@ -1,11 +1,10 @@
 -- When a walk is refused, and what it needs (01, Refusal numbers): stated once for all three walks.
 use Prim.Native.Nat.{ℕ}
-use mathlib.Core.Bool.{Bool, true, false, not, _&&_}
-use mathlib.Core.List.{List}
+use mathlib.Core.Bool.{Bool, not, _&&_}
 use lib.ListN.{length}
 use lib.Dec.{leb, ltb}
 use Rattle.bits.specs.Choice.{if_then_else_}
-use Rattle.bitio.specs.Cursors.{longestWindow}
+use Rattle.bits.specs.Sizes.{longestWindow}
 use Rattle.framing.specs.Events.{leaves, overs, Trace}
 use Rattle.framing.specs.Counters.{Counters, counters}
 use Rattle.framing.specs.Records.{pathBytes, payloadBytes}

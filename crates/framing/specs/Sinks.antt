@@ -1,28 +1,23 @@
 -- The three walks (array.rs; 01, Walking an array, rules 6, 8 and 9).
-use Prim.Native.Nat.{ℕ, zero, suc, _*_, _-_}
+use Prim.Native.Nat.{ℕ, zero, suc, _*_}
 use mathlib.Core.Bool.{Bool, true, false}
 use mathlib.Core.List.{List, [], _∷_, _++_}
 use lib.ListN.{length}
 use lib.Dec.{ltb, eqb}
 use Rattle.bits.specs.Choice.{if_then_else_}
-use Rattle.schema.specs.Tables.{Tables, tables, absent, child}
+use Rattle.bits.specs.Sizes.{levelsBelow}
+use Rattle.schema.specs.Tables.{Tables, tables, noTables, absent, child}
 use Rattle.schema.specs.Labels.{containerLabel, leafLabel, labelBytes, dot}
 use Rattle.schema.specs.declared.Child.{Child}
 use Rattle.schema.specs.declared.Child.the-variants.{Array, Leaf}
+use Rattle.framing.specs.declared.Walk.{Walk}
+use Rattle.framing.specs.declared.Walk.the-variants as how
 use Rattle.framing.specs.Windows.{Window, windowOf, Reading, got, failed, reading}
 use Rattle.framing.specs.Events as Ev
 use Rattle.framing.specs.Events.{Event, number, pair, truncation, error, nested, root, Trace}
 use Rattle.framing.specs.Counters.{Counters, isClean}
-use Rattle.framing.specs.Paths.{grown, noted, given}
+use Rattle.framing.specs.Paths.{grownPath, overIfLong, leafOrOver}
 use Rattle.framing.specs.Walk.{Sink, numberAt, level}
-
--- 01, Sizes: levels of nesting, of depths 0 to 11
-abbrev pub maxNesting : ℕ
-maxNesting = 12
-
--- levels that may stand below the root's
-abbrev pub levelsBelow : ℕ
-levelsBelow = maxNesting - 1
 
 -- ---- the struct walk
 
@@ -34,7 +29,7 @@ leafOf path handle w = record { path = path; handle = handle; start = w .origin;
 -- the level of its elements, the path so far and the path with the array's label.
 abbrev pub onChild : Tables → (lvl : ℕ) → (inside : (below : ℕ) (path longer : List ℕ) (handle : ℕ) → Window → Trace)
     → (path : List ℕ) (handle : ℕ) → Window → Child → Trace
-onChild t lvl inside path handle w Leaf = given (leafOf (dot path (labelBytes t handle (leafLabel t lvl handle))) handle w)
+onChild t lvl inside path handle w Leaf = leafOrOver (leafOf (dot path (labelBytes t handle (leafLabel t lvl handle))) handle w)
 onChild t lvl inside path handle w (Array below) =
     if eqb (w .size) 0 then [] else inside below path (dot path (labelBytes t handle (containerLabel t lvl handle))) handle w
 
@@ -49,13 +44,13 @@ structSinkOver inside t trailer leftover lvl =
 
 -- too deep: one truncation, and the array as a leaf
 abbrev pub tooDeep : (below : ℕ) (path longer : List ℕ) (handle : ℕ) → Window → Trace
-tooDeep below path longer handle w = truncation ∷ given (leafOf longer handle w)
+tooDeep below path longer handle w = truncation ∷ leafOrOver (leafOf longer handle w)
 
 -- deeper: how many levels may stand below this one. What a child leaves is nested unconsumed bits.
 unfoldable pub structSink : (deeper : ℕ) → Tables → (trailer : Bool) (leftover : ℕ → Event) (lvl : ℕ) → Sink
 structSink zero t trailer leftover lvl = structSinkOver tooDeep t trailer leftover lvl
 structSink (suc deeper) t trailer leftover lvl =
-    structSinkOver (λ below path longer handle w. noted longer ++ level (structSink deeper t trailer nested below) w (grown path longer)) t trailer leftover lvl
+    structSinkOver (λ below path longer handle w. overIfLong longer ++ level (structSink deeper t trailer nested below) w (grownPath path longer)) t trailer leftover lvl
 
 -- ---- the object walk
 
@@ -80,46 +75,66 @@ objectSink = objectSinkOver root
 
 -- ---- the three walks of a window
 
-pub data Walk : Type 0 where
-  struct : Tables → (rootLevel : ℕ) → Walk
-  exact : (declared declaredNames : List ℕ) → Walk
-  object : Walk
+-- Which walk, over which tables, and the level of the root's elements. The public calls have the three forms below; laws hold of any tables. The
+-- object walk looks at none.
+pub data Walker : Type 0 where
+  walker : Walk → Tables → (rootLevel : ℕ) → Walker
 
--- the walks that give leaves; the other gives pairs
-abbrev pub Leafy : Walk → Type 0
-Leafy (struct t lvl) = Unit
-Leafy (exact d n) = Unit
-Leafy object = ⊥
-
+-- the exact walk has no schema, the object walk no tables
 abbrev pub declaredOnly : (declared declaredNames : List ℕ) → Tables
 declaredOnly d n = tables [] [] d n
 
--- the exact walk has no schema and takes no trailer
-unfoldable pub sinkOf : Walk → Sink
-sinkOf (struct t lvl) = structSink levelsBelow t true root lvl
-sinkOf (exact d n) = structSink levelsBelow (declaredOnly d n) false root absent
-sinkOf object = objectSink
+abbrev pub struct : Tables → (rootLevel : ℕ) → Walker
+struct t lvl = walker how.Struct t lvl
+
+abbrev pub exact : (declared declaredNames : List ℕ) → Walker
+exact d n = walker how.Exact (declaredOnly d n) absent
+
+abbrev pub object : Walker
+object = walker how.Object noTables absent
+
+-- the walks that give leaves; the other gives pairs
+abbrev pub givesLeaves : Walk → Bool
+givesLeaves how.Struct = true
+givesLeaves how.Exact = true
+givesLeaves how.Object = false
+
+-- the walks that take a trailer
+abbrev pub takesTrailer : Walk → Bool
+takesTrailer how.Struct = true
+takesTrailer how.Exact = false
+takesTrailer how.Object = true
+
+abbrev pub Leafy : Walker → Type 0
+Leafy (walker how.Struct t lvl) = Unit
+Leafy (walker how.Exact t lvl) = Unit
+Leafy (walker how.Object t lvl) = ⊥
+
+unfoldable pub sinkOf : Walker → Sink
+sinkOf (walker how.Struct t lvl) = structSink levelsBelow t true root lvl
+sinkOf (walker how.Exact t lvl) = structSink levelsBelow t false root lvl
+sinkOf (walker how.Object t lvl) = objectSink
 
 -- Rule 9: a struct or exact walk of no bits counts nothing
-abbrev pub silent : Walk → (bits : ℕ) → Bool
-silent (struct t lvl) n = eqb n 0
-silent (exact d m) n = eqb n 0
-silent object n = false
+abbrev pub silent : Walker → (bits : ℕ) → Bool
+silent (walker how.Struct t lvl) n = eqb n 0
+silent (walker how.Exact t lvl) n = eqb n 0
+silent (walker how.Object t lvl) n = false
 
-unfoldable pub walkWindow : Walk → Window → Trace
+unfoldable pub walkWindow : Walker → Window → Trace
 walkWindow k w = if silent k (w .size) then [] else level (sinkOf k) w []
 
--- the first n bits of some bytes; a window past its bytes counts one error
-unfoldable pub walk : Walk → (bytes : List ℕ) (n : ℕ) → Trace
+-- the first n bits of some bytes; where the bytes hold fewer, one error (01, Refusal numbers: no walk gives 14)
+unfoldable pub walk : Walker → (bytes : List ℕ) (n : ℕ) → Trace
 walk k bytes n =
     if silent k n then [] else (if ltb (8 * length bytes) n then error ∷ [] else walkWindow k (windowOf bytes n))
 
--- ---- the verdict
+-- ---- the verdict (01, Walking an array, behind rule 9)
 
 pub data Verdict : Type 0 where
   clean : Verdict
   partial : Verdict
 
 -- of a walk of so many bits that gave these counters
-unfoldable pub verdictOf : Walk → (bits : ℕ) → Counters → Verdict
+unfoldable pub verdictOf : Walker → (bits : ℕ) → Counters → Verdict
 verdictOf k bits c = if isClean c then clean else partial

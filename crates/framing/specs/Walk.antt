@@ -7,21 +7,11 @@ use lib.Dec.{leb, ltb, eqb}
 use Rattle.bits.specs.Choice.{if_then_else_}
 use Rattle.bits.specs.Bits.{field}
 use Rattle.bits.specs.Packed.{Number}
+use Rattle.bits.specs.Sizes.{maxElements, maxFields, trailerBits}
 use Rattle.schema.specs.Labels.{atIndex, dot, rawLabel}
 use Rattle.framing.specs.Windows.{Window, part, Reading, got, failed, reading}
 use Rattle.framing.specs.Events.{Leaf, rawHandle, numbers, Event, number, element, truncation, error, implicit, Trace}
-use Rattle.framing.specs.Paths.{grown, noted, given}
-
--- 01, Sizes: elements of a level, fields of an element
-abbrev pub maxElements : ℕ
-maxElements = 4096
-
-abbrev pub maxFields : ℕ
-maxFields = 128
-
--- the trailer's bits
-abbrev pub trailerBits : ℕ
-trailerBits = 8
+use Rattle.framing.specs.Paths.{grownPath, overIfLong, leafOrOver}
 
 -- What the walks differ in.
 pub record Sink : Type 0 where
@@ -83,7 +73,7 @@ rawLeaf w path p =
 
 -- it is kept if bits remain; a sink without leaves skips it
 unfoldable pub tail : Sink → Window → (path : List ℕ) → (p : ℕ) → Trace
-tail s w path p = if s .flattens && ltb p (w .size) then given (rawLeaf w path p) else []
+tail s w path p = if s .flattens && ltb p (w .size) then leafOrOver (rawLeaf w path p) else []
 
 -- ---- rule 5: an element's fields
 
@@ -118,7 +108,7 @@ fields s w i path (suc left) p first = onField s w i path first (λ q f. fields 
 
 -- ---- rule 3: behind the index terminator
 
--- with exactly the trailer's bits left a zero is taken, another value stays, a failed read is an error
+-- with exactly the trailer's bits left these are read: zero goes with the array, anything else is left over, and nothing readable is an error
 abbrev pub trailerOf : Sink → Window → (p : ℕ) → Reading → Trace
 trailerOf s w p failed = error ∷ []
 trailerOf s w p (got v b) =
@@ -132,15 +122,19 @@ closing s w p =
 
 -- the path in element i, and the event where it would be too long; an object walk has no paths
 unfoldable pub inItem : Sink → (path : List ℕ) (i : ℕ) → List ℕ
-inItem s path i = if s .flattens then grown path (atIndex path i) else path
+inItem s path i = if s .flattens then grownPath path (atIndex path i) else path
 
 unfoldable pub entering : Sink → (path : List ℕ) (i : ℕ) → Trace
-entering s path i = if s .flattens then noted (atIndex path i) else []
+entering s path i = if s .flattens then overIfLong (atIndex path i) else []
 
 -- behind an element: the next one, if it closed; else the rest is skipped
 abbrev pub behind : (ℕ → Trace) → Run → Trace
 behind more (done t q) = t ++ more q
 behind more (stopped t) = t
+
+-- an index is not below the count
+abbrev pub beyond : (count index : ℕ) → Bool
+beyond count i = leb count i
 
 -- one element, or the array's end; `more` walks on behind it
 abbrev pub onIndex : Sink → Window → (path : List ℕ) (count : ℕ) → (ℕ → Trace) → Lead → Trace
@@ -148,7 +142,7 @@ onIndex s w path count more ends = implicit ∷ []
 onIndex s w path count more fails = error ∷ []
 onIndex s w path count more (closes e q) = number e ∷ closing s w q
 onIndex s w path count more (opens e i q) =
-    if leb count i then number e ∷ error ∷ [] else
+    if beyond count i then number e ∷ error ∷ [] else
     number e ∷ element i ∷ (entering s path i ++ behind more (fields s w i (inItem s path i) maxFields q true))
 
 -- after the last element that is allowed only a zero is taken
@@ -165,10 +159,14 @@ elements s w path count (suc left) p = onIndex s w path count (λ q. elements s 
 
 -- ---- rule 1: one array level, the count and then its elements
 
+-- a level has at most so many elements
+abbrev pub tooMany : (count : ℕ) → Bool
+tooMany count = ltb maxElements count
+
 abbrev pub onCount : Sink → Window → (path : List ℕ) → Reading → Trace
 onCount s w path failed = error ∷ []
 onCount s w path (got count b) =
-    if ltb maxElements count then number (numberAt w 0 b count) ∷ truncation ∷ tail s w path (8 * b) else
+    if tooMany count then number (numberAt w 0 b count) ∷ truncation ∷ tail s w path (8 * b) else
     number (numberAt w 0 b count) ∷ elements s w path count maxElements (8 * b)
 
 unfoldable pub level : Sink → Window → (path : List ℕ) → Trace

@@ -1,16 +1,15 @@
 -- Demand 3 of lent buffers: what a cut window's walk leaves, but for a kept tail, stands unchanged at the front of what the whole window's walk
--- leaves.
+-- leaves. Its leaves open the whole's list, and records, paths and payloads follow one another in that order.
 use mathlib.Core.Path.{_≡_, refl, sym, ap, _∙_, subst}
 use mathlib.Core.Bool.{Bool, true, false}
 use mathlib.Core.List.{List, [], _∷_, _++_, append-assoc}
 use Prim.Native.Nat.{ℕ, _+_, _*_, _≤_}
 use lib.Dec.{eqb}
 use lib.ListN.{length, drop}
-use Rattle.bits.specs.Choice.{if_then_else_}
 use Rattle.bits.specs.Bits.{num, field}
 use Rattle.bits.specs.Runs.{filled}
 use Rattle.framing.specs.Events.{Leaf, Pair, rawHandle, leaves, pairs, Trace}
-use Rattle.framing.specs.Sinks.{Walk, object, walk}
+use Rattle.framing.specs.Sinks.{Walker, object, walk}
 use Rattle.framing.specs.Records.{pathBytes, payloadBytes, leafRecords, pairRecords}
 use Rattle.framing.specs.Refusing.{Answer, refused, accepted}
 use Rattle.framing.specs.Demand.{dropTail, Opens}
@@ -85,7 +84,7 @@ pub record CutCall (short long : Call) : Type 0 where
 pub demand3-buffers : (short long : Call) → CutCall short long → (b d : Lent) → wasAccepted (answer short b) → wasAccepted (answer long d)
     → Front (shared short) (final short b) × Front (shared short) (final long d)
 demand3-buffers short long cut b d ok ok′ =
-    let e : walk (long .how) (short .bytes) (short .bits) ≡ traceOf short = ap (λ (k : Walk). walk k (short .bytes) (short .bits)) (sym (cut .how)) in
+    let e : walk (long .how) (short .bytes) (short .bits) ≡ traceOf short = ap (λ (k : Walker). walk k (short .bytes) (short .bits)) (sym (cut .how)) in
     let same : Opens (dropTail (leaves (walk (long .how) (short .bytes) (short .bits)))) (leaves (traceOf long)) =
     (demand3 (long .how) (long .bytes) (short .bytes) (long .bits) (short .bits) (cut .shorter) (cut .inside-long) (cut .inside-short) (cut .bits)) .same-leaves in (
       front short b ok (shared short) (drop-tail-opens (leaves (traceOf short))),

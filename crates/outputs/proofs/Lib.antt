@@ -1,3 +1,4 @@
+pub mod FitLaws
 pub mod Paste
 pub mod After
 pub mod Gives

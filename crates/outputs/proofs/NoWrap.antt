@@ -1,18 +1,19 @@
--- The code's additions wrap; in a walk of a window none does.
-use mathlib.Core.Path.{_≡_, refl, sym, ap, _∙_}
+-- The code's additions wrap; in a walk of a window none does. A sum that fits at the end fitted before, and of at most 524,288 bits the counters,
+-- leaves, paths and payloads add up to less than 2^32 (Bounded, ShortPaths, Gives).
+use mathlib.Core.Path.{_≡_, refl, ap, _∙_}
 use mathlib.Core.List.{List, [], _∷_}
-use Prim.Native.Nat.{ℕ, _+_, _*_, _%_, _≤_, _<_}
+use Prim.Native.Nat.{ℕ, _+_, _%_, _≤_, _<_}
 use native.Mathlib.Nat.{mod-eq-of-lt}
 use native.Mathlib.Omega.{arith}
 use lib.ListN.{length}
-use Rattle.bitio.specs.Cursors.{longestWindow}
+use Rattle.bits.specs.Sizes.{longestWindow}
 use Rattle.framing.specs.Events.{Event, number, element, leaf, pair, truncation, error, implicit, nested, root, over, leaves, pairs, overs, Trace}
 use Rattle.framing.specs.Counters.{Counters, counted, counters, sums}
-use Rattle.framing.specs.Sinks.{Walk, walk}
+use Rattle.framing.specs.Sinks.{Walker, walk}
 use Rattle.framing.specs.Records.{leafRecord, pairRecord, payloadOf}
 use Rattle.framing.proofs.Bounded.{total, walk-cost}
 use Rattle.outputs.specs.World.{plain, wrapping, Out, putNext, World, count, counting, onEvent, apply, fresh}
-use Rattle.outputs.proofs.After.{counters-after, counters-fresh, overs-after, words-at, text-at, load-at, records-length}
+use Rattle.outputs.proofs.After.{counters-after, counters-fresh, overs-after, records-at, paths-at, payloads-at, records-length}
 use Rattle.outputs.proofs.Gives.{payload-bound}
 use Rattle.outputs.proofs.ShortPaths.{walk-short, path-bound}
 
@@ -20,9 +21,9 @@ use Rattle.outputs.proofs.ShortPaths.{walk-short, path-bound}
 pub record Fits (m : ℕ) (w : World) : Type 0 where
   pub counters : total (w .counters) < m
   pub overs : w .overs < m
-  pub words : w .words .at < m
-  pub text : w .text .at < m
-  pub load : w .load .at < m
+  pub records : w .records .at < m
+  pub paths : w .paths .at < m
+  pub payloads : w .payloads .at < m
 
 -- what fits at the end fitted before
 pub fits-before : (m : ℕ) (t : Trace) (w : World) → Fits m (apply plain t w) → Fits m w
@@ -30,9 +31,9 @@ fits-before m t w h =
     record {
       counters = let e : total ((apply plain t w) .counters) ≡ total (sums (w .counters) (counters t)) = ap total (counters-after t w) in let f = h .counters in omega arith;
       overs = let e = overs-after t w in let f = h .overs in omega arith;
-      words = let e = words-at t w in let f = h .words in omega arith;
-      text = let e = text-at t w in let f = h .text in omega arith;
-      load = let e = load-at t w in let f = h .load in omega arith;
+      records = let e = records-at t w in let f = h .records in omega arith;
+      paths = let e = paths-at t w in let f = h .paths in omega arith;
+      payloads = let e = payloads-at t w in let f = h .payloads in omega arith;
     }
 
 put-fits : (m : ℕ) (run : List ℕ) (o : Out) → o .at + length run < m → putNext (wrapping m) run o ≡ putNext plain run o
@@ -69,17 +70,17 @@ count-fits m (root n) c h =
 event-fits : (m : ℕ) (e : Event) (w : World) → Fits m (onEvent plain e w) → onEvent (wrapping m) e w ≡ onEvent plain e w
 event-fits m (leaf x) w h =
     let c = count-fits m (leaf x) (w .counters) (h .counters) in
-    let p = put-fits m (leafRecord (w .text .at) (w .load .at) x) (w .words) (h .words) in
-    let q = put-fits m (x .path) (w .text) (h .text) in
-    let r = put-fits m (payloadOf x) (w .load) (h .load) in
-    λ i. record { counters = c i; overs = w .overs; words = p i; text = q i; load = r i }
+    let p = put-fits m (leafRecord (w .paths .at) (w .payloads .at) x) (w .records) (h .records) in
+    let q = put-fits m (x .path) (w .paths) (h .paths) in
+    let r = put-fits m (payloadOf x) (w .payloads) (h .payloads) in
+    λ i. record { counters = c i; overs = w .overs; records = p i; paths = q i; payloads = r i }
 event-fits m (pair x) w h =
     let c = count-fits m (pair x) (w .counters) (h .counters) in
-    let p = put-fits m (pairRecord x) (w .words) (h .words) in
-    λ i. record { counters = c i; overs = w .overs; words = p i; text = w .text; load = w .load }
+    let p = put-fits m (pairRecord x) (w .records) (h .records) in
+    λ i. record { counters = c i; overs = w .overs; records = p i; paths = w .paths; payloads = w .payloads }
 event-fits m over w h =
     let e : (w .overs + 1) % m ≡ w .overs + 1 = mod-eq-of-lt (h .overs) in
-    λ i. record { counters = w .counters; overs = e i; words = w .words; text = w .text; load = w .load }
+    λ i. record { counters = w .counters; overs = e i; records = w .records; paths = w .paths; payloads = w .payloads }
 event-fits m (number x) w h = ap (λ (c : Counters). counting c w) (count-fits m (number x) (w .counters) (h .counters))
 event-fits m (element n) w h = ap (λ (c : Counters). counting c w) (count-fits m (element n) (w .counters) (h .counters))
 event-fits m truncation w h = ap (λ (c : Counters). counting c w) (count-fits m truncation (w .counters) (h .counters))
@@ -115,7 +116,7 @@ fields-count (over ∷ t) = let z = fields-count t in omega arith
 abbrev pub word : ℕ
 word = 4294967296
 
-module _ (k : Walk) (bytes : List ℕ) (n : ℕ) (small : n ≤ longestWindow) (l p y : List ℕ) where
+module _ (k : Walker) (bytes : List ℕ) (n : ℕ) (small : n ≤ longestWindow) (l p y : List ℕ) where
   pub walk-fits : Fits word (apply plain (walk k bytes n) (fresh l p y))
   walk-fits =
       let t = walk k bytes n in
@@ -124,9 +125,9 @@ module _ (k : Walk) (bytes : List ℕ) (n : ℕ) (small : n ≤ longestWindow) (
       record {
         counters = let e = ap total (counters-fresh t l p y) in omega arith;
         overs = let e = overs-after t (fresh l p y) in omega arith;
-        words = let e = words-at t (fresh l p y) in let f = records-length 0 0 t in omega arith;
-        text = let e = text-at t (fresh l p y) in let f = path-bound t (walk-short k bytes n) in omega arith;
-        load = let e = load-at t (fresh l p y) in let f = payload-bound k bytes n in omega arith;
+        records = let e = records-at t (fresh l p y) in let f = records-length 0 0 t in omega arith;
+        paths = let e = paths-at t (fresh l p y) in let f = path-bound (leaves t) (walk-short k bytes n) in omega arith;
+        payloads = let e = payloads-at t (fresh l p y) in let f = payload-bound k bytes n in omega arith;
       }
 
   fits-more : (m : ℕ) → word ≤ m → (w : World) → Fits word w → Fits m w
@@ -134,9 +135,9 @@ module _ (k : Walk) (bytes : List ℕ) (n : ℕ) (small : n ≤ longestWindow) (
       record {
         counters = let z = f .counters in omega arith;
         overs = let z = f .overs in omega arith;
-        words = let z = f .words in omega arith;
-        text = let z = f .text in omega arith;
-        load = let z = f .load in omega arith;
+        records = let z = f .records in omega arith;
+        paths = let z = f .paths in omega arith;
+        payloads = let z = f .payloads in omega arith;
       }
 
   -- the code's world is the plain one, for words of 32 bits and more

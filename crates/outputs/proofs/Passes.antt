@@ -1,4 +1,5 @@
--- Two passes over the same walk give the public answer and the final buffers: one law for each exit of the code.
+-- Two passes over the same walk give the public answer and the final buffers: one law for each exit of the code. The first pass, lent nothing,
+-- leaves the counters and needs of the trace, by which `decided` decides; the second leaves the trace's records where there is room for them.
 use mathlib.Core.Path.{_≡_, refl, sym, ap, ap₂, _∙_, subst}
 use mathlib.Core.Bool.{true, false, _&&_}
 use mathlib.Core.List.{List, []}
@@ -9,27 +10,27 @@ use lib.Dec.{leb}
 use lib.ListN.{length}
 use borrow.Author.Tests.{leb-true, le-leb, lt-leb}
 use Rattle.bits.specs.Runs.{filled}
-use Rattle.bitio.specs.Cursors.{longestWindow}
+use Rattle.bits.specs.Sizes.{longestWindow}
 use Rattle.framing.specs.Events.{leaves, pairs, overs}
 use Rattle.framing.specs.Counters.{Counters, counters}
-use Rattle.framing.specs.Sinks.{Walk, object, Leafy, walk}
+use Rattle.framing.specs.Sinks.{Walker, object, Leafy, walk}
 use Rattle.framing.specs.Records.{leafWords, pairWords, pathBytes, payloadBytes, leafRecords}
 use Rattle.framing.specs.Refusing.{Room, noRoom, needed, within, Answer, refused, accepted}
 use Rattle.bits.proofs.ChoiceLaws.{and-true}
 use Rattle.framing.proofs.RefusingLaws.{decided-long, decided-broken, decided-over, decided-short, decided-fine}
 use Rattle.outputs.specs.World.{wrapping, plain, World, apply, fresh, traceRecords}
 use Rattle.outputs.specs.Answers.{Call, Lent, laid, traceOf, roomOf, answer, finalLeaves, finalPaths, finalPayloads, Answered, measured, final, pairTrace, pairAnswer, finalPairs, PairsAnswered}
-use Rattle.outputs.proofs.After.{counters-fresh, overs-after, words-at, text-at, load-at, records-length, words-filled, text-filled, load-filled, records-leaves, records-pairs}
+use Rattle.outputs.proofs.After.{counters-fresh, overs-after, records-at, paths-at, payloads-at, records-length, records-filled, paths-filled, payloads-filled, records-leaves, records-pairs}
 use Rattle.outputs.proofs.Gives.{no-pairs, no-leaves, no-overs}
 use Rattle.outputs.proofs.NoWrap.{word, walk-exact}
 
 -- ---- any walk
 
 -- the walker's contract, from a fresh world, on words of m numbers
-abbrev pub Walked : (m : ℕ) → Walk → (bytes : List ℕ) (n : ℕ) → (l p y : List ℕ) → World → Type 0
+abbrev pub Walked : (m : ℕ) → Walker → (bytes : List ℕ) (n : ℕ) → (l p y : List ℕ) → World → Type 0
 Walked m k bytes n l p y v = v ≡ apply (wrapping m) (walk k bytes n) (fresh l p y)
 
-module _ (m : ℕ) (wide : word ≤ m) (k : Walk) (bytes : List ℕ) (n : ℕ) (small : n ≤ longestWindow) (l p y : List ℕ) (v : World) (e : Walked m k bytes n l p y v) where
+module _ (m : ℕ) (wide : word ≤ m) (k : Walker) (bytes : List ℕ) (n : ℕ) (small : n ≤ longestWindow) (l p y : List ℕ) (v : World) (e : Walked m k bytes n l p y v) where
   walked : v ≡ apply plain (walk k bytes n) (fresh l p y)
   walked = e ∙ walk-exact k bytes n small l p y m wide
 
@@ -39,39 +40,39 @@ module _ (m : ℕ) (wide : word ≤ m) (k : Walk) (bytes : List ℕ) (n : ℕ) (
   pub walked-counters : v .counters ≡ counters (walk k bytes n)
   walked-counters = ap (λ (w : World). w .counters) walked ∙ counters-fresh (walk k bytes n) l p y
 
-  pub walked-words : v .words .at ≡ leafWords * length (leaves (walk k bytes n)) + pairWords * length (pairs (walk k bytes n))
-  walked-words =
-      ap (λ (w : World). w .words .at) walked ∙ words-at (walk k bytes n) (fresh l p y) ∙ zero-add (length (traceRecords 0 0 (walk k bytes n))) ∙ records-length 0 0 (walk k bytes n)
+  pub walked-records : v .records .at ≡ leafWords * length (leaves (walk k bytes n)) + pairWords * length (pairs (walk k bytes n))
+  walked-records =
+      ap (λ (w : World). w .records .at) walked ∙ records-at (walk k bytes n) (fresh l p y) ∙ zero-add (length (traceRecords 0 0 (walk k bytes n))) ∙ records-length 0 0 (walk k bytes n)
 
-  pub walked-text : v .text .at ≡ length (pathBytes (leaves (walk k bytes n)))
-  walked-text = ap (λ (w : World). w .text .at) walked ∙ text-at (walk k bytes n) (fresh l p y) ∙ zero-add (length (pathBytes (leaves (walk k bytes n))))
+  pub walked-paths : v .paths .at ≡ length (pathBytes (leaves (walk k bytes n)))
+  walked-paths = ap (λ (w : World). w .paths .at) walked ∙ paths-at (walk k bytes n) (fresh l p y) ∙ zero-add (length (pathBytes (leaves (walk k bytes n))))
 
-  pub walked-load : v .load .at ≡ length (payloadBytes (leaves (walk k bytes n)))
-  walked-load = ap (λ (w : World). w .load .at) walked ∙ load-at (walk k bytes n) (fresh l p y) ∙ zero-add (length (payloadBytes (leaves (walk k bytes n))))
+  pub walked-payloads : v .payloads .at ≡ length (payloadBytes (leaves (walk k bytes n)))
+  walked-payloads = ap (λ (w : World). w .payloads .at) walked ∙ payloads-at (walk k bytes n) (fresh l p y) ∙ zero-add (length (payloadBytes (leaves (walk k bytes n))))
 
   -- the pass that measures: it may be lent anything, as nothing
   pub measured-needs : Leafy k → measured v ≡ needed (walk k bytes n)
   unfolding needed
   measured-needs leafy =
       let z : length (pairs (walk k bytes n)) ≡ 0 = ap length (no-pairs k leafy bytes n) in
-      let w = walked-words in
-      let a : v .words .at / leafWords ≡ length (leaves (walk k bytes n)) = omega arith in
-      let b = walked-text in
-      let c = walked-load in
+      let w = walked-records in
+      let a : v .records .at / leafWords ≡ length (leaves (walk k bytes n)) = omega arith in
+      let b = walked-paths in
+      let c = walked-payloads in
       λ i. record { leaves = a i; pathBytes = b i; payloadBytes = c i }
 
   -- the pass that writes
-  pub wrote-words : leafWords * length (leaves (walk k bytes n)) + pairWords * length (pairs (walk k bytes n)) ≤ length l
-      → v .words .held ≡ filled (traceRecords 0 0 (walk k bytes n)) l
-  wrote-words h =
+  pub wrote-records : leafWords * length (leaves (walk k bytes n)) + pairWords * length (pairs (walk k bytes n)) ≤ length l
+      → v .records .held ≡ filled (traceRecords 0 0 (walk k bytes n)) l
+  wrote-records h =
       let z = records-length 0 0 (walk k bytes n) in
-      ap (λ (w : World). w .words .held) walked ∙ words-filled (walk k bytes n) l p y (omega arith)
+      ap (λ (w : World). w .records .held) walked ∙ records-filled (walk k bytes n) l p y (omega arith)
 
-  pub wrote-text : length (pathBytes (leaves (walk k bytes n))) ≤ length p → v .text .held ≡ filled (pathBytes (leaves (walk k bytes n))) p
-  wrote-text h = ap (λ (w : World). w .text .held) walked ∙ text-filled (walk k bytes n) l p y h
+  pub wrote-paths : length (pathBytes (leaves (walk k bytes n))) ≤ length p → v .paths .held ≡ filled (pathBytes (leaves (walk k bytes n))) p
+  wrote-paths h = ap (λ (w : World). w .paths .held) walked ∙ paths-filled (walk k bytes n) l p y h
 
-  pub wrote-load : length (payloadBytes (leaves (walk k bytes n))) ≤ length y → v .load .held ≡ filled (payloadBytes (leaves (walk k bytes n))) y
-  wrote-load h = ap (λ (w : World). w .load .held) walked ∙ load-filled (walk k bytes n) l p y h
+  pub wrote-payloads : length (payloadBytes (leaves (walk k bytes n))) ≤ length y → v .payloads .held ≡ filled (payloadBytes (leaves (walk k bytes n))) y
+  wrote-payloads h = ap (λ (w : World). w .payloads .held) walked ∙ payloads-filled (walk k bytes n) l p y h
 
 -- ---- struct and exact walks
 
@@ -83,7 +84,7 @@ within-each need lent h =
 
 -- the buffers as the writing pass leaves them
 abbrev pub heldBy : World → Lent
-heldBy v = record { leaves = v .words .held; paths = v .text .held; payloads = v .load .held }
+heldBy v = record { leaves = v .records .held; paths = v .paths .held; payloads = v .payloads .held }
 
 module _ (c : Call) (b : Lent) where
   -- refusals: the buffers are as lent
@@ -146,10 +147,10 @@ module _ (c : Call) (b : Lent) where
             let lone : pairs t ≡ [] = no-pairs (c .how) leafy (c .bytes) (c .bits) in
             let z : length (pairs t) ≡ 0 = ap length lone in
             accepted-by (u .counters) (measured v) (heldBy u) (says ∙ sym (ap₂ accepted counts needs-found))
-            (wrote-words m wide (c .how) (c .bytes) (c .bits) small (b .leaves) (b .paths) (b .payloads) u again (omega arith)
+            (wrote-records m wide (c .how) (c .bytes) (c .bits) small (b .leaves) (b .paths) (b .payloads) u again (omega arith)
             ∙ ap (λ (x : List ℕ). filled x (b .leaves)) (records-leaves 0 0 t lone))
-            (wrote-text m wide (c .how) (c .bytes) (c .bits) small (b .leaves) (b .paths) (b .payloads) u again (fits .1))
-            (wrote-load m wide (c .how) (c .bytes) (c .bits) small (b .leaves) (b .paths) (b .payloads) u again (fits .2))
+            (wrote-paths m wide (c .how) (c .bytes) (c .bits) small (b .leaves) (b .paths) (b .payloads) u again (fits .1))
+            (wrote-payloads m wide (c .how) (c .bytes) (c .bits) small (b .leaves) (b .paths) (b .payloads) u again (fits .2))
 
   -- a refused call leaves the buffers as lent
   pub refusal-keeps : (k : ℕ) (n : Room) → answer c b ≡ refused k n → final c b ≡ b
@@ -180,23 +181,23 @@ module _ (bytes : List ℕ) (bits : ℕ) (lent : List ℕ) where
   pairs-too-long h = pairs-refused 1 0 (decided-long _ _ _ _ _ _ h)
 
   module _ (small : bits ≤ longestWindow) (m : ℕ) (wide : word ≤ m) where
-    pairs-found : (l : List ℕ) (v : World) → Walked m object bytes bits l [] [] v → v .words .at / pairWords ≡ length (pairs (pairTrace bytes bits))
+    pairs-found : (l : List ℕ) (v : World) → Walked m object bytes bits l [] [] v → v .records .at / pairWords ≡ length (pairs (pairTrace bytes bits))
     pairs-found l v e =
-        let w = walked-words m wide object bytes bits small l [] [] v e in
+        let w = walked-records m wide object bytes bits small l [] [] v e in
         let z : length (leaves (walk object bytes bits)) ≡ 0 = ap length (no-leaves bytes bits) in
         omega arith
 
     module _ (v : World) (pass : Walked m object bytes bits [] [] [] v) where
-      pub pairs-no-room : length lent / pairWords < v .words .at / pairWords → PairsAnswered bytes bits lent (refused 3 (v .words .at / pairWords)) lent
+      pub pairs-no-room : length lent / pairWords < v .records .at / pairWords → PairsAnswered bytes bits lent (refused 3 (v .records .at / pairWords)) lent
       unfolding pairAnswer
       pairs-no-room h =
           let f = pairs-found [] v pass in
           let says : pairAnswer bytes bits lent ≡ refused 3 (length (pairs (pairTrace bytes bits))) =
           decided-short _ _ _ _ _ _ small refl (no-overs bytes bits) (lt-leb (length (pairs (pairTrace bytes bits))) (length lent / pairWords) (omega arith)) in
-          pairs-refused 3 (v .words .at / pairWords) (says ∙ ap (refused 3) (sym f))
+          pairs-refused 3 (v .records .at / pairWords) (says ∙ ap (refused 3) (sym f))
 
-      pub pairs-wrote : v .words .at / pairWords ≤ length lent / pairWords → (u : World) → Walked m object bytes bits lent [] [] u
-          → PairsAnswered bytes bits lent (accepted (u .counters) (v .words .at / pairWords)) (u .words .held)
+      pub pairs-wrote : v .records .at / pairWords ≤ length lent / pairWords → (u : World) → Walked m object bytes bits lent [] [] u
+          → PairsAnswered bytes bits lent (accepted (u .counters) (v .records .at / pairWords)) (u .records .held)
       unfolding pairAnswer finalPairs
       pairs-wrote h u again =
           let t = pairTrace bytes bits in
@@ -206,7 +207,7 @@ module _ (bytes : List ℕ) (bits : ℕ) (lent : List ℕ) where
           let counts = walked-counters m wide object bytes bits small lent [] [] u again in
           let lone : leaves t ≡ [] = no-leaves bytes bits in
           let z : length (leaves t) ≡ 0 = ap length lone in
-          let held = wrote-words m wide object bytes bits small lent [] [] u again (omega arith) ∙ ap (λ (x : List ℕ). filled x lent) (records-pairs 0 0 t lone) in
+          let held = wrote-records m wide object bytes bits small lent [] [] u again (omega arith) ∙ ap (λ (x : List ℕ). filled x lent) (records-pairs 0 0 t lone) in
           record { says = ap₂ accepted counts f ∙ sym says; pairs = rw says held }
 
   pub pairs-determined : (r s : Answer ℕ) (x y : List ℕ) → PairsAnswered bytes bits lent r x → PairsAnswered bytes bits lent s y → (r ≡ s) × (x ≡ y)

@@ -1,4 +1,5 @@
--- What `apply` leaves: counters and positions whatever the buffers hold, and the paste law.
+-- What `apply` leaves: counters and positions whatever the buffers hold, and the paste law. By induction over the trace: an event adds to the
+-- positions what it writes, and writes behind what was written.
 use mathlib.Core.Path.{_≡_, refl, sym, ap, _∙_}
 use mathlib.Core.List.{List, [], _∷_, _++_}
 use Prim.Native.Nat.{ℕ, suc, _+_, _≤_}
@@ -12,7 +13,7 @@ use Rattle.framing.specs.Events.{numbers, Event, number, element, leaf, pair, t
 use Rattle.framing.specs.Counters.{Counters, counted, counters, sums, tally}
 use Rattle.framing.specs.Records.{leafRecord, pairRecord, payloadOf, pathBytes, payloadBytes}
 use Rattle.framing.proofs.TraceLaws.{sums-assoc}
-use Rattle.outputs.specs.World.{Adding, plain, World, count, onEvent, apply, traceRecords, Tally, tallyOf, tallied}
+use Rattle.outputs.specs.World.{Adding, plain, World, count, onEvent, apply, traceRecords, Totals, totalsOf, tallied}
 
 -- ---- a trace
 
@@ -21,15 +22,7 @@ unfolding apply
 apply-append add [] u w = refl
 apply-append add (e ∷ t) u w = apply-append add t u (onEvent add e w)
 
--- for the code: one event; no event; numbers, which the code does not record
-pub apply-one : (add : Adding) (e : Event) (w : World) → onEvent add e w ≡ apply add (e ∷ []) w
-unfolding apply
-apply-one add e w = refl
-
-pub apply-none : (add : Adding) (w : World) → w ≡ apply add [] w
-unfolding apply
-apply-none add w = refl
-
+-- for the code: numbers, which it does not record
 pub apply-number : (add : Adding) (x : Number) (t : Trace) (w : World) → apply add (number x ∷ t) w ≡ apply add t w
 unfolding apply
 apply-number add x t w = refl
@@ -65,51 +58,51 @@ passes : (n : ℕ) (xs ys : List ℕ) → n + length xs + length ys ≡ n + leng
 passes n xs ys = let e = length-append xs ys in omega arith
 
 -- COUNTERS AND POSITIONS: what they were and what the trace needs, whatever the buffers hold.
-pub tally-law : (t : Trace) (w : World) → tallyOf (apply plain t w) ≡ tallied t (tallyOf w)
+pub tally-law : (t : Trace) (w : World) → totalsOf (apply plain t w) ≡ tallied t (totalsOf w)
 unfolding apply traceRecords pathBytes payloadBytes
 tally-law [] w =
-    let a = same (w .words .at) in
-    let b = same (w .text .at) in
-    let d = same (w .load .at) in
+    let a = same (w .records .at) in
+    let b = same (w .paths .at) in
+    let d = same (w .payloads .at) in
     let o = same (w .overs) in
-    λ i. record { counters = sym (sums-none (w .counters)) i; overs = o i; words = a i; text = b i; load = d i }
+    λ i. record { counters = sym (sums-none (w .counters)) i; overs = o i; records = a i; paths = b i; payloads = d i }
 tally-law (leaf x ∷ t) w =
     let c = count-then (leaf x) (w .counters) t in
-    let rest = traceRecords (w .text .at + length (x .path)) (w .load .at + length (payloadOf x)) t in
-    let p = passes (w .words .at) (leafRecord (w .text .at) (w .load .at) x) rest in
-    let q = passes (w .text .at) (x .path) (pathBytes (leaves t)) in
-    let r = passes (w .load .at) (payloadOf x) (payloadBytes (leaves t)) in
-    tally-law t (onEvent plain (leaf x) w) ∙ (λ i. record { counters = c i; overs = w .overs + overs t; words = p i; text = q i; load = r i })
+    let rest = traceRecords (w .paths .at + length (x .path)) (w .payloads .at + length (payloadOf x)) t in
+    let p = passes (w .records .at) (leafRecord (w .paths .at) (w .payloads .at) x) rest in
+    let q = passes (w .paths .at) (x .path) (pathBytes (leaves t)) in
+    let r = passes (w .payloads .at) (payloadOf x) (payloadBytes (leaves t)) in
+    tally-law t (onEvent plain (leaf x) w) ∙ (λ i. record { counters = c i; overs = w .overs + overs t; records = p i; paths = q i; payloads = r i })
 tally-law (pair x ∷ t) w =
     let c = count-then (pair x) (w .counters) t in
-    let p = passes (w .words .at) (pairRecord x) (traceRecords (w .text .at) (w .load .at) t) in
-    let u : Tally = tallied t (tallyOf w) in
-    tally-law t (onEvent plain (pair x) w) ∙ (λ i. record { counters = c i; overs = u .overs; words = p i; text = u .text; load = u .load })
+    let p = passes (w .records .at) (pairRecord x) (traceRecords (w .paths .at) (w .payloads .at) t) in
+    let u : Totals = tallied t (totalsOf w) in
+    tally-law t (onEvent plain (pair x) w) ∙ (λ i. record { counters = c i; overs = u .overs; records = p i; paths = u .paths; payloads = u .payloads })
 tally-law (number x ∷ t) w =
-    let u : Tally = tallied t (tallyOf w) in
-    tally-law t (onEvent plain (number x) w) ∙ (λ i. record { counters = count-then (number x) (w .counters) t i; overs = u .overs; words = u .words; text = u .text; load = u .load })
+    let u : Totals = tallied t (totalsOf w) in
+    tally-law t (onEvent plain (number x) w) ∙ (λ i. record { counters = count-then (number x) (w .counters) t i; overs = u .overs; records = u .records; paths = u .paths; payloads = u .payloads })
 tally-law (element n ∷ t) w =
-    let u : Tally = tallied t (tallyOf w) in
-    tally-law t (onEvent plain (element n) w) ∙ (λ i. record { counters = count-then (element n) (w .counters) t i; overs = u .overs; words = u .words; text = u .text; load = u .load })
+    let u : Totals = tallied t (totalsOf w) in
+    tally-law t (onEvent plain (element n) w) ∙ (λ i. record { counters = count-then (element n) (w .counters) t i; overs = u .overs; records = u .records; paths = u .paths; payloads = u .payloads })
 tally-law (truncation ∷ t) w =
-    let u : Tally = tallied t (tallyOf w) in
-    tally-law t (onEvent plain truncation w) ∙ (λ i. record { counters = count-then truncation (w .counters) t i; overs = u .overs; words = u .words; text = u .text; load = u .load })
+    let u : Totals = tallied t (totalsOf w) in
+    tally-law t (onEvent plain truncation w) ∙ (λ i. record { counters = count-then truncation (w .counters) t i; overs = u .overs; records = u .records; paths = u .paths; payloads = u .payloads })
 tally-law (error ∷ t) w =
-    let u : Tally = tallied t (tallyOf w) in
-    tally-law t (onEvent plain error w) ∙ (λ i. record { counters = count-then error (w .counters) t i; overs = u .overs; words = u .words; text = u .text; load = u .load })
+    let u : Totals = tallied t (totalsOf w) in
+    tally-law t (onEvent plain error w) ∙ (λ i. record { counters = count-then error (w .counters) t i; overs = u .overs; records = u .records; paths = u .paths; payloads = u .payloads })
 tally-law (implicit ∷ t) w =
-    let u : Tally = tallied t (tallyOf w) in
-    tally-law t (onEvent plain implicit w) ∙ (λ i. record { counters = count-then implicit (w .counters) t i; overs = u .overs; words = u .words; text = u .text; load = u .load })
+    let u : Totals = tallied t (totalsOf w) in
+    tally-law t (onEvent plain implicit w) ∙ (λ i. record { counters = count-then implicit (w .counters) t i; overs = u .overs; records = u .records; paths = u .paths; payloads = u .payloads })
 tally-law (nested n ∷ t) w =
-    let u : Tally = tallied t (tallyOf w) in
-    tally-law t (onEvent plain (nested n) w) ∙ (λ i. record { counters = count-then (nested n) (w .counters) t i; overs = u .overs; words = u .words; text = u .text; load = u .load })
+    let u : Totals = tallied t (totalsOf w) in
+    tally-law t (onEvent plain (nested n) w) ∙ (λ i. record { counters = count-then (nested n) (w .counters) t i; overs = u .overs; records = u .records; paths = u .paths; payloads = u .payloads })
 tally-law (root n ∷ t) w =
-    let u : Tally = tallied t (tallyOf w) in
-    tally-law t (onEvent plain (root n) w) ∙ (λ i. record { counters = count-then (root n) (w .counters) t i; overs = u .overs; words = u .words; text = u .text; load = u .load })
+    let u : Totals = tallied t (totalsOf w) in
+    tally-law t (onEvent plain (root n) w) ∙ (λ i. record { counters = count-then (root n) (w .counters) t i; overs = u .overs; records = u .records; paths = u .paths; payloads = u .payloads })
 tally-law (over ∷ t) w =
-    let u : Tally = tallied t (tallyOf w) in
+    let u : Totals = tallied t (totalsOf w) in
     let o : w .overs + 1 + overs t ≡ w .overs + suc (overs t) = omega arith in
-    tally-law t (onEvent plain over w) ∙ (λ i. record { counters = count-then over (w .counters) t i; overs = o i; words = u .words; text = u .text; load = u .load })
+    tally-law t (onEvent plain over w) ∙ (λ i. record { counters = count-then over (w .counters) t i; overs = o i; records = u .records; paths = u .paths; payloads = u .payloads })
 
 -- THE PASTE LAW, of one buffer at a time: where there is room for all that the trace gives it, that is what it holds, from its position on.
 step : (run rest l : List ℕ) (i : ℕ) → i + length (run ++ rest) ≤ length l → put (store l i run) (i + length run) rest ≡ put l i (run ++ rest)
@@ -120,59 +113,59 @@ step run rest l i h =
 room : (run rest l : List ℕ) (i : ℕ) → i + length (run ++ rest) ≤ length l → i + length run + length rest ≤ length (store l i run)
 room run rest l i h = let n = length-append run rest in rw (length-store l i run) (omega arith)
 
-pub words-over : (t : Trace) (w : World) → w .words .at + length (traceRecords (w .text .at) (w .load .at) t) ≤ length (w .words .held)
-    → (apply plain t w) .words .held ≡ put (w .words .held) (w .words .at) (traceRecords (w .text .at) (w .load .at) t)
+pub records-over : (t : Trace) (w : World) → w .records .at + length (traceRecords (w .paths .at) (w .payloads .at) t) ≤ length (w .records .held)
+    → (apply plain t w) .records .held ≡ put (w .records .held) (w .records .at) (traceRecords (w .paths .at) (w .payloads .at) t)
 unfolding apply traceRecords
-words-over [] w h = sym (put-none (w .words .held) (w .words .at))
-words-over (leaf x ∷ t) w h =
-    let run = leafRecord (w .text .at) (w .load .at) x in
-    let rest = traceRecords (w .text .at + length (x .path)) (w .load .at + length (payloadOf x)) t in
-    words-over t (onEvent plain (leaf x) w) (room run rest (w .words .held) (w .words .at) h) ∙ step run rest (w .words .held) (w .words .at) h
-words-over (pair x ∷ t) w h =
+records-over [] w h = sym (put-none (w .records .held) (w .records .at))
+records-over (leaf x ∷ t) w h =
+    let run = leafRecord (w .paths .at) (w .payloads .at) x in
+    let rest = traceRecords (w .paths .at + length (x .path)) (w .payloads .at + length (payloadOf x)) t in
+    records-over t (onEvent plain (leaf x) w) (room run rest (w .records .held) (w .records .at) h) ∙ step run rest (w .records .held) (w .records .at) h
+records-over (pair x ∷ t) w h =
     let run = pairRecord x in
-    let rest = traceRecords (w .text .at) (w .load .at) t in
-    words-over t (onEvent plain (pair x) w) (room run rest (w .words .held) (w .words .at) h) ∙ step run rest (w .words .held) (w .words .at) h
-words-over (number x ∷ t) w h = words-over t (onEvent plain (number x) w) h
-words-over (element n ∷ t) w h = words-over t (onEvent plain (element n) w) h
-words-over (truncation ∷ t) w h = words-over t (onEvent plain truncation w) h
-words-over (error ∷ t) w h = words-over t (onEvent plain error w) h
-words-over (implicit ∷ t) w h = words-over t (onEvent plain implicit w) h
-words-over (nested n ∷ t) w h = words-over t (onEvent plain (nested n) w) h
-words-over (root n ∷ t) w h = words-over t (onEvent plain (root n) w) h
-words-over (over ∷ t) w h = words-over t (onEvent plain over w) h
+    let rest = traceRecords (w .paths .at) (w .payloads .at) t in
+    records-over t (onEvent plain (pair x) w) (room run rest (w .records .held) (w .records .at) h) ∙ step run rest (w .records .held) (w .records .at) h
+records-over (number x ∷ t) w h = records-over t (onEvent plain (number x) w) h
+records-over (element n ∷ t) w h = records-over t (onEvent plain (element n) w) h
+records-over (truncation ∷ t) w h = records-over t (onEvent plain truncation w) h
+records-over (error ∷ t) w h = records-over t (onEvent plain error w) h
+records-over (implicit ∷ t) w h = records-over t (onEvent plain implicit w) h
+records-over (nested n ∷ t) w h = records-over t (onEvent plain (nested n) w) h
+records-over (root n ∷ t) w h = records-over t (onEvent plain (root n) w) h
+records-over (over ∷ t) w h = records-over t (onEvent plain over w) h
 
-pub text-over : (t : Trace) (w : World) → w .text .at + length (pathBytes (leaves t)) ≤ length (w .text .held)
-    → (apply plain t w) .text .held ≡ put (w .text .held) (w .text .at) (pathBytes (leaves t))
+pub paths-over : (t : Trace) (w : World) → w .paths .at + length (pathBytes (leaves t)) ≤ length (w .paths .held)
+    → (apply plain t w) .paths .held ≡ put (w .paths .held) (w .paths .at) (pathBytes (leaves t))
 unfolding apply pathBytes
-text-over [] w h = sym (put-none (w .text .held) (w .text .at))
-text-over (leaf x ∷ t) w h =
+paths-over [] w h = sym (put-none (w .paths .held) (w .paths .at))
+paths-over (leaf x ∷ t) w h =
     let run : List ℕ = x .path in
     let rest = pathBytes (leaves t) in
-    text-over t (onEvent plain (leaf x) w) (room run rest (w .text .held) (w .text .at) h) ∙ step run rest (w .text .held) (w .text .at) h
-text-over (pair x ∷ t) w h = text-over t (onEvent plain (pair x) w) h
-text-over (number x ∷ t) w h = text-over t (onEvent plain (number x) w) h
-text-over (element n ∷ t) w h = text-over t (onEvent plain (element n) w) h
-text-over (truncation ∷ t) w h = text-over t (onEvent plain truncation w) h
-text-over (error ∷ t) w h = text-over t (onEvent plain error w) h
-text-over (implicit ∷ t) w h = text-over t (onEvent plain implicit w) h
-text-over (nested n ∷ t) w h = text-over t (onEvent plain (nested n) w) h
-text-over (root n ∷ t) w h = text-over t (onEvent plain (root n) w) h
-text-over (over ∷ t) w h = text-over t (onEvent plain over w) h
+    paths-over t (onEvent plain (leaf x) w) (room run rest (w .paths .held) (w .paths .at) h) ∙ step run rest (w .paths .held) (w .paths .at) h
+paths-over (pair x ∷ t) w h = paths-over t (onEvent plain (pair x) w) h
+paths-over (number x ∷ t) w h = paths-over t (onEvent plain (number x) w) h
+paths-over (element n ∷ t) w h = paths-over t (onEvent plain (element n) w) h
+paths-over (truncation ∷ t) w h = paths-over t (onEvent plain truncation w) h
+paths-over (error ∷ t) w h = paths-over t (onEvent plain error w) h
+paths-over (implicit ∷ t) w h = paths-over t (onEvent plain implicit w) h
+paths-over (nested n ∷ t) w h = paths-over t (onEvent plain (nested n) w) h
+paths-over (root n ∷ t) w h = paths-over t (onEvent plain (root n) w) h
+paths-over (over ∷ t) w h = paths-over t (onEvent plain over w) h
 
-pub load-over : (t : Trace) (w : World) → w .load .at + length (payloadBytes (leaves t)) ≤ length (w .load .held)
-    → (apply plain t w) .load .held ≡ put (w .load .held) (w .load .at) (payloadBytes (leaves t))
+pub payloads-over : (t : Trace) (w : World) → w .payloads .at + length (payloadBytes (leaves t)) ≤ length (w .payloads .held)
+    → (apply plain t w) .payloads .held ≡ put (w .payloads .held) (w .payloads .at) (payloadBytes (leaves t))
 unfolding apply payloadBytes
-load-over [] w h = sym (put-none (w .load .held) (w .load .at))
-load-over (leaf x ∷ t) w h =
+payloads-over [] w h = sym (put-none (w .payloads .held) (w .payloads .at))
+payloads-over (leaf x ∷ t) w h =
     let run : List ℕ = payloadOf x in
     let rest = payloadBytes (leaves t) in
-    load-over t (onEvent plain (leaf x) w) (room run rest (w .load .held) (w .load .at) h) ∙ step run rest (w .load .held) (w .load .at) h
-load-over (pair x ∷ t) w h = load-over t (onEvent plain (pair x) w) h
-load-over (number x ∷ t) w h = load-over t (onEvent plain (number x) w) h
-load-over (element n ∷ t) w h = load-over t (onEvent plain (element n) w) h
-load-over (truncation ∷ t) w h = load-over t (onEvent plain truncation w) h
-load-over (error ∷ t) w h = load-over t (onEvent plain error w) h
-load-over (implicit ∷ t) w h = load-over t (onEvent plain implicit w) h
-load-over (nested n ∷ t) w h = load-over t (onEvent plain (nested n) w) h
-load-over (root n ∷ t) w h = load-over t (onEvent plain (root n) w) h
-load-over (over ∷ t) w h = load-over t (onEvent plain over w) h
+    payloads-over t (onEvent plain (leaf x) w) (room run rest (w .payloads .held) (w .payloads .at) h) ∙ step run rest (w .payloads .held) (w .payloads .at) h
+payloads-over (pair x ∷ t) w h = payloads-over t (onEvent plain (pair x) w) h
+payloads-over (number x ∷ t) w h = payloads-over t (onEvent plain (number x) w) h
+payloads-over (element n ∷ t) w h = payloads-over t (onEvent plain (element n) w) h
+payloads-over (truncation ∷ t) w h = payloads-over t (onEvent plain truncation w) h
+payloads-over (error ∷ t) w h = payloads-over t (onEvent plain error w) h
+payloads-over (implicit ∷ t) w h = payloads-over t (onEvent plain implicit w) h
+payloads-over (nested n ∷ t) w h = payloads-over t (onEvent plain (nested n) w) h
+payloads-over (root n ∷ t) w h = payloads-over t (onEvent plain (root n) w) h
+payloads-over (over ∷ t) w h = payloads-over t (onEvent plain over w) h

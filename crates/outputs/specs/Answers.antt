@@ -1,4 +1,5 @@
--- What a public walk answers and what it leaves in the lent buffers, as functions of the call's inputs alone.
+-- What a public walk answers and what it leaves in the lent buffers, as functions of the call's inputs alone
+-- (01, Refusal numbers; Tables and outputs).
 use Prim.Native.Nat.{ℕ, _/_}
 use mathlib.Core.Path.{_≡_}
 use mathlib.Core.Bool.{Bool, true}
@@ -6,10 +7,10 @@ use mathlib.Core.List.{List}
 use lib.ListN.{length}
 use lib.Dec.{leb}
 use Rattle.bits.specs.Runs.{filled}
-use Rattle.schema.specs.Tables.{absent}
 use Rattle.schema.specs.Layout.{laidOut}
 use Rattle.framing.specs.Events.{Leaf, leaves, pairs, Trace}
-use Rattle.framing.specs.Sinks.{Walk, struct, exact, object, declaredOnly, walk}
+use Rattle.framing.specs.declared.Walk.the-variants as how
+use Rattle.framing.specs.Sinks.{Walker, walker, object, walk}
 use Rattle.framing.specs.Records.{leafWords, pairWords, pathBytes, payloadBytes, leafRecords, pairRecords}
 use Rattle.framing.specs.Refusing.{Room, noRoom, needed, within, Answer, refused, accepted, decided}
 use Rattle.framing.specs.Demand.{dropTail, Opens}
@@ -23,7 +24,7 @@ atExit (refused k n) new lent = lent
 -- ---- struct and exact walks
 
 pub record Call : Type 0 where
-  pub how : Walk
+  pub how : Walker
   pub levels : ℕ  -- how many levels the schema has
   pub bytes : List ℕ
   pub bits : ℕ
@@ -33,18 +34,21 @@ pub record Lent : Type 0 where
   pub paths : List ℕ
   pub payloads : List ℕ
 
--- refusal 2: the tables that the walk has keep their layout
-abbrev pub laid : Walk → (levels : ℕ) → Bool
-laid (struct t root) levels = laidOut t levels root
-laid (exact d n) levels = laidOut (declaredOnly d n) 0 absent
-laid object levels = true
+-- refusal 2: the tables that the walk has keep their layout; an exact call has no levels
+abbrev pub laid : Walker → (levels : ℕ) → Bool
+laid (walker how.Struct t root) levels = laidOut t levels root
+laid (walker how.Exact t root) levels = laidOut t levels root
+laid (walker how.Object t root) levels = true
 
 abbrev pub traceOf : Call → Trace
 traceOf c = walk (c .how) (c .bytes) (c .bits)
 
--- room in whole records: a ragged end is never written
-abbrev pub roomBy : (words paths payloads : ℕ) → Room
-roomBy l p y = record { leaves = l / leafWords; pathBytes = p; payloadBytes = y }
+-- room in whole records, of so many words each: a ragged end is never written
+abbrev pub roomWith : (words numbers paths payloads : ℕ) → Room
+roomWith words numbers paths payloads = record { leaves = numbers / words; pathBytes = paths; payloadBytes = payloads }
+
+abbrev pub roomBy : (numbers paths payloads : ℕ) → Room
+roomBy l p y = roomWith leafWords l p y
 
 abbrev pub roomOf : Lent → Room
 roomOf b = roomBy (length (b .leaves)) (length (b .paths)) (length (b .payloads))
@@ -73,8 +77,11 @@ pub record Answered (c : Call) (b : Lent) (r : Answer Room) (end : Lent) : Type 
   pub payloads : end .payloads ≡ finalPayloads c b
 
 -- what a measuring pass found
+abbrev pub measuredWith : (words : ℕ) → World → Room
+measuredWith words w = roomWith words (w .records .at) (w .paths .at) (w .payloads .at)
+
 abbrev pub measured : World → Room
-measured w = record { leaves = w .words .at / leafWords; pathBytes = w .text .at; payloadBytes = w .load .at }
+measured w = measuredWith leafWords w
 
 -- ---- the object walk: pairs only
 

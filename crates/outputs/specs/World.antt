@@ -3,7 +3,7 @@
 -- shows that the two coincide.
 use Prim.Native.Nat.{ℕ, _+_, _%_}
 use mathlib.Core.List.{List, [], _∷_, _++_}
-use lib.ListN.{length, take, drop}
+use lib.ListN.{length}
 use Rattle.bits.specs.Runs.{store}
 use Rattle.framing.specs.Events.{Leaf, Pair, Event, number, element, leaf, pair, truncation, error, implicit, nested, root, over, leaves, overs, Trace}
 use Rattle.framing.specs.Counters.{Counters, counted, counters, sums}
@@ -29,14 +29,14 @@ pub record Out : Type 0 where
 abbrev pub putNext : Adding → List ℕ → Out → Out
 putNext add run o = record { at = add (o .at) (length run); held = store (o .held) (o .at) run }
 
--- ---- the world: counters and three buffers; words holds leaf records, in an object walk pairs
+-- ---- the world: counters and three buffers; records holds leaf records, in an object walk pairs
 
 pub record World : Type 0 where
   pub counters : Counters
   pub overs : ℕ  -- working paths that would have passed their size
-  pub words : Out
-  pub text : Out
-  pub load : Out
+  pub records : Out
+  pub paths : Out
+  pub payloads : Out
 
 -- what an event adds to the counters; those that it does not touch stay as they are
 abbrev pub count : Adding → Event → Counters → Counters
@@ -53,23 +53,23 @@ count add implicit c = counted (c .elements) (c .fields) (c .truncations) (c .er
 
 -- the same buffers, other counters
 abbrev pub counting : Counters → World → World
-counting c w = record { counters = c; overs = w .overs; words = w .words; text = w .text; load = w .load }
+counting c w = record { counters = c; overs = w .overs; records = w .records; paths = w .paths; payloads = w .payloads }
 
 abbrev pub onLeaf : Adding → Leaf → World → World
 onLeaf add x w =
     record {
       counters = w .counters;
       overs = w .overs;
-      words = putNext add (leafRecord (w .text .at) (w .load .at) x) (w .words);
-      text = putNext add (x .path) (w .text);
-      load = putNext add (payloadOf x) (w .load);
+      records = putNext add (leafRecord (w .paths .at) (w .payloads .at) x) (w .records);
+      paths = putNext add (x .path) (w .paths);
+      payloads = putNext add (payloadOf x) (w .payloads);
     }
 
 abbrev pub onPair : Adding → Pair → World → World
-onPair add x w = record { counters = w .counters; overs = w .overs; words = putNext add (pairRecord x) (w .words); text = w .text; load = w .load }
+onPair add x w = record { counters = w .counters; overs = w .overs; records = putNext add (pairRecord x) (w .records); paths = w .paths; payloads = w .payloads }
 
 abbrev pub onOver : Adding → World → World
-onOver add w = record { counters = w .counters; overs = add (w .overs) 1; words = w .words; text = w .text; load = w .load }
+onOver add w = record { counters = w .counters; overs = add (w .overs) 1; records = w .records; paths = w .paths; payloads = w .payloads }
 
 -- what an event does to the buffers
 abbrev pub written : Adding → Event → World → World
@@ -92,14 +92,14 @@ apply add [] w = w
 apply add (e ∷ t) w = apply add t (onEvent add e w)
 
 -- a call's world at its start: nothing counted, nothing written
-abbrev pub fresh : (words text load : List ℕ) → World
-fresh words text load =
+abbrev pub fresh : (records paths payloads : List ℕ) → World
+fresh records paths payloads =
     record {
       counters = counted 0 0 0 0 0 0 0;
       overs = 0;
-      words = record { at = 0; held = words };
-      text = record { at = 0; held = text };
-      load = record { at = 0; held = load };
+      records = record { at = 0; held = records };
+      paths = record { at = 0; held = paths };
+      payloads = record { at = 0; held = payloads };
     }
 
 -- ---- what a trace leaves, all at once
@@ -119,22 +119,22 @@ traceRecords a b (root n ∷ t) = traceRecords a b t
 traceRecords a b (over ∷ t) = traceRecords a b t
 
 -- what a trace adds to the counters and the positions, whatever the buffers hold
-pub record Tally : Type 0 where
+pub record Totals : Type 0 where
   pub counters : Counters
   pub overs : ℕ
-  pub words : ℕ
-  pub text : ℕ
-  pub load : ℕ
+  pub records : ℕ
+  pub paths : ℕ
+  pub payloads : ℕ
 
-abbrev pub tallyOf : World → Tally
-tallyOf w = record { counters = w .counters; overs = w .overs; words = w .words .at; text = w .text .at; load = w .load .at }
+abbrev pub totalsOf : World → Totals
+totalsOf w = record { counters = w .counters; overs = w .overs; records = w .records .at; paths = w .paths .at; payloads = w .payloads .at }
 
-abbrev pub tallied : Trace → Tally → Tally
+abbrev pub tallied : Trace → Totals → Totals
 tallied t s =
     record {
       counters = sums (s .counters) (counters t);
       overs = s .overs + overs t;
-      words = s .words + length (traceRecords (s .text) (s .load) t);
-      text = s .text + length (pathBytes (leaves t));
-      load = s .load + length (payloadBytes (leaves t));
+      records = s .records + length (traceRecords (s .paths) (s .payloads) t);
+      paths = s .paths + length (pathBytes (leaves t));
+      payloads = s .payloads + length (payloadBytes (leaves t));
     }

@@ -1,0 +1,247 @@
+-- From a level to a walk. What holds of the pieces of which struct, exact and object walks are made, and is kept where pieces join, holds of every
+-- walk: by the scheme of a level (Induct), and by induction over the levels that may stand below one.
+use Prim.Native.Nat.{ℕ, zero, suc, _+_, _-_, _*_, _≤_, _<_}
+use mathlib.Core.Path.{_≡_, refl}
+use mathlib.Core.Bool.{Bool, true, false}
+use mathlib.Core.List.{List, [], _∷_, _++_}
+use native.Mathlib.Omega.{arith}
+use lib.ListN.{length}
+use lib.Dec.{ltb, eqb}
+use borrow.Author.Tests.{ltb-true, eqb-true, eqb-false}
+use Rattle.bits.specs.Packed.{Number}
+use Rattle.bits.specs.Sizes.{levelsBelow, maxElements}
+use Rattle.schema.specs.Tables.{Tables, child}
+use Rattle.schema.specs.Labels.{atIndex, dot, labelBytes, leafLabel, containerLabel}
+use Rattle.schema.specs.declared.Child.{Child}
+use Rattle.schema.specs.declared.Child.the-variants.{Array, Leaf}
+use Rattle.framing.specs.Windows.{Window, windowOf, part, Reading, got}
+use Rattle.framing.specs.Events.{rawHandle, Event, number, element, pair, truncation, error, implicit, nested, root, Trace}
+use Rattle.framing.specs.Paths.{grownPath, overIfLong, leafOrOver}
+use Rattle.framing.specs.Walk.{numberAt, rawLeaf, tail, inItem, entering, level}
+use Rattle.framing.specs.declared.Walk.the-variants as how
+use Rattle.framing.specs.Sinks.{leafOf, onChild, structSinkOver, structSink, tooDeep, guidOf, objectField, objectSink, Walker, walker, sinkOf, silent, walkWindow, walk}
+use Rattle.framing.proofs.Induct.{Inside, inside, nothing, reading-inside, Read, Here, at-level, at-item, level-holds}
+
+-- ---- what a property may lean on
+
+-- the path of a field that is a leaf, and of one that is an array
+abbrev pub leafPath : Tables → (lvl : ℕ) (path : List ℕ) (handle : ℕ) → List ℕ
+leafPath t lvl path h = dot path (labelBytes t h (leafLabel t lvl h))
+
+abbrev pub arrayPath : Tables → (lvl : ℕ) (path : List ℕ) (handle : ℕ) → List ℕ
+arrayPath t lvl path h = dot path (labelBytes t h (containerLabel t lvl h))
+
+-- What is known of each window that is walked (`Fit`), of the path of a level that may have `deeper` levels below it, and of the path in an element
+-- of it; and that it stays known: of a payload, at the root, of a level's path where a tail is kept, in an element, in an array below.
+pub record Known (t : Tables) : Type 1 where
+  pub Fit : Window → Type 0
+  pub AtLevel : (deeper : ℕ) (path : List ℕ) → Type 0
+  pub InElement : (deeper : ℕ) (path : List ℕ) → Type 0
+  pub payload : (w : Window) (p k : ℕ) → Fit w → p + k ≤ w .size → Fit (part w p k)
+  pub first : AtLevel levelsBelow []
+  pub level : (deeper : ℕ) (path : List ℕ) → AtLevel deeper path → InElement deeper path
+  pub element : (deeper : ℕ) (path : List ℕ) (i : ℕ) → AtLevel deeper path → i < maxElements → InElement deeper (grownPath path (atIndex path i))
+  pub below : (deeper lvl h : ℕ) (path : List ℕ) → InElement (suc deeper) path → h < rawHandle → AtLevel deeper (grownPath path (arrayPath t lvl path h))
+
+-- something of windows, nothing of paths
+abbrev pub ofWindows : (Fit : Window → Type 0) → ((w : Window) (p k : ℕ) → Fit w → p + k ≤ w .size → Fit (part w p k)) → (t : Tables) → Known t
+ofWindows Fit payload t =
+    record {
+      Fit = Fit;
+      AtLevel = λ d path. Unit;
+      InElement = λ d path. Unit;
+      payload = payload;
+      first = tt;
+      level = λ d path h. tt;
+      element = λ d path i h low. tt;
+      below = λ d lvl h path here low. tt;
+    }
+
+-- ---- a property of traces, by where in a window they stand
+
+-- Good w p q a: a takes the walk of w from bit p to bit q. Stop w p a: from bit p, a ends the level. Gave w a: a is what the payload w gave.
+pub record Property : Type 1 where
+  pub Good : Window → (p q : ℕ) → Trace → Type 0
+  pub Stop : Window → (p : ℕ) → Trace → Type 0
+  pub Gave : Window → Trace → Type 0
+
+-- What is asked of it in every walk: to hold where pieces join, of a number that was taken, of a field's two numbers and what its payload gave, of a
+-- payload without bits, of each way in which a level ends, and of a window that is not walked.
+pub record Pieces (P : Property) : Type 0 where
+  pub join : (w : Window) (p q r : ℕ) (a b : Trace) → P .Good w p q a → P .Good w q r b → P .Good w p r (a ++ b)
+  pub halt : (w : Window) (p q : ℕ) (a b : Trace) → P .Good w p q a → P .Stop w q b → P .Stop w p (a ++ b)
+  pub read : (w : Window) (x : Number) (p q : ℕ) → Read w x p q → P .Good w p q (number x ∷ [])
+  pub field : (w : Window) (x y : Number) (p q r k : ℕ) (a : Trace) → Read w x p q → Read w y q r → r + k ≤ w .size → P .Gave (part w r k) a
+      → P .Good w p (r + k) (number x ∷ number y ∷ a)
+  pub empty : (w : Window) → w .size ≡ 0 → P .Gave w []  -- an array without payload; in an object walk any field without
+  pub ended : (w : Window) (p : ℕ) → p ≡ w .size → P .Stop w p (implicit ∷ [])
+  pub failed : (w : Window) (p : ℕ) → p ≤ w .size → P .Stop w p (error ∷ [])
+  pub limited : (w : Window) (p : ℕ) → p ≤ w .size → P .Stop w p (truncation ∷ [])  -- with no tail kept
+  pub left : (w : Window) (p : ℕ) → p ≤ w .size → P .Stop w p (root (w .size - p) ∷ [])
+  pub silent : (w : Window) → w .size ≡ 0 → P .Stop w 0 []
+
+-- In struct and exact walks: an element was entered; a tail is kept; a field is a leaf, an array too deep, or a child; a child leaves bits.
+pub record StructPieces (t : Tables) (K : Known t) (P : Property) : Type 0 where
+  pub entered : (w : Window) (x : Number) (i p q deeper : ℕ) (path : List ℕ) → Read w x p q → i < maxElements → K .AtLevel deeper path
+      → P .Good w p q (number x ∷ element i ∷ overIfLong (atIndex path i))
+  pub kept : (w : Window) (p deeper : ℕ) (path : List ℕ) → K .Fit w → p < w .size → K .InElement deeper path
+      → P .Stop w p (truncation ∷ leafOrOver (rawLeaf w path p))
+  pub leaf : (w : Window) (deeper lvl h : ℕ) (path : List ℕ) → K .Fit w → K .InElement deeper path → h < rawHandle
+      → P .Gave w (leafOrOver (leafOf (leafPath t lvl path h) h w))
+  pub deep : (w : Window) (lvl h : ℕ) (path : List ℕ) → K .Fit w → 0 < w .size → K .InElement 0 path → h < rawHandle
+      → P .Gave w (truncation ∷ leafOrOver (leafOf (arrayPath t lvl path h) h w))
+  pub child : (w : Window) (deeper lvl h : ℕ) (path : List ℕ) (a : Trace) → 0 < w .size → K .InElement (suc deeper) path → h < rawHandle → P .Stop w 0 a
+      → P .Gave w (overIfLong (arrayPath t lvl path h) ++ a)
+  pub left : (w : Window) (p : ℕ) → p ≤ w .size → P .Stop w p (nested (w .size - p) ∷ [])
+
+-- In object walks: an element was entered; a field is an object's number, another number, none, or behind the first.
+pub record ObjectPieces (P : Property) : Type 0 where
+  pub entered : (w : Window) (x : Number) (i p q : ℕ) → Read w x p q → i < maxElements → P .Good w p q (number x ∷ element i ∷ [])
+  pub guid : (w : Window) (x : Number) (i : ℕ) → Read w x 0 (w .size) → P .Gave w (number x ∷ pair (record { index = i; guid = x .value }) ∷ [])
+  pub longer : (w : Window) (x : Number) (q : ℕ) → Read w x 0 q → P .Gave w (number x ∷ error ∷ [])  -- bits are left behind the number
+  pub unread : (w : Window) → 0 < w .size → P .Gave w (error ∷ [])
+  pub passed : (w : Window) → 0 < w .size → P .Gave w (nested (w .size) ∷ [])
+
+-- ---- struct levels
+
+module _ (t : Tables) (K : Known t) (P : Property) (𝓟 : Pieces P) (𝓢 : StructPieces t K P) where
+  -- what walks an array inside a field of level lvl
+  module _ (deeper lvl : ℕ) (into : (below : ℕ) (path longer : List ℕ) (handle : ℕ) → Window → Trace)
+      (f : (below h : ℕ) (path : List ℕ) (w : Window) → K .Fit w → 0 < w .size → K .InElement deeper path → h < rawHandle
+      → P .Gave w (into below path (arrayPath t lvl path h) h w))
+      (trailer : Bool) (leftover : ℕ → Event) (rest : (w : Window) (p : ℕ) → p ≤ w .size → P .Stop w p (leftover (w .size - p) ∷ [])) where
+    child-holds : (path : List ℕ) (h : ℕ) (w : Window) → K .Fit w → K .InElement deeper path → h < rawHandle
+        → (o : Child) → P .Gave w (onChild t lvl into path h w o)
+    child-holds path h w fit here low Leaf = 𝓢 .leaf w deeper lvl h path fit here low
+    child-holds path h w fit here low (Array below) = go (eqb (w .size) 0) refl
+      where
+        go : (x : Bool) → eqb (w .size) 0 ≡ x → P .Gave w (onChild t lvl into path h w (Array below))
+        go true e = rw e (𝓟 .empty w (eqb-true (w .size) 0 e))
+        go false e = let some = eqb-false (w .size) 0 e in rw e (f below h path w fit (omega arith) here low)
+
+    module _ (w : Window) (path : List ℕ) (fit : K .Fit w) (at : K .AtLevel deeper path) where
+      tail-holds : (place : List ℕ) (p : ℕ) → K .InElement deeper place → p ≤ w .size
+          → P .Stop w p (truncation ∷ tail (structSinkOver into t trailer leftover lvl) w place p)
+      unfolding tail
+      tail-holds place p here h = go (ltb p (w .size)) refl
+        where
+          go : (x : Bool) → ltb p (w .size) ≡ x → P .Stop w p (truncation ∷ tail (structSinkOver into t trailer leftover lvl) w place p)
+          go true e = rw e (𝓢 .kept w p deeper place fit (ltb-true p (w .size) e) here)
+          go false e = rw e (𝓟 .limited w p h)
+
+      place-known : {place : List ℕ} → Here (structSinkOver into t trailer leftover lvl) path place → K .InElement deeper place
+      unfolding inItem
+      place-known at-level = K .level deeper path at
+      place-known (at-item {i = i} low) = K .element deeper path i at low
+
+      over-holds : P .Stop w 0 (level (structSinkOver into t trailer leftover lvl) w path)
+      unfolding entering inItem
+      over-holds =
+          level-holds (structSinkOver into t trailer leftover lvl) w path (λ p q a. P .Good w p q a) (λ p a. P .Stop w p a)
+          (record {
+            join = λ {p} {q} {r} {t = a} {u = b} g h. 𝓟 .join w p q r a b g h;
+            halt = λ {p} {q} {t = a} {u = b} g h. 𝓟 .halt w p q a b g h;
+            read = λ {x} {p} {q} r. 𝓟 .read w x p q r;
+            entered = λ {x} {i} {p} {q} r low. 𝓢 .entered w x i p q deeper path r low at;
+            given = λ {x} {y} {i} {h} {p} {q} {r} {k} {first} low small a b within.
+                𝓟 .field w x y p q r k _ a b within
+                (child-holds (grownPath path (atIndex path i)) h (part w r k) (K .payload w r k fit within) (K .element deeper path i at low) small
+                (child (t .rows) lvl h));
+            ended = λ {p} h k. 𝓟 .ended w p (omega arith);
+            failed = λ {p} h. 𝓟 .failed w p h;
+            limited = λ {p} {place} h here. tail-holds place p (place-known here) h;
+            left = λ {p} h. rest w p h;
+          })
+
+  -- with so many levels allowed below
+  pub struct-holds : (deeper lvl : ℕ) (trailer : Bool) (leftover : ℕ → Event)
+      → ((w : Window) (p : ℕ) → p ≤ w .size → P .Stop w p (leftover (w .size - p) ∷ []))
+      → (w : Window) (path : List ℕ) → K .Fit w → K .AtLevel deeper path → P .Stop w 0 (level (structSink deeper t trailer leftover lvl) w path)
+  unfolding structSink
+  struct-holds zero lvl trailer leftover rest w path fit at =
+      over-holds zero lvl tooDeep (λ below h place v fit some here low. 𝓢 .deep v lvl h place fit some here low) trailer leftover rest w path fit at
+  struct-holds (suc deeper) lvl trailer leftover rest w path fit at =
+      over-holds (suc deeper) lvl (λ below path longer h v. overIfLong longer ++ level (structSink deeper t trailer nested below) v (grownPath path longer))
+      (λ below h place v fit some here low.
+      𝓢 .child v deeper lvl h place _ some here low
+      (struct-holds deeper below trailer nested (𝓢 .left) v (grownPath place (arrayPath t lvl place h)) fit (K .below deeper lvl h place here low)))
+      trailer leftover rest w path fit at
+
+-- ---- the object level
+
+module _ (P : Property) (𝓟 : Pieces P) (𝓞 : ObjectPieces P) where
+  guid-holds : (i : ℕ) (w : Window) → 0 < w .size → {r : Reading} → Inside (w .size) 0 r → P .Gave w (guidOf i w r)
+  guid-holds i w some nothing = 𝓞 .unread w some
+  guid-holds i w some (inside {v = v} {b = b} h pos) = go (eqb (8 * b) (w .size)) refl
+    where
+      took : (q : ℕ) → q ≡ 8 * b → Read w (numberAt w 0 b v) 0 q
+      took q e = record { starts = refl; runs = omega arith; some = pos; fits = omega arith }
+
+      go : (x : Bool) → eqb (8 * b) (w .size) ≡ x → P .Gave w (guidOf i w (got v b))
+      go true e = let fills = eqb-true (8 * b) (w .size) e in rw e (𝓞 .guid w (numberAt w 0 b v) i (took (w .size) (omega arith)))
+      go false e = rw e (𝓞 .longer w (numberAt w 0 b v) (8 * b) (took (8 * b) refl))
+
+  object-field-holds : (i : ℕ) (first : Bool) (w : Window) → P .Gave w (objectField i first w)
+  object-field-holds i first w = go (eqb (w .size) 0) refl first
+    where
+      go : (x : Bool) → eqb (w .size) 0 ≡ x → (f : Bool) → P .Gave w (objectField i f w)
+      go true e f = rw e (𝓟 .empty w (eqb-true (w .size) 0 e))
+      go false e true = let some = eqb-false (w .size) 0 e in rw e (guid-holds i w (omega arith) (reading-inside w 0))
+      go false e false = let some = eqb-false (w .size) 0 e in rw e (𝓞 .passed w (omega arith))
+
+  pub object-holds : (w : Window) (path : List ℕ) → P .Stop w 0 (level objectSink w path)
+  unfolding objectSink tail entering
+  object-holds w path =
+      level-holds objectSink w path (λ p q a. P .Good w p q a) (λ p a. P .Stop w p a)
+      (record {
+        join = λ {p} {q} {r} {t = a} {u = b} g h. 𝓟 .join w p q r a b g h;
+        halt = λ {p} {q} {t = a} {u = b} g h. 𝓟 .halt w p q a b g h;
+        read = λ {x} {p} {q} r. 𝓟 .read w x p q r;
+        entered = λ {x} {i} {p} {q} r low. 𝓞 .entered w x i p q r low;
+        given = λ {x} {y} {i} {h} {p} {q} {r} {k} {first} low small a b within.
+            𝓟 .field w x y p q r k _ a b within (object-field-holds i first (part w r k));
+        ended = λ {p} h k. 𝓟 .ended w p (omega arith);
+        failed = λ {p} h. 𝓟 .failed w p h;
+        limited = λ {p} {place} h here. 𝓟 .limited w p h;
+        left = λ {p} h. 𝓟 .left w p h;
+      })
+
+-- ---- the three walks
+
+abbrev pub tablesOf : Walker → Tables
+tablesOf (walker k t lvl) = t
+
+abbrev pub KindPieces : (k : Walker) → Known (tablesOf k) → Property → Type 0
+KindPieces (walker how.Struct t lvl) K P = StructPieces t K P
+KindPieces (walker how.Exact t lvl) K P = StructPieces t K P
+KindPieces (walker how.Object t lvl) K P = ObjectPieces P
+
+module _ (P : Property) (𝓟 : Pieces P) where
+  pub sink-holds : (k : Walker) (K : Known (tablesOf k)) → KindPieces k K P → (w : Window) → K .Fit w → P .Stop w 0 (level (sinkOf k) w [])
+  unfolding sinkOf
+  sink-holds (walker how.Struct t lvl) K 𝓚 w fit = struct-holds t K P 𝓟 𝓚 _ lvl _ root (𝓟 .left) w [] fit (K .first)
+  sink-holds (walker how.Exact t lvl) K 𝓚 w fit = struct-holds t K P 𝓟 𝓚 _ lvl _ root (𝓟 .left) w [] fit (K .first)
+  sink-holds (walker how.Object t lvl) K 𝓚 w fit = object-holds P 𝓟 𝓚 w []
+
+  silent-none : (k : Walker) (n : ℕ) → silent k n ≡ true → n ≡ 0
+  silent-none (walker how.Struct t lvl) n e = eqb-true n 0 e
+  silent-none (walker how.Exact t lvl) n e = eqb-true n 0 e
+  silent-none (walker how.Object t lvl) n e = let z : _≡_ {A = ℕ} 0 1 = cc in omega arith
+
+  module _ (k : Walker) (K : Known (tablesOf k)) (𝓚 : KindPieces k K P) where
+    pub window-holds : (w : Window) → K .Fit w → P .Stop w 0 (walkWindow k w)
+    unfolding walkWindow
+    window-holds w fit = go (silent k (w .size)) refl
+      where
+        go : (x : Bool) → silent k (w .size) ≡ x → P .Stop w 0 (walkWindow k w)
+        go true e = rw e (𝓟 .silent w (silent-none k (w .size) e))
+        go false e = rw e (sink-holds k K 𝓚 w fit)
+
+    pub walk-holds : (bytes : List ℕ) (n : ℕ) → K .Fit (windowOf bytes n) → P .Stop (windowOf bytes n) 0 (walk k bytes n)
+    unfolding walk
+    walk-holds bytes n fit = go (silent k n) (ltb (8 * length bytes) n) refl refl
+      where
+        go : (x y : Bool) → silent k n ≡ x → ltb (8 * length bytes) n ≡ y → P .Stop (windowOf bytes n) 0 (walk k bytes n)
+        go true y e f = rw e (𝓟 .silent (windowOf bytes n) (silent-none k n e))
+        go false true e f = rw (e, f) (𝓟 .failed (windowOf bytes n) 0 (omega arith))
+        go false false e f = rw (e, f) (window-holds (windowOf bytes n) fit)

@@ -1,0 +1,138 @@
+-- Weigh the events of a walk. A packed number takes eight bits and weighs nothing, a leaf weighs its bits or 1, all else at most 1 or the bits that
+-- it counts: so a walk of n bits weighs at most n, and what the event that ends a level weighs.
+use Prim.Native.Nat.{ℕ, _+_, _-_, _≤_}
+use mathlib.Core.Path.{_≡_, refl}
+use mathlib.Core.Bool.{Bool, true, false}
+use mathlib.Core.List.{List, [], _∷_, _++_}
+use native.Mathlib.Omega.{arith}
+use lib.ListN.{length}
+use lib.Dec.{leb}
+use Rattle.bits.specs.Packed.{Number}
+use Rattle.bits.specs.Sizes.{longestPath}
+use Rattle.schema.specs.Tables.{Tables}
+use Rattle.schema.specs.Labels.{atIndex}
+use Rattle.framing.specs.Windows.{Window}
+use Rattle.framing.specs.Events.{Leaf, Pair, Event, number, element, leaf, pair, truncation, error, implicit, nested, root, over, Trace}
+use Rattle.framing.specs.Paths.{overIfLong, leafOrOver}
+use Rattle.framing.specs.Walk.{rawLeaf}
+use Rattle.framing.specs.declared.Walk.the-variants as how
+use Rattle.framing.specs.Sinks.{leafOf, Walker, walker, walk}
+use Rattle.framing.proofs.Induct.{Read}
+use Rattle.framing.proofs.Lift.{Known, ofWindows, leafPath, arrayPath, Property, Pieces, StructPieces, ObjectPieces, tablesOf, KindPieces, walk-holds}
+
+abbrev pub weigh : (Event → ℕ) → Trace → ℕ
+weigh m [] = 0
+weigh m (e ∷ t) = m e + weigh m t
+
+weigh-append : (m : Event → ℕ) (a b : Trace) → weigh m (a ++ b) ≡ weigh m a + weigh m b
+weigh-append m [] b = omega arith
+weigh-append m (e ∷ a) b = let z = weigh-append m a b in omega arith
+
+-- stop: what the events that end a level weigh at most
+pub record Weights (m : Event → ℕ) (stop : ℕ) : Type 0 where
+  pub number : (x : Number) → m (number x) ≡ 0
+  pub element : (i : ℕ) → m (element i) ≤ 1
+  pub leaf : (x : Leaf) (n : ℕ) → 1 ≤ n → x .width ≤ n → m (leaf x) ≤ n
+  pub over : m over ≤ 1
+  pub pair : (x : Pair) → m (pair x) ≤ 1
+  pub nested : (n : ℕ) → m (nested n) ≤ n
+  pub root : (n : ℕ) → m (root n) ≤ n
+  pub truncation : m truncation ≤ stop
+  pub error : m error ≤ stop
+  pub implicit : m implicit ≤ stop
+  pub light : stop ≤ 1
+
+module _ (m : Event → ℕ) (stop : ℕ) (M : Weights m stop) where
+  leaf-weight : (x : Leaf) (n : ℕ) → 1 ≤ n → x .width ≤ n → weigh m (leafOrOver x) ≤ n
+  unfolding leafOrOver
+  leaf-weight x n some wide = go (leb (length (x .path)) longestPath) refl
+    where
+      go : (b : Bool) → leb (length (x .path)) longestPath ≡ b → weigh m (leafOrOver x) ≤ n
+      go true e = let z = M .leaf x n some wide in rw e (omega arith)
+      go false e = let z = M .over in rw e (omega arith)
+
+  over-weight : (longer : List ℕ) → weigh m (overIfLong longer) ≤ 1
+  unfolding overIfLong
+  over-weight longer = go (leb (length longer) longestPath) refl
+    where
+      go : (b : Bool) → leb (length longer) longestPath ≡ b → weigh m (overIfLong longer) ≤ 1
+      go true e = rw e (omega arith)
+      go false e = let z = M .over in rw e (omega arith)
+
+  -- behind a field's two numbers there is room for two more
+  abbrev weighs : Property
+  weighs =
+      record {
+        Good = λ w p q a. p + weigh m a ≤ q;
+        Stop = λ w p a. p + weigh m a ≤ w .size + stop;
+        Gave = λ w a. weigh m a ≤ w .size + 2;
+      }
+
+  join-weights : (p q r : ℕ) (a b : Trace) → p + weigh m a ≤ q → q + weigh m b ≤ r → p + weigh m (a ++ b) ≤ r
+  join-weights p q r a b f g = let z = weigh-append m a b in omega arith
+
+  field-weight : (w : Window) (x y : Number) (p q r k : ℕ) (a : Trace) → Read w x p q → Read w y q r → weigh m a ≤ k + 2
+      → p + weigh m (number x ∷ number y ∷ a) ≤ r + k
+  field-weight w x y p q r k a s t h =
+      let u = M .number x in let v = M .number y in let b = s .runs in let c = s .some in let d = t .runs in let e = t .some in omega arith
+
+  pieces : Pieces weighs
+  pieces =
+      record {
+        join = λ w p q r a b f g. join-weights p q r a b f g;
+        halt = λ w p q a b f g. join-weights p q (w .size + stop) a b f g;
+        read = λ w x p q r. let z = M .number x in let b = r .runs in omega arith;
+        field = λ w x y p q r k a s t fit h. field-weight w x y p q r k a s t h;
+        empty = λ w e. omega arith;
+        ended = λ w p e. let z = M .implicit in omega arith;
+        failed = λ w p h. let z = M .error in omega arith;
+        limited = λ w p h. let z = M .truncation in omega arith;
+        left = λ w p h. let z = M .root (w .size - p) in omega arith;
+        silent = λ w e. omega arith;
+      }
+
+  abbrev anywhere : (t : Tables) → Known t
+  anywhere t = ofWindows (λ w. Unit) (λ w p k h fit. tt) t
+
+  entered-weight : (w : Window) (x : Number) (i p q : ℕ) (a : Trace) → Read w x p q → weigh m a ≤ 1 → p + weigh m (number x ∷ element i ∷ a) ≤ q
+  entered-weight w x i p q a r h = let z = M .number x in let y = M .element i in let b = r .runs in let c = r .some in omega arith
+
+  struct-pieces : (t : Tables) → StructPieces t (anywhere t) weighs
+  struct-pieces t =
+      record {
+        entered = λ w x i p q d path r low at. entered-weight w x i p q (overIfLong (atIndex path i)) r (over-weight (atIndex path i));
+        kept = λ w p d path fit lt here.
+            let z : weigh m (leafOrOver (rawLeaf w path p)) ≤ w .size - p = leaf-weight (rawLeaf w path p) (w .size - p) (omega arith) (omega arith) in
+            let y = M .truncation in omega arith;
+        leaf = λ w d lvl h path fit here low.
+            let z : weigh m (leafOrOver (leafOf (leafPath t lvl path h) h w)) ≤ w .size + 1 =
+            leaf-weight (leafOf (leafPath t lvl path h) h w) (w .size + 1) (omega arith) (omega arith) in
+            omega arith;
+        deep = λ w lvl h path fit some here low.
+            let z : weigh m (leafOrOver (leafOf (arrayPath t lvl path h) h w)) ≤ w .size + 1 =
+            leaf-weight (leafOf (arrayPath t lvl path h) h w) (w .size + 1) (omega arith) (omega arith) in
+            let y = M .truncation in let l = M .light in omega arith;
+        child = λ w d lvl h path a some here low g.
+            let z = weigh-append m (overIfLong (arrayPath t lvl path h)) a in let y = over-weight (arrayPath t lvl path h) in let l = M .light in omega arith;
+        left = λ w p h. let z = M .nested (w .size - p) in omega arith;
+      }
+
+  object-pieces : ObjectPieces weighs
+  object-pieces =
+      record {
+        entered = λ w x i p q r low. entered-weight w x i p q [] r (omega arith);
+        guid = λ w x i r. let z = M .number x in let y = M .pair (record { index = i; guid = x .value }) in omega arith;
+        longer = λ w x q r. let z = M .number x in let y = M .error in let l = M .light in omega arith;
+        unread = λ w some. let y = M .error in let l = M .light in omega arith;
+        passed = λ w some. let y = M .nested (w .size) in omega arith;
+      }
+
+  kind-pieces : (k : Walker) → KindPieces k (anywhere (tablesOf k)) weighs
+  kind-pieces (walker how.Struct t lvl) = struct-pieces t
+  kind-pieces (walker how.Exact t lvl) = struct-pieces t
+  kind-pieces (walker how.Object t lvl) = object-pieces
+
+  pub walk-weight : (k : Walker) (bytes : List ℕ) (n : ℕ) → weigh m (walk k bytes n) ≤ n + stop
+  walk-weight k bytes n =
+      let z : 0 + weigh m (walk k bytes n) ≤ n + stop = walk-holds weighs pieces k (anywhere (tablesOf k)) (kind-pieces k) bytes n tt in
+      omega arith
