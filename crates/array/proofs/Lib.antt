@@ -1,4 +1,4 @@
 pub mod StatsLaws
 pub mod PassLaws
 pub mod CallLaws
-pub mod Promises
+pub mod OneAnswer

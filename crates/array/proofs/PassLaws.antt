@@ -1,65 +1,72 @@
--- A pass of the code is a walk of framing's definition: which one its sink and tables say.
+-- A pass of the code is a walk of framing's definition: its tests are the definition's, and it starts from a tally of zeros.
 use mathlib.Core.Path.{_≡_, refl, sym, ap, _∙_}
-use mathlib.Core.Bool.{Bool, true, false}
+use mathlib.Core.Bool.{true, false, _&&_}
 use mathlib.Core.List.{List, [], _∷_}
 use Prim.Native.Nat.{ℕ, _+_, _-_, _*_, _/_, _≤_, _<_}
 use native.Mathlib.Omega.{arith}
-use lib.ListN.{length, getD}
-use lib.Dec.{leb, eqb}
-use borrow.Author.Tests.{lt-ltb, le-ltb, lt-leb, le-leb}
+use lib.ListN.{length, replicate}
+use lib.Dec.{leb, ltb, eqb}
+use borrow.Author.Tests.{ltb-false, lt-ltb, le-ltb, lt-leb, le-leb}
 use Rattle.bits.specs.Bits.{num, field}
-use Rattle.bitio.specs.Cursors.{longestWindow}
+use Rattle.bits.specs.Sizes.{longestWindow, levelsBelow}
+use Rattle.bits.proofs.Never.{never}
 use Rattle.schema.specs.Tables.{Tables, tables, absent}
 use Rattle.schema.specs.Spans.{spansOf}
 use Rattle.schema.specs.Layout.{laidOut, schemaLaid, declaredLaid, schemaSized, declaredSized, rootFits, allFrom}
 use Rattle.schema.proofs.LaidLaws.{leaf-lies, container-lies}
 use Rattle.schema.proofs.LaidLaws as Laws
+use Rattle.framing.specs.declared.Walk.{Walk}
+use Rattle.framing.specs.declared.Walk.the-variants as how
 use Rattle.framing.specs.Windows.{windowOf}
 use Rattle.framing.specs.Events.{error, Trace}
 use Rattle.framing.specs.Walk.{level}
-use Rattle.framing.specs.Sinks.{Walk, struct, exact, object, Leafy, declaredOnly, silent, sinkOf, objectSink, walk, walkWindow}
+use Rattle.framing.specs.Sinks.{walker, Leafy, givesLeaves, silent, sinkOf, objectSink, walk, walkWindow}
 use Rattle.framing.specs.Counters.{counted}
+use Rattle.framing.specs.Records.{leafWords, pairWords}
 use Rattle.framing.specs.Refusing.{Room, within}
 use Rattle.outputs.specs.World.{World, fresh}
-use Rattle.outputs.specs.Answers.{laid}
+use Rattle.outputs.specs.Answers.{laid, measuredWith}
 use Rattle.outputs.proofs.After.{no-length}
-use Rattle.steps.specs.Held.{held, ran}
+use Rattle.steps.specs.Tally.{slots, slot, elementsSlot, fieldsSlot, truncationsSlot, errorsSlot, nestedSlot, rootSlot, implicitSlot, recordsSlot, pathsSlot, payloadsSlot, worldBy, worldOf, played}
 use Rattle.steps.specs.Views.{inner, sinkFor}
+use Rattle.steps.proofs.TallyLaws.{played-none}
 use Rattle.cycle.specs.Cycle.{Ready}
-use Rattle.array.specs.Passing.{Passable, silentFor, passTrace, Stands, as-struct, as-exact}
-use Rattle.steps.specs.declared.Sink.{Sink}
-use Rattle.steps.specs.declared.Sink.the-variants as sink
-use Rattle.steps.proofs.TallyLaws.{ran-none}
+use Rattle.array.specs.Passing.{Passable, recordWords}
 
--- ---- the trace of a pass
+-- ---- which walk
 
-module _ (s : Sink) (t : Tables) (root : ℕ) (bytes : List ℕ) (n : ℕ) where
-  pub silent-pass : silentFor s n ≡ true → [] ≡ passTrace s t root bytes n
-  unfolding passTrace
-  silent-pass h = simp h
+module _ (t : Tables) (lvl : ℕ) where
+  -- a walk of no bits is silent, but for the object walk
+  silent-is : (s : Walk) (n : ℕ) → silent (walker s t lvl) n ≡ (givesLeaves s && eqb n 0)
+  silent-is how.Struct n = refl
+  silent-is how.Exact n = refl
+  silent-is how.Object n = refl
 
-  module _ (loud : silentFor s n ≡ false) where
-    pub past-pass : length bytes < (n + 7) / 8 → error ∷ [] ≡ passTrace s t root bytes n
-    unfolding passTrace
-    past-pass h = simp (loud, lt-ltb (8 * length bytes) n (omega arith))
+  -- what its fields are made of, its tables, and what it gives
+  sink-is : (s : Walk) → sinkFor s t levelsBelow false lvl ≡ sinkOf (walker s t lvl)
+  unfolding sinkFor sinkOf objectSink
+  sink-is how.Struct = refl
+  sink-is how.Exact = refl
+  sink-is how.Object = refl
 
-    pub level-pass : (n + 7) / 8 ≤ length bytes → level (sinkFor s t 11 false root) (inner bytes 0 n 0) [] ≡ passTrace s t root bytes n
-    unfolding passTrace
-    level-pass h = simp (loud, le-ltb (8 * length bytes) n (omega arith))
+  pub leafy-laid : (s : Walk) (levels : ℕ) → givesLeaves s ≡ true → laid (walker s t lvl) levels ≡ laidOut t levels lvl
+  leafy-laid how.Struct levels e = refl
+  leafy-laid how.Exact levels e = refl
+  leafy-laid how.Object levels e = never cc
 
--- what the code leaves is what the trace comes to
-module _ (s : Sink) (t : Tables) (root : ℕ) (bytes : List ℕ) (n : ℕ) (x : World) where
-  pub ran-silent : silentFor s n ≡ true → x ≡ ran (passTrace s t root bytes n) x
-  ran-silent h = ran-none x ∙ ap (λ (u : Trace). ran u x) (silent-pass s t root bytes n h)
+  pub leafy : (s : Walk) → givesLeaves s ≡ true → Leafy (walker s t lvl)
+  leafy how.Struct e = tt
+  leafy how.Exact e = tt
+  leafy how.Object e = never cc
 
-  pub ran-past : (y : World) → silentFor s n ≡ false → length bytes < (n + 7) / 8 → y ≡ ran (error ∷ []) x → y ≡ ran (passTrace s t root bytes n) x
-  ran-past y loud h e = e ∙ ap (λ (u : Trace). ran u x) (past-pass s t root bytes n loud h)
+-- the numbers of its records
+pub leafy-words : (s : Walk) → givesLeaves s ≡ true → recordWords s ≡ leafWords
+leafy-words s e = rw e refl
 
-  pub ran-level : (y : World) → silentFor s n ≡ false → (n + 7) / 8 ≤ length bytes
-      → y ≡ ran (level (sinkFor s t 11 false root) (inner bytes 0 n 0) []) x → y ≡ ran (passTrace s t root bytes n) x
-  ran-level y loud h e = e ∙ ap (λ (u : Trace). ran u x) (level-pass s t root bytes n loud h)
+pub object-words : (s : Walk) → givesLeaves s ≡ false → recordWords s ≡ pairWords
+object-words s e = rw e refl
 
--- ---- the walk that it is
+-- ---- what the code leaves is what the walk's trace comes to
 
 whole : (bytes : List ℕ) (n : ℕ) → inner bytes 0 n 0 ≡ windowOf bytes n
 unfolding inner
@@ -67,94 +74,88 @@ whole bytes n =
     let e : n - 0 ≡ n = omega arith in
     ap (λ (k : ℕ). record { bits = field (num bytes) 0 k; size = k; origin = 0 }) e
 
-pass-is : (s : Sink) (k : Walk) (t : Tables) (root : ℕ) (bytes : List ℕ) (n : ℕ) → silentFor s n ≡ silent k n → sinkFor s t 11 false root ≡ sinkOf k
-    → passTrace s t root bytes n ≡ walk k bytes n
-unfolding passTrace walk walkWindow
-pass-is s k t root bytes n e f = go (silent k n) refl
-  where
-    go : (x : Bool) → silent k n ≡ x → passTrace s t root bytes n ≡ walk k bytes n
-    go true h = simp (e, h)
-    go false h = simp (e, h, f, whole bytes n)
+module _ (s : Walk) (t : Tables) (root : ℕ) (bytes : List ℕ) (n : ℕ) (x : World) where
+  pub played-silent : (givesLeaves s && eqb n 0) ≡ true → x ≡ played (walk (walker s t root) bytes n) x
+  unfolding walk
+  played-silent h = rw (silent-is t root s n ∙ h) (played-none x)
 
-pub stands-walk : {trailer : Bool} {t : Tables} {levels root : ℕ} {k : Walk} → Stands trailer t levels root k → (bytes : List ℕ) (n : ℕ)
-    → passTrace (sink.Record trailer) t root bytes n ≡ walk k bytes n
-unfolding sinkFor sinkOf
-stands-walk (as-struct {t = t} {root = root}) bytes n = pass-is (sink.Record true) (struct t root) t root bytes n refl refl
-stands-walk (as-exact {d = d} {n = m}) bytes n = pass-is (sink.Record false) (exact d m) (declaredOnly d m) absent bytes n refl refl
+  module _ (y : World) (told : (givesLeaves s && eqb n 0) ≡ false) where
+    loud : silent (walker s t root) n ≡ false
+    loud = silent-is t root s n ∙ told
 
-pub object-walk : (t : Tables) (root : ℕ) (bytes : List ℕ) (n : ℕ) → passTrace sink.Object t root bytes n ≡ walk object bytes n
-unfolding sinkFor sinkOf objectSink
-object-walk t root bytes n = pass-is sink.Object object t root bytes n refl refl
+    pub played-past : length bytes < (n + 7) / 8 → y ≡ played (error ∷ []) x → y ≡ played (walk (walker s t root) bytes n) x
+    unfolding walk
+    played-past h e = rw (loud, lt-ltb (8 * length bytes) n (omega arith)) e
 
-pub stands-laid : {trailer : Bool} {t : Tables} {levels root : ℕ} {k : Walk} → Stands trailer t levels root k → laid k levels ≡ laidOut t levels root
-stands-laid as-struct = refl
-stands-laid as-exact = refl
-
-pub stands-leafy : {trailer : Bool} {t : Tables} {levels root : ℕ} {k : Walk} → Stands trailer t levels root k → Leafy k
-stands-leafy as-struct = tt
-stands-leafy as-exact = tt
+    pub played-level : (n + 7) / 8 ≤ length bytes → y ≡ played (level (sinkFor s t levelsBelow false root) (inner bytes 0 n 0) []) x
+        → y ≡ played (walk (walker s t root) bytes n) x
+    unfolding walk walkWindow
+    played-level h e =
+        rw (loud, le-ltb (8 * length bytes) n (omega arith))
+        (e ∙ (λ i. played (level (sink-is t root s i) (whole bytes n i) []) x))
 
 -- ---- what a pass asks
 
-pub passable : (n : ℕ) (t : Tables) (levels root : ℕ) (spans : List ℕ) → n ≤ longestWindow → laidOut t levels root ≡ true → spans ≡ spansOf (t .rows)
-    → Passable n t spans
-passable n t levels root spans small good e =
+pub passable : (n : ℕ) (t : Tables) (levels root : ℕ) → ltb longestWindow n ≡ false → laidOut t levels root ≡ true → Passable n t
+passable n t levels root small good =
     let l = Laws.laid t levels root good in
-    record { short = small; leaf-lies = leaf-lies t levels root l; container-lies = container-lies t levels root l; spans-are = e }
+    record { short = ltb-false longestWindow n small; leaf-lies = leaf-lies t levels root l; container-lies = container-lies t levels root l }
 
 -- no tables keep their layout
 pub none-laid : laidOut (tables [] [] [] []) 0 absent ≡ true
 unfolding laidOut schemaLaid declaredLaid schemaSized declaredSized rootFits allFrom
 none-laid = refl
 
-pub ready : (bytes : List ℕ) (n : ℕ) (t : Tables) (spans : List ℕ) → Passable n t spans → (n + 7) / 8 ≤ length bytes → Ready bytes 0 n 0 t spans
-ready bytes n t spans p h =
+pub ready : (bytes : List ℕ) (n : ℕ) (t : Tables) (spans : List ℕ) → Passable n t → spans ≡ spansOf (t .rows) → (n + 7) / 8 ≤ length bytes
+    → Ready bytes 0 n 0 t spans
+ready bytes n t spans p e h =
+    let small = p .short in
     record {
-      ordered = omega arith;
-      inside = omega arith;
-      short = p .short;
+      lies = (omega arith, omega arith, small);
       path = omega arith;
       leaf-lies = p .leaf-lies;
       container-lies = p .container-lies;
-      spans-are = p .spans-are;
+      spans-are = e;
     }
-
--- the sink of a struct or exact walk
-pub silent-record : (s : Sink) (trailer : Bool) (n : ℕ) → s ≡ sink.Record trailer → eqb n 0 ≡ silentFor s n
-silent-record s trailer n e = sym (ap (λ (x : Sink). silentFor x n) e)
 
 -- ---- a pass from nothing
 
-pub starts-fresh : (words text load : List ℕ) → held (0 ∷ 0 ∷ 0 ∷ 0 ∷ 0 ∷ 0 ∷ 0 ∷ 0 ∷ 0 ∷ 0 ∷ 0 ∷ []) words text load ≡ fresh words text load
-unfolding held
-starts-fresh words text load = refl
+-- the tally at its start
+abbrev pub zeros : List ℕ
+zeros = replicate slots 0
+
+pub starts-fresh : (records paths payloads : List ℕ) → worldOf zeros records paths payloads ≡ fresh records paths payloads
+unfolding worldOf worldBy
+starts-fresh records paths payloads = refl
 
 -- outputs of no length stay empty
-pub words-alone : (t : Trace) (d l p y b : List ℕ) → length p ≡ 0 → length y ≡ 0
-    → held d l p y ≡ ran t (held (0 ∷ 0 ∷ 0 ∷ 0 ∷ 0 ∷ 0 ∷ 0 ∷ 0 ∷ 0 ∷ 0 ∷ 0 ∷ []) b [] []) → held d l [] [] ≡ ran t (fresh b [] [])
-words-alone t d l p y b ep ey e =
+pub measures : (t : Trace) (d l p y : List ℕ) → length l ≡ 0 → length p ≡ 0 → length y ≡ 0 → worldOf d l p y ≡ played t (worldOf zeros [] [] [])
+    → worldOf d [] [] [] ≡ played t (fresh [] [] [])
+measures t d l p y el ep ey e =
+    let nl = no-length l el in
     let np = no-length p ep in
     let ny = no-length y ey in
-    sym (λ i. held d l (np i) (ny i)) ∙ e ∙ ap (ran t) (starts-fresh b [] [])
-
-pub measures : (t : Trace) (d l p y : List ℕ) → length l ≡ 0 → length p ≡ 0 → length y ≡ 0
-    → held d l p y ≡ ran t (held (0 ∷ 0 ∷ 0 ∷ 0 ∷ 0 ∷ 0 ∷ 0 ∷ 0 ∷ 0 ∷ 0 ∷ 0 ∷ []) [] [] []) → held d [] [] [] ≡ ran t (fresh [] [] [])
-measures t d l p y el ep ey e = let nl = no-length l el in sym (λ i. held d (nl i) [] []) ∙ words-alone t d l p y [] ep ey e
+    sym (λ i. worldOf d (nl i) (np i) (ny i)) ∙ e ∙ ap (played t) (starts-fresh [] [] [])
 
 -- ---- what is read off a pass
 
-pub counters-held : (c : List ℕ) (e f t r n b i : ℕ) → e ≡ getD c 0 0 → f ≡ getD c 1 0 → t ≡ getD c 2 0 → r ≡ getD c 3 0 → n ≡ getD c 4 0 → b ≡ getD c 5 0
-    → i ≡ getD c 6 0 → counted e f t r n b i ≡ held c [] [] [] .counters
-unfolding held
-counters-held c e f t r n b i p₀ p₁ p₂ p₃ p₄ p₅ p₆ = λ k. counted (p₀ k) (p₁ k) (p₂ k) (p₃ k) (p₄ k) (p₅ k) (p₆ k)
+pub counters-in : (c : List ℕ) (e f t r n b i : ℕ) → e ≡ slot c elementsSlot → f ≡ slot c fieldsSlot → t ≡ slot c truncationsSlot → r ≡ slot c errorsSlot
+    → n ≡ slot c nestedSlot → b ≡ slot c rootSlot → i ≡ slot c implicitSlot → counted e f t r n b i ≡ worldOf c [] [] [] .counters
+unfolding worldOf worldBy
+counters-in c e f t r n b i p₀ p₁ p₂ p₃ p₄ p₅ p₆ = λ k. counted (p₀ k) (p₁ k) (p₂ k) (p₃ k) (p₄ k) (p₅ k) (p₆ k)
+
+pub extent-in : (c : List ℕ) (words leaves pathBytes payloadBytes : ℕ) → leaves ≡ slot c recordsSlot / words → pathBytes ≡ slot c pathsSlot
+    → payloadBytes ≡ slot c payloadsSlot → record { leaves = leaves; pathBytes = pathBytes; payloadBytes = payloadBytes } ≡ measuredWith words (worldOf c [] [] [])
+unfolding worldOf worldBy
+extent-in c words leaves pathBytes payloadBytes e f g = λ i. record { leaves = e i; pathBytes = f i; payloadBytes = g i }
 
 module _ (need lent : Room) where
-  pub few-leaves : lent .leaves < need .leaves → false ≡ within need lent
-  few-leaves h = simp (lt-leb (need .leaves) (lent .leaves) h)
+  pub few-leaves : (n : ℕ) → n ≡ lent .leaves → n < need .leaves → false ≡ within need lent
+  few-leaves n e h = simp (lt-leb (need .leaves) (lent .leaves) (omega arith))
 
-  module _ (l : need .leaves ≤ lent .leaves) where
+  module _ (n : ℕ) (e : n ≡ lent .leaves) (l : need .leaves ≤ n) where
     pub few-paths : lent .pathBytes < need .pathBytes → false ≡ within need lent
-    few-paths h = simp (le-leb (need .leaves) (lent .leaves) l, lt-leb (need .pathBytes) (lent .pathBytes) h)
+    few-paths h = simp (le-leb (need .leaves) (lent .leaves) (omega arith), lt-leb (need .pathBytes) (lent .pathBytes) h)
 
     pub payloads-decide : need .pathBytes ≤ lent .pathBytes → leb (need .payloadBytes) (lent .payloadBytes) ≡ within need lent
-    payloads-decide h = simp (le-leb (need .leaves) (lent .leaves) l, le-leb (need .pathBytes) (lent .pathBytes) h)
+    payloads-decide h = simp (le-leb (need .leaves) (lent .leaves) (omega arith), le-leb (need .pathBytes) (lent .pathBytes) h)

@@ -6,7 +6,7 @@ use mathlib.Core.List.{List}
 use Rattle.schema.specs.Tables.{Tables}
 use Rattle.framing.specs.Counters.{Counters}
 use Rattle.framing.specs.Sinks as F
-use Rattle.framing.specs.Sinks.{Walk, struct, exact, object, verdictOf}
+use Rattle.framing.specs.Sinks.{Walker, struct, exact, object, verdictOf}
 use Rattle.outputs.specs.Answers.{Call, Lent, Answered, PairsAnswered}
 use Rattle.array.specs.Merges.{merge}
 use Rattle.array.specs.Refusals.{countersOf, answerOf, pairsOf, sumsOf}
@@ -20,7 +20,7 @@ use Rattle.array.specs.declared.ObjectArray.the-variants as objects
 
 -- ---- calls and buffers, by their parameters
 
-abbrev pub callOf : Walk → (levels : ℕ) (bytes : List ℕ) (bits : ℕ) → Call
+abbrev pub callOf : Walker → (levels : ℕ) (bytes : List ℕ) (bits : ℕ) → Call
 callOf k levels bytes bits = record { how = k; levels = levels; bytes = bytes; bits = bits }
 
 abbrev pub structCall : (bytes : List ℕ) (bits : ℕ) → Tables → (levels root : ℕ) → Call
@@ -40,10 +40,10 @@ verdictIs verdict.Partial = F.partial
 
 -- a verdict on such counters, of whichever walk and however many bits
 abbrev pub Judges : Counters → Verdict → Type 0
-Judges c v = (k : Walk) (bits : ℕ) → verdictIs v ≡ verdictOf k bits c
+Judges c v = (k : Walker) (bits : ℕ) → verdictIs v ≡ verdictOf k bits c
 
 -- an accepted answer carries the verdict of its walk
-abbrev pub Judged : Walk → (bits : ℕ) → StructArray → Type 0
+abbrev pub Judged : Walker → (bits : ℕ) → StructArray → Type 0
 Judged k bits (structs.Decoded s v e) = verdictIs v ≡ verdictOf k bits (countersOf s)
 Judged k bits structs.TooLong = Unit
 Judged k bits structs.BrokenTables = Unit

@@ -1,49 +1,65 @@
--- One pass of the code over a window: what it asks, and the trace that it runs.
-use Prim.Native.Nat.{ℕ, _*_, _/_, _-_, _≤_}
+-- One pass of the code over a window, and both passes: what they ask, and what they come to.
+use Prim.Native.Nat.{ℕ, _≤_, _<_}
 use mathlib.Core.Path.{_≡_}
-use mathlib.Core.Bool.{Bool, true, false}
-use mathlib.Core.List.{List, [], _∷_}
+use mathlib.Core.Bool.{true, false}
+use mathlib.Core.List.{List, []}
 use lib.ListN.{length}
-use lib.Dec.{ltb, eqb}
 use Rattle.bits.specs.Choice.{if_then_else_}
-use Rattle.bitio.specs.Cursors.{longestWindow}
-use Rattle.schema.specs.Tables.{Tables, absent}
+use Rattle.bits.specs.Sizes.{longestWindow}
+use Rattle.schema.specs.Tables.{Tables}
 use Rattle.schema.specs.Labels.{leafLabel, containerLabel, LabelLies}
-use Rattle.schema.specs.Spans.{spansOf}
-use Rattle.framing.specs.Events.{error, Trace}
-use Rattle.framing.specs.Walk.{level}
-use Rattle.framing.specs.Sinks.{Walk, struct, exact, declaredOnly, levelsBelow}
-use Rattle.framing.specs.Records.{leafWords}
-use Rattle.framing.specs.Refusing.{Room}
-use Rattle.outputs.specs.Answers.{Lent}
-use Rattle.steps.specs.Views.{inner, sinkFor}
-use Rattle.array.specs.Calls.{callOf, Decodes}
+use Rattle.framing.specs.declared.Walk.{Walk}
+use Rattle.framing.specs.Events.{Trace}
+use Rattle.framing.specs.Sinks.{givesLeaves}
+use Rattle.framing.specs.Records.{leafWords, pairWords}
+use Rattle.framing.specs.Refusing.{Room, within}
+use Rattle.outputs.specs.World.{fresh}
+use Rattle.outputs.specs.Answers.{Lent, roomWith, measuredWith}
+use Rattle.steps.specs.Tally.{slot, oversSlot, worldOf, played}
+use Rattle.array.specs.Refusals.{countersOf, roomIn}
+use Rattle.array.specs.Calls.{Judges}
 use Rattle.array.specs.declared.StructArray.{StructArray}
-use Rattle.steps.specs.declared.Sink.{Sink}
-use Rattle.steps.specs.declared.Sink.the-variants as sink
+use Rattle.array.specs.declared.StructArray.the-variants.{Decoded, PathTooLong, Short}
+use Rattle.array.specs.declared.ArrayDecodeStats.{ArrayDecodeStats}
+use Rattle.array.specs.declared.Extent.{Extent}
+use Rattle.array.specs.declared.Verdict.{Verdict}
 
--- the window is not too long, every label lies in its pool, and the spans are those of the rows
-pub record Passable (bits : ℕ) (t : Tables) (spans : List ℕ) : Type 0 where
+-- ---- one pass
+
+-- the window is not too long, and every label lies in its pool
+pub record Passable (bits : ℕ) (t : Tables) : Type 0 where
   pub short : bits ≤ longestWindow
   pub leaf-lies : (level handle : ℕ) → LabelLies t (leafLabel t level handle)
   pub container-lies : (level handle : ℕ) → LabelLies t (containerLabel t level handle)
-  pub spans-are : spans ≡ spansOf (t .rows)
 
--- rule 9: a struct or exact walk of no bits counts nothing
-abbrev pub silentFor : Sink → (bits : ℕ) → Bool
-silentFor (sink.Record trailer) bits = eqb bits 0
-silentFor sink.Object bits = false
+-- ---- both
 
-unfoldable pub passTrace : Sink → Tables → (root : ℕ) (bytes : List ℕ) (bits : ℕ) → Trace
-passTrace s t root bytes bits =
-    if silentFor s bits then [] else
-    (if ltb (8 * length bytes) bits then error ∷ [] else level (sinkFor s t levelsBelow false root) (inner bytes 0 bits 0) [])
+-- the numbers of a walk's record: a leaf's, or a pair's
+abbrev pub recordWords : Walk → ℕ
+recordWords s = if givesLeaves s then leafWords else pairWords
 
--- the walk that the code's sink and tables stand for: with the trailer a struct walk, without it an exact one, which has no schema
-pub data Stands : (trailer : Bool) → Tables → (levels root : ℕ) → Walk → Type 0 where
-  as-struct : {t : Tables} {levels root : ℕ} → Stands true t levels root (struct t root)
-  as-exact : {d n : List ℕ} → Stands false (declaredOnly d n) 0 absent (exact d n)
+-- what the outputs hold, in records of so many numbers
+abbrev pub roomOver : (words : ℕ) → Lent → Room
+roomOver words b = roomWith words (length (b .leaves)) (length (b .paths)) (length (b .payloads))
 
--- the contract of whichever walk they stand for
-abbrev pub DecodesAs : (trailer : Bool) → Tables → (levels root : ℕ) (bytes : List ℕ) (bits : ℕ) → Lent → StructArray → Lent → Type 0
-DecodesAs trailer t levels root bytes bits b r end = (k : Walk) → Stands trailer t levels root k → Decodes (callOf k levels bytes bits) b r end
+-- a pass lent nothing left this tally
+abbrev pub Measures : Trace → (need : List ℕ) → Type 0
+Measures t need = worldOf need [] [] [] ≡ played t (fresh [] [] [])
+
+-- it found no path too long, and that the walk needs so much
+pub record Needs (t : Trace) (words : ℕ) (e : Extent) : Type 0 where
+  pub tally : List ℕ
+  pub is : Measures t tally
+  pub fine : slot tally oversSlot ≤ 0
+  pub extent : roomIn e ≡ measuredWith words (worldOf tally [] [] [])
+
+-- The passes over a trace: what they answer, and what the outputs hold then.
+pub data TwoPasses (t : Trace) (words : ℕ) (b : Lent) : StructArray → Lent → Type 0 where
+  over : (need : List ℕ) → Measures t need → 0 < slot need oversSlot → TwoPasses t words b PathTooLong b
+  short : {e : Extent} → Needs t words e → within (roomIn e) (roomOver words b) ≡ false → TwoPasses t words b (Short e) b
+  written : {e : Extent} (tally : List ℕ) {stats : ArrayDecodeStats} {v : Verdict} {end : Lent} → Needs t words e
+      → within (roomIn e) (roomOver words b) ≡ true
+      → worldOf tally (end .leaves) (end .paths) (end .payloads) ≡ played t (fresh (b .leaves) (b .paths) (b .payloads))
+      → countersOf stats ≡ worldOf tally [] [] [] .counters
+      → Judges (countersOf stats) v
+      → TwoPasses t words b (Decoded stats v e) end

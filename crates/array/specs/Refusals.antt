@@ -12,6 +12,8 @@ use Rattle.array.specs.declared.ObjectArray.{ObjectArray}
 use Rattle.array.specs.declared.ObjectArray.the-variants as objects
 use Rattle.array.specs.declared.Merged.{Merged}
 use Rattle.array.specs.declared.Merged.the-variants as merged
+use Rattle.array.specs.declared.said.Saying.{Saying}
+use Rattle.array.specs.declared.said.PairSaying.{PairSaying}
 
 abbrev pub countersOf : ArrayDecodeStats → Counters
 countersOf s =
@@ -39,3 +41,20 @@ pairsOf (objects.Short n) = refused 3 n
 abbrev pub sumsOf : Merged → Sums
 sumsOf (merged.Sum s) = summed (countersOf s)
 sumsOf (merged.Overflow s) = overflowing 4 (countersOf s)
+
+-- ---- a refusal's number and values as the code's records of them; of an accepted call all are 0
+
+abbrev pub sayingAs : (number leaves pathBytes payloadBytes : ℕ) → Saying
+sayingAs n l p y = record { number = n; leaves = l; «path_bytes» = p; «payload_bytes» = y }
+
+abbrev pub refusedRoom : Answer Room → Saying
+refusedRoom (refused n need) = sayingAs n (need .leaves) (need .pathBytes) (need .payloadBytes)
+refusedRoom (accepted c need) = sayingAs 0 0 0 0
+
+abbrev pub refusedPairs : Answer ℕ → PairSaying
+refusedPairs (refused n need) = record { number = n; pairs = need }
+refusedPairs (accepted c need) = record { number = 0; pairs = 0 }
+
+abbrev pub refusedSum : Sums → ℕ
+refusedSum (summed c) = 0
+refusedSum (overflowing n c) = n

@@ -8,31 +8,20 @@
 // All numbers are packed. A window is walked twice: once lent nothing, which tells what is needed and whether a path gets too
 // long, and once to write. A refused call writes nothing.
 mod passes;
+pub mod said;
 pub mod stats;
+mod twice;
 
+ghost use mathlib.Core.Path.{_≡_};
+ghost use lib.Dec.{ltb};
+ghost use Rattle.bits.specs.Sizes.{longestWindow};
 ghost use Rattle.schema.specs.Tables.{tables};
-ghost use Rattle.array.specs.Passing.{DecodesAs};
 ghost use Rattle.array.specs.Calls.{structCall, exactCall, lent, Decodes, DecodesPairs};
-use crate::passes::extent_of;
-use crate::passes::has_room;
-use crate::passes::length_of;
-use crate::passes::measure;
-use crate::passes::pass;
-use crate::passes::stats_of;
-use crate::stats::verdict;
+use crate::twice::two_passes;
+use bits::sizes::LONGEST_WINDOW;
+use framing::Walk;
 use schema::ABSENT;
 use schema::layout::check_tables;
-use schema::spans::level_spans;
-use steps::Sink;
-use steps::tally::OVERS;
-use steps::tally::WORDS;
-
-const LONGEST_WINDOW: u32 = 524288;
-
-// The numbers of a pair.
-const PAIR_WORDS: u32 = 2;
-
-const PAIR_SIZE: usize = 2;
 
 // What a walk counted.
 pub struct ArrayDecodeStats {
@@ -95,77 +84,22 @@ pub enum Merged {
 }
 
 // ---- the calls
+//
+// `bits` is how many of the bytes' bits are walked. `rows`, `levels`, `root` and `names` are the schema: its table, how many
+// levels it has, the level of the root's elements, the bytes of its names; `root` is 4294967295 where there is no schema.
+// `declared` and `declared_names` are the declared handles and the bytes of their names; 4294967295 stands for a name's start
+// where a handle has none.
 
-// A struct walk, or without the trailer an exact one: refusals in the order 1, 2, 5, 3.
-fn decode_leaves<'a>(
-    bytes: &[u8],
-    bits: u32,
-    trailer: bool,
-    rows: &[u32],
-    levels: u32,
-    root: u32,
-    names: &'a [u8],
-    declared: &[u32],
-    pool: &'a [u8],
-    leaves: &mut [u32],
-    paths: &mut [u8],
-    payloads: &mut [u8],
-) -> StructArray
-    ensures { λ r. ⌜ DecodesAs trailer (tables (now (rows .entry)) (now (names .entry)) (now (declared .entry)) (now (pool .entry))) levels root (now (bytes .entry)) bits (lent (now (leaves .entry)) (now (paths .entry)) (now (payloads .entry))) r (lent (now (leaves .exit)) (now (paths .exit)) (now (payloads .exit))) ⌝ }
+// Refusal 1.
+fn is_too_long(bits: u32) -> bool
+    ensures { λ r. ⌜ r ≡ ltb longestWindow bits ⌝ }
 {
-    if LONGEST_WINDOW < bits {
-        return StructArray::TooLong;
-    }
-    if !check_tables(rows, levels, root, names, declared, pool) {
-        return StructArray::BrokenTables;
-    }
-    let end = bits as u64;
-    let sink = Sink::Record { trailer };
-    let spans = level_spans(rows);
-    let mut path = [0u8; 1024];
-    let need = measure(
-        bytes,
-        end,
-        sink,
-        root,
-        rows,
-        &spans,
-        names,
-        declared,
-        pool,
-        &mut path,
-    );
-    if 0 < need[OVERS] {
-        return StructArray::PathTooLong;
-    }
-    let extent = extent_of(&need);
-    if !has_room(extent, leaves.len(), paths.len(), payloads.len()) {
-        return StructArray::Short(extent);
-    }
-    let mut c = [0u32; 11];
-    pass(
-        &mut c,
-        bytes,
-        end,
-        sink,
-        root,
-        rows,
-        &spans,
-        names,
-        declared,
-        pool,
-        &mut path,
-        leaves,
-        paths,
-        payloads,
-    );
-    let stats = stats_of(&c);
-    let judged = verdict(stats);
-    StructArray::Decoded(stats, judged, extent)
+    LONGEST_WINDOW < bits
 }
 
-// The leaves of the array of structs in the first `bits` bits. Of each five numbers are written: where its path starts and
-// how long it is, the handle, the bits of its payload and where that starts.
+// The leaves of the array of structs in the first `bits` bits; refusals in the order 1, 2, 5, 3. Of each leaf five numbers are
+// written: where its path starts and how long it is, the handle (4294967295 for a kept tail), the bits of its payload and where
+// that starts.
 pub fn decode_struct_array<'a>(
     bytes: &[u8],
     bits: u32,
@@ -174,23 +108,33 @@ pub fn decode_struct_array<'a>(
     root: u32,
     names: &'a [u8],
     declared: &[u32],
-    pool: &'a [u8],
+    declared_names: &'a [u8],
     leaves: &mut [u32],
     paths: &mut [u8],
     payloads: &mut [u8],
 ) -> StructArray
-    ensures { λ r. ⌜ Decodes (structCall (now (bytes .entry)) bits (tables (now (rows .entry)) (now (names .entry)) (now (declared .entry)) (now (pool .entry))) levels root) (lent (now (leaves .entry)) (now (paths .entry)) (now (payloads .entry))) r (lent (now (leaves .exit)) (now (paths .exit)) (now (payloads .exit))) ⌝ }
+    ensures { λ r. ⌜ Decodes
+        (structCall (now (bytes .entry)) bits
+        (tables (now (rows .entry)) (now (names .entry)) (now (declared .entry)) (now («declared_names» .entry))) levels root)
+        (lent (now (leaves .entry)) (now (paths .entry)) (now (payloads .entry)))
+        r
+        (lent (now (leaves .exit)) (now (paths .exit)) (now (payloads .exit))) ⌝ }
 {
-    decode_leaves(
+    if is_too_long(bits) {
+        return StructArray::TooLong;
+    }
+    if !check_tables(rows, levels, root, names, declared, declared_names) {
+        return StructArray::BrokenTables;
+    }
+    two_passes(
         bytes,
-        bits,
-        true,
-        rows,
-        levels,
+        bits as u64,
+        Walk::Struct,
         root,
+        rows,
         names,
         declared,
-        pool,
+        declared_names,
         leaves,
         paths,
         payloads,
@@ -202,25 +146,34 @@ pub fn decode_struct_array_exact(
     bytes: &[u8],
     bits: u32,
     declared: &[u32],
-    pool: &[u8],
+    declared_names: &[u8],
     leaves: &mut [u32],
     paths: &mut [u8],
     payloads: &mut [u8],
 ) -> StructArray
-    ensures { λ r. ⌜ Decodes (exactCall (now (bytes .entry)) bits (now (declared .entry)) (now (pool .entry))) (lent (now (leaves .entry)) (now (paths .entry)) (now (payloads .entry))) r (lent (now (leaves .exit)) (now (paths .exit)) (now (payloads .exit))) ⌝ }
+    ensures { λ r. ⌜ Decodes
+        (exactCall (now (bytes .entry)) bits (now (declared .entry)) (now («declared_names» .entry)))
+        (lent (now (leaves .entry)) (now (paths .entry)) (now (payloads .entry)))
+        r
+        (lent (now (leaves .exit)) (now (paths .exit)) (now (payloads .exit))) ⌝ }
 {
+    if is_too_long(bits) {
+        return StructArray::TooLong;
+    }
     let rows = [0u32; 0];
     let names = [0u8; 0];
-    decode_leaves(
+    if !check_tables(&rows, 0, ABSENT, &names, declared, declared_names) {
+        return StructArray::BrokenTables;
+    }
+    two_passes(
         bytes,
-        bits,
-        false,
-        &rows,
-        0,
+        bits as u64,
+        Walk::Exact,
         ABSENT,
+        &rows,
         &names,
         declared,
-        pool,
+        declared_names,
         leaves,
         paths,
         payloads,
@@ -231,50 +184,34 @@ pub fn decode_struct_array_exact(
 pub fn decode_object_ref_array(bytes: &[u8], bits: u32, pairs: &mut [u32]) -> ObjectArray
     ensures { λ r. ⌜ DecodesPairs (now (bytes .entry)) bits (now (pairs .entry)) r (now (pairs .exit)) ⌝ }
 {
-    if LONGEST_WINDOW < bits {
+    if is_too_long(bits) {
         return ObjectArray::TooLong;
     }
-    let end = bits as u64;
     let rows = [0u32; 0];
     let names = [0u8; 0];
-    let spans = level_spans(&rows);
-    let mut path = [0u8; 1024];
-    let need = measure(
-        bytes,
-        end,
-        Sink::Object,
-        ABSENT,
-        &rows,
-        &spans,
-        &names,
-        &rows,
-        &names,
-        &mut path,
-    );
-    let given = need[WORDS] / PAIR_WORDS;
-    if pairs.len() / PAIR_SIZE < length_of(given) {
-        return ObjectArray::Short(given);
-    }
-    let mut c = [0u32; 11];
     let mut paths = [0u8; 0];
     let mut payloads = [0u8; 0];
-    pass(
-        &mut c,
+    let passed = two_passes(
         bytes,
-        end,
-        Sink::Object,
+        bits as u64,
+        Walk::Object,
         ABSENT,
         &rows,
-        &spans,
         &names,
         &rows,
         &names,
-        &mut path,
         pairs,
         &mut paths,
         &mut payloads,
     );
-    let stats = stats_of(&c);
-    let judged = verdict(stats);
-    ObjectArray::Decoded(stats, judged, given)
+    match passed {
+        StructArray::Decoded(stats, judged, filled) => {
+            ObjectArray::Decoded(stats, judged, filled.leaves)
+        }
+        StructArray::Short(need) => ObjectArray::Short(need.leaves),
+        // Never taken: the passes ask for no length and no tables, and an object walk has no paths.
+        StructArray::TooLong => ObjectArray::TooLong,
+        StructArray::BrokenTables => ObjectArray::TooLong,
+        StructArray::PathTooLong => ObjectArray::TooLong,
+    }
 }

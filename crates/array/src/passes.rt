@@ -1,83 +1,93 @@
-// One pass over a window, and what is read off its numbers.
+// One pass over a window, and what is read off its tally. `pass` is the one seam between the public walks and what walks.
 ghost use mathlib.Core.Path.{_≡_};
+ghost use mathlib.Core.Bool.{_&&_};
 ghost use mathlib.Core.List.{[]};
+ghost use Prim.Native.Nat.{_/_};
+ghost use lib.Dec.{eqb};
 ghost use Rattle.schema.specs.Tables.{tables};
+ghost use Rattle.schema.specs.Spans.{spansOf};
+ghost use Rattle.framing.specs.Sinks as F;
+ghost use Rattle.framing.specs.Sinks.{walker, givesLeaves};
 ghost use Rattle.framing.specs.Refusing.{within};
 ghost use Rattle.outputs.specs.World.{fresh};
-ghost use Rattle.outputs.specs.Answers.{measured, roomBy};
-ghost use Rattle.steps.specs.Held.{held, ran};
-ghost use Rattle.array.specs.Passing.{Passable, silentFor, passTrace};
+ghost use Rattle.steps.specs.Tally.{worldOf, played};
+ghost use Rattle.outputs.specs.Answers.{measuredWith, roomWith};
+ghost use Rattle.array.specs.Passing.{Passable, recordWords};
 ghost use Rattle.array.specs.Refusals.{countersOf, roomIn};
 use crate::ArrayDecodeStats;
 use crate::Extent;
+use bits::sizes::LEVELS_BELOW;
 use cycle::walk_level;
-use steps::Sink;
+use framing::Walk;
+use outputs::records::LEAF_WORDS;
+use outputs::records::PAIR_WORDS;
+use steps::paths::WorkingPath;
 use steps::tally::ELEMENTS;
 use steps::tally::ERRORS;
 use steps::tally::FIELDS;
 use steps::tally::IMPLICIT;
-use steps::tally::LOAD;
 use steps::tally::NESTED;
+use steps::tally::PATHS;
+use steps::tally::PAYLOADS;
+use steps::tally::RECORDS;
 use steps::tally::ROOT;
-use steps::tally::TEXT;
+use steps::tally::SLOTS;
 use steps::tally::TRUNCATIONS;
-use steps::tally::WORDS;
+use steps::tally::Tally;
 use steps::tally::count;
+use steps::walks::gives_leaves;
 
-// Levels that may stand below the root's.
-const DEEPER: u32 = 11;
-
-// The numbers of a leaf.
-const LEAF_WORDS: u32 = 5;
-
-const LEAF_SIZE: usize = 5;
-
-// Rule 9: a struct or exact walk of no bits counts nothing.
-fn is_silent(sink: Sink, bits: u64) -> bool
-    ensures { λ r. ⌜ r ≡ silentFor sink bits ⌝ }
+// 01, Walking an array, rule 9: a struct or exact walk of no bits counts nothing.
+fn is_silent(walk: Walk, bits: u64) -> bool
+    ensures { λ r. ⌜ r ≡ (givesLeaves walk && eqb bits 0) ⌝ }
 {
-    match sink {
-        Sink::Record { trailer: _ } => bits == 0,
-        Sink::Object => false,
+    match walk {
+        Walk::Struct => bits == 0,
+        Walk::Exact => bits == 0,
+        Walk::Object => false,
     }
 }
 
-// One pass of any walk over the first `bits` bits. A window past its bytes is one error.
+// One pass of any walk over the first `bits` bits. Where the bytes hold fewer, that is one error (01, Refusal numbers: no walk
+// gives 14).
 pub fn pass<'a>(
-    c: &mut [u32; 11],
+    tally: &mut Tally,
     bytes: &[u8],
     bits: u64,
-    sink: Sink,
+    walk: Walk,
     root: u32,
     rows: &[u32],
-    spans: &[usize; 130],
+    spans: &[usize; schema::spans::SPAN_NUMBERS],
     names: &'a [u8],
     declared: &[u32],
     pool: &'a [u8],
-    path: &mut [u8; 1024],
-    words: &mut [u32],
+    path: &mut WorkingPath,
+    records: &mut [u32],
     paths: &mut [u8],
     payloads: &mut [u8],
 )
-    requires { ⌜ Passable bits (tables (now rows) (now names) (now declared) (now pool)) (now spans) ⌝ }
-    ensures { λ _. ⌜ held (now (c .exit)) (now (words .exit)) (now (paths .exit)) (now (payloads .exit)) ≡ ran (passTrace sink (tables (now (rows .entry)) (now (names .entry)) (now (declared .entry)) (now (pool .entry))) root (now (bytes .entry)) bits) (held (now (c .entry)) (now (words .entry)) (now (paths .entry)) (now (payloads .entry))) ⌝ }
+    requires { ⌜ Passable bits (tables (now rows) (now names) (now declared) (now pool)) × (now spans ≡ spansOf (now rows)) ⌝ }
+    ensures { λ _. ⌜ worldOf (now (tally .exit)) (now (records .exit)) (now (paths .exit)) (now (payloads .exit))
+        ≡ played
+        (F.walk (walker walk (tables (now (rows .entry)) (now (names .entry)) (now (declared .entry)) (now (pool .entry))) root) (now (bytes .entry)) bits)
+        (worldOf (now (tally .entry)) (now (records .entry)) (now (paths .entry)) (now (payloads .entry))) ⌝ }
 {
-    if is_silent(sink, bits) {
+    if is_silent(walk, bits) {
         return;
     }
     let size = ((bits + 7) / 8) as usize;
     if bytes.len() < size {
-        count(c, ERRORS, 1);
+        count(tally, ERRORS, 1);
         return;
     }
     walk_level(
-        c,
+        tally,
         bytes,
         0,
         bits,
-        sink,
+        walk,
         false,
-        DEEPER,
+        LEVELS_BELOW,
         root,
         0,
         rows,
@@ -86,7 +96,7 @@ pub fn pass<'a>(
         declared,
         pool,
         path,
-        words,
+        records,
         paths,
         payloads,
     );
@@ -96,27 +106,30 @@ pub fn pass<'a>(
 pub fn measure<'a>(
     bytes: &[u8],
     bits: u64,
-    sink: Sink,
+    walk: Walk,
     root: u32,
     rows: &[u32],
-    spans: &[usize; 130],
+    spans: &[usize; schema::spans::SPAN_NUMBERS],
     names: &'a [u8],
     declared: &[u32],
     pool: &'a [u8],
-    path: &mut [u8; 1024],
-) -> [u32; 11]
-    requires { ⌜ Passable bits (tables (now rows) (now names) (now declared) (now pool)) (now spans) ⌝ }
-    ensures { λ r. ⌜ held r [] [] [] ≡ ran (passTrace sink (tables (now (rows .entry)) (now (names .entry)) (now (declared .entry)) (now (pool .entry))) root (now (bytes .entry)) bits) (fresh [] [] []) ⌝ }
+    path: &mut WorkingPath,
+) -> Tally
+    requires { ⌜ Passable bits (tables (now rows) (now names) (now declared) (now pool)) × (now spans ≡ spansOf (now rows)) ⌝ }
+    ensures { λ r. ⌜ worldOf r [] [] []
+        ≡ played
+        (F.walk (walker walk (tables (now (rows .entry)) (now (names .entry)) (now (declared .entry)) (now (pool .entry))) root) (now (bytes .entry)) bits)
+        (fresh [] [] []) ⌝ }
 {
-    let mut c = [0u32; 11];
-    let mut words = [0u32; 0];
+    let mut tally = [0u32; SLOTS];
+    let mut records = [0u32; 0];
     let mut paths = [0u8; 0];
     let mut payloads = [0u8; 0];
     pass(
-        &mut c,
+        &mut tally,
         bytes,
         bits,
-        sink,
+        walk,
         root,
         rows,
         spans,
@@ -124,11 +137,11 @@ pub fn measure<'a>(
         declared,
         pool,
         path,
-        &mut words,
+        &mut records,
         &mut paths,
         &mut payloads,
     );
-    c
+    tally
 }
 
 fn wide(x: u32) -> u64
@@ -137,34 +150,48 @@ fn wide(x: u32) -> u64
     x as u64
 }
 
-pub fn length_of(x: u32) -> usize
-    ensures { λ r. ⌜ r ≡ x ⌝ }
-{
-    x as usize
-}
-
 // The counters among a pass's numbers.
-pub fn stats_of(c: &[u32; 11]) -> ArrayDecodeStats
-    ensures { λ r. ⌜ countersOf r ≡ held (now (c .entry)) [] [] [] .counters ⌝ }
+pub fn stats_of(tally: &Tally) -> ArrayDecodeStats
+    ensures { λ r. ⌜ countersOf r ≡ worldOf (now (tally .entry)) [] [] [] .counters ⌝ }
 {
     ArrayDecodeStats {
-        elements_decoded: wide(c[ELEMENTS]),
-        fields_emitted: wide(c[FIELDS]),
-        truncations: wide(c[TRUNCATIONS]),
-        errors: wide(c[ERRORS]),
-        unconsumed_nested_bits: wide(c[NESTED]),
-        unconsumed_root_bits: wide(c[ROOT]),
-        implicit_terminations: wide(c[IMPLICIT]),
+        elements_decoded: wide(tally[ELEMENTS]),
+        fields_emitted: wide(tally[FIELDS]),
+        truncations: wide(tally[TRUNCATIONS]),
+        errors: wide(tally[ERRORS]),
+        unconsumed_nested_bits: wide(tally[NESTED]),
+        unconsumed_root_bits: wide(tally[ROOT]),
+        implicit_terminations: wide(tally[IMPLICIT]),
     }
 }
 
-// The leaves, path bytes and payload bytes that a pass came to.
-pub fn extent_of(c: &[u32; 11]) -> Extent
-    ensures { λ r. ⌜ roomIn r ≡ measured (held (now (c .entry)) [] [] []) ⌝ }
+// The records that so many numbers are, of leaves or of pairs.
+fn records_of(walk: Walk, numbers: u32) -> u32
+    ensures { λ r. ⌜ r ≡ numbers / recordWords walk ⌝ }
 {
-    let leaves = c[WORDS] / LEAF_WORDS;
-    let path_bytes = c[TEXT];
-    let payload_bytes = c[LOAD];
+    if gives_leaves(walk) {
+        return numbers / (LEAF_WORDS as u32);
+    }
+    numbers / (PAIR_WORDS as u32)
+}
+
+// The whole records that an output of so many numbers holds.
+fn records_in(walk: Walk, numbers: usize) -> usize
+    ensures { λ r. ⌜ r ≡ numbers / recordWords walk ⌝ }
+{
+    if gives_leaves(walk) {
+        return numbers / LEAF_WORDS;
+    }
+    numbers / PAIR_WORDS
+}
+
+// The records, path bytes and payload bytes that a pass came to.
+pub fn extent_of(walk: Walk, tally: &Tally) -> Extent
+    ensures { λ r. ⌜ roomIn r ≡ measuredWith (recordWords walk) (worldOf (now (tally .entry)) [] [] []) ⌝ }
+{
+    let leaves = records_of(walk, tally[RECORDS]);
+    let path_bytes = tally[PATHS];
+    let payload_bytes = tally[PAYLOADS];
     Extent {
         leaves,
         path_bytes,
@@ -173,13 +200,13 @@ pub fn extent_of(c: &[u32; 11]) -> Extent
 }
 
 // Whether outputs of these lengths hold so much: only whole records count.
-pub fn has_room(need: Extent, words: usize, paths: usize, payloads: usize) -> bool
-    ensures { λ r. ⌜ r ≡ within (roomIn need) (roomBy words paths payloads) ⌝ }
+pub fn has_room(walk: Walk, need: Extent, records: usize, paths: usize, payloads: usize) -> bool
+    ensures { λ r. ⌜ r ≡ within (roomIn need) (roomWith (recordWords walk) records paths payloads) ⌝ }
 {
     let leaves = need.leaves as usize;
     let path_bytes = need.path_bytes as usize;
     let payload_bytes = need.payload_bytes as usize;
-    if words / LEAF_SIZE < leaves {
+    if records_in(walk, records) < leaves {
         return false;
     }
     if paths < path_bytes {

@@ -9,30 +9,32 @@ use lib.Dec.{eqb}
 use lib.ListN.{length, take, drop, length-drop}
 use lib.Seq.{take-take, length-take-le}
 use Rattle.bits.proofs.Never.{never}
+use Rattle.bits.specs.Sizes.{longestPath, maxFields, maxElements}
 use Rattle.schema.specs.Tables.{Tables, tables, lookUps}
 use Rattle.schema.specs.Labels.{labelBytes, dot}
 use Rattle.schema.specs.declared.Label.{Label}
 use Rattle.framing.specs.Windows.{Window}
 use Rattle.framing.specs.Events.{element, Trace}
-use Rattle.framing.specs.Paths.{grown, noted, longestPath}
-use Rattle.framing.specs.Walk.{Run, done, stopped, prepend, fields, behind, elements, level, inItem, entering, maxFields, maxElements}
+use Rattle.framing.specs.Paths.{grownPath, overIfLong}
+use Rattle.framing.specs.Walk.{Run, done, stopped, prepend, fields, behind, elements, level, inItem, entering}
 use Rattle.outputs.specs.World.{World}
-use Rattle.steps.specs.Held.{ran}
+use Rattle.steps.specs.Tally.{played}
+use Rattle.steps.specs.Steps.{Lies}
 use Rattle.steps.specs.Views.{inner, upTo, sinkFor, exitSink}
 use Rattle.steps.specs.Heads.{levelHead, elementHead, fieldHead}
-use Rattle.steps.specs.Paths.{itemPath, itemNoted}
+use Rattle.steps.specs.Paths.{itemPath, itemOver}
 use Rattle.steps.specs.Kinds.{kindOf, KindLies}
 use Rattle.steps.specs.Gives.{fieldsStop, levelStop, flatField}
-use Rattle.steps.specs.declared.Sink.{Sink}
+use Rattle.framing.specs.declared.Walk.{Walk}
 use Rattle.steps.specs.declared.Head.{Head}
 use Rattle.steps.specs.declared.Head.the-variants as head
 use Rattle.steps.specs.declared.Kind.{Kind}
 use Rattle.steps.specs.declared.Kind.the-variants as kind
 use Rattle.steps.proofs.CaseLaws.{NotGo, NotClosed, NotArray}
 use Rattle.steps.proofs.ShiftLaws.{size-inner}
-use Rattle.steps.proofs.WalkLaws.{ran-append, Alike, Ends, Shuts, Goes, level-exit, level-walks, level-next, elements-exit, elements-walk, element-next, fields-exit, fields-closed, fields-walk, field-next}
-use Rattle.steps.proofs.FieldKindLaws.{sink-alike, item-path, item-noted, kind-tables, kind-lies, field-flat, field-array}
-use Rattle.cycle.specs.Cycle.{Place, place, sinkAt, windowAt, Ready, LevelRan, Done, finished, FieldsRan, FieldRan}
+use Rattle.steps.proofs.WalkLaws.{played-append, Alike, Ends, Shuts, Goes, level-exit, level-walks, level-next, elements-exit, elements-walk, element-next, fields-exit, fields-closed, fields-walk, field-next}
+use Rattle.steps.proofs.FieldKindLaws.{sink-alike, item-path, item-over, kind-tables, kind-lies, field-flat, field-array}
+use Rattle.cycle.specs.Cycle.{Place, place, sinkAt, windowAt, Ready, LevelWalked, Done, finished, FieldsWalked, FieldWalked}
 use Rattle.cycle.specs.declared.After.{After}
 use Rattle.cycle.specs.declared.After.the-variants as after
 
@@ -44,9 +46,9 @@ ended y r = record { world = y; after = r }
 finished-goes : (b : ℕ) (r r′ : Run) (x y : World) → Goes r r′ x y → finished b r x ≡ finished b r′ y
 finished-goes b r r′ x y g = ap (λ (u : Run). finished b u x) (g .is) ∙ go r′ ∙ ap (finished b r′) (sym (g .world))
   where
-    go : (u : Run) → finished b (prepend (g .trace) u) x ≡ finished b u (ran (g .trace) x)
-    go (done t q) = ap (λ (w : World). ended w (after.Closed (b + q))) (ran-append (g .trace) t x)
-    go (stopped t) = ap (λ (w : World). ended w after.Open) (ran-append (g .trace) t x)
+    go : (u : Run) → finished b (prepend (g .trace) u) x ≡ finished b u (played (g .trace) x)
+    go (done t q) = ap (λ (w : World). ended w (after.Closed (b + q))) (played-append (g .trace) t x)
+    go (stopped t) = ap (λ (w : World). ended w after.Open) (played-append (g .trace) t x)
 
 finished-shuts : (b : ℕ) (r : Run) (x : World) (n : ℕ) → Shuts b r x n → ended x (after.Closed n) ≡ finished b r x
 finished-shuts b r x n s = ap₂ (λ (w : World) (k : ℕ). ended w (after.Closed k)) (s .world) (s .at) ∙ ap (λ (u : Run). finished b u x) (sym (s .is))
@@ -55,13 +57,13 @@ finished-ends : (b : ℕ) (r : Run) (x y : World) → Ends r x y → ended y aft
 finished-ends b r x y s = ap (λ (w : World). ended w after.Open) (s .world) ∙ ap (λ (u : Run). finished b u x) (sym (s .is))
 
 -- behind fields that closed, and behind those that did not
-behind-closed : (b n : ℕ) (more : ℕ → Trace) (r : Run) (x y : World) → ended y (after.Closed n) ≡ finished b r x → ran (behind more r) x ≡ ran (more (n - b)) y
+behind-closed : (b n : ℕ) (more : ℕ → Trace) (r : Run) (x y : World) → ended y (after.Closed n) ≡ finished b r x → played (behind more r) x ≡ played (more (n - b)) y
 behind-closed b n more (done t q) x y e =
-    let w : y ≡ ran t x = ap (λ (d : Done). d .world) e in
+    let w : y ≡ played t x = ap (λ (d : Done). d .world) e in
     let a : after.Closed n ≡ after.Closed (b + q) = ap (λ (d : Done). d .after) e in
     let c : n ≡ b + q = cc in
     let d : q ≡ n - b = omega arith in
-    ran-append t (more q) x ∙ ap₂ (λ (k : ℕ) (v : World). ran (more k) v) d (sym w)
+    played-append t (more q) x ∙ ap₂ (λ (k : ℕ) (v : World). played (more k) v) d (sym w)
 behind-closed b n more (stopped t) x y e =
     let a : after.Closed n ≡ after.Open = ap (λ (d : Done). d .after) e in
     never cc
@@ -75,7 +77,7 @@ closed-later b n (stopped t) x y e =
     let a : after.Closed n ≡ after.Open = ap (λ (d : Done). d .after) e in
     never cc
 
-behind-open : (b : ℕ) (more : ℕ → Trace) (r : Run) (x y : World) → ended y after.Open ≡ finished b r x → y ≡ ran (behind more r) x
+behind-open : (b : ℕ) (more : ℕ → Trace) (r : Run) (x y : World) → ended y after.Open ≡ finished b r x → y ≡ played (behind more r) x
 behind-open b more (done t q) x y e =
     let a : after.Open ≡ after.Closed (b + q) = ap (λ (d : Done). d .after) e in
     never cc
@@ -95,12 +97,12 @@ pub fields-begin : (q : Place) (index start : ℕ) (x : World) → Fielding q in
 fields-begin q index start x = record { later = omega arith; same = λ b o inside h. refl; kept = refl }
 
 module _ (q : Place) (index start : ℕ) (x₀ x : World) (path : List ℕ) (at left : ℕ) (first : Bool) (fit : start ≤ q .end) (v : Fielding q index start x₀ x path at left first) where
-  private-alike : (inside : Bool) → Alike (sinkAt q inside) (exitSink (q .sink) inside)
-  private-alike inside = sink-alike (q .sink) (q .tables) (q .below) inside (q .level)
+  private-alike : (inside : Bool) → Alike (sinkAt q inside) (exitSink (q .walk) inside)
+  private-alike inside = sink-alike (q .walk) (q .tables) (q .below) inside (q .level)
 
   -- a field was walked
   pub fields-turn : {h body next : ℕ} → fieldHead (upTo (q .bytes) (q .end)) left at ≡ head.Go h body next → (y : World) (path′ : List ℕ) (f : Bool)
-      → FieldRan (place (q .sink) (q .tables) (q .below) (q .level) (q .bytes) next path) index first h body x y path′
+      → FieldWalked (place (q .walk) (q .tables) (q .below) (q .level) (q .bytes) next path) index first h body x y path′
       → f ≡ (first && eqb (next - body) 0) → Fielding q index start x₀ y path′ next (left - 1) f
   fields-turn {h} {body} {next} e y path′ f r ef =
       let n = field-next (q .bytes) (q .end) left at e in
@@ -109,9 +111,9 @@ module _ (q : Place) (index start : ℕ) (x₀ x : World) (path : List ℕ) (at 
         same = λ b o inside hb.
             let le : b ≤ q .end = omega arith in
             let here : b ≤ at = let z = v .later in omega arith in
-            let g = fields-walk (sinkAt q inside) (exitSink (q .sink) inside) (private-alike inside) (q .bytes) b (q .end) (q .path) le index left at first here e x o in
-            let w : y ≡ ran (sinkAt q inside .field index (q .path) first h (inner (q .bytes) body next (o + (body - b)))) x =
-            r .out (o + (body - b)) inside ∙ ap (λ (p : List ℕ). ran (sinkAt q inside .field index p first h (inner (q .bytes) body next (o + (body - b)))) x) (v .kept) in
+            let g = fields-walk (sinkAt q inside) (exitSink (q .walk) inside) (private-alike inside) (q .bytes) b (q .end) (q .path) le index left at first here e x o in
+            let w : y ≡ played (sinkAt q inside .field index (q .path) first h (inner (q .bytes) body next (o + (body - b)))) x =
+            r .out (o + (body - b)) inside ∙ ap (λ (p : List ℕ). played (sinkAt q inside .field index p first h (inner (q .bytes) body next (o + (body - b)))) x) (v .kept) in
             ap₂ (λ (k : Bool) (u : World). finished b (fields (sinkAt q inside) (windowAt q b o) index (q .path) (left - 1) (next - b) k) u) ef w
             ∙ sym (finished-goes b _ _ x _ g)
             ∙ v .same b o inside hb;
@@ -119,29 +121,29 @@ module _ (q : Place) (index start : ℕ) (x₀ x : World) (path : List ℕ) (at 
       }
 
   -- the fields closed
-  pub fields-shut : {n : ℕ} → fieldHead (upTo (q .bytes) (q .end)) left at ≡ head.Closed n → FieldsRan q index start x₀ x (after.Closed n) path
+  pub fields-shut : {n : ℕ} → fieldHead (upTo (q .bytes) (q .end)) left at ≡ head.Closed n → FieldsWalked q index start x₀ x (after.Closed n) path
   fields-shut {n} e =
       record {
         out = λ b o inside hb.
             let le : b ≤ q .end = omega arith in
             let here : b ≤ at = let z = v .later in omega arith in
-            let s = fields-closed (sinkAt q inside) (exitSink (q .sink) inside) (private-alike inside) (q .bytes) b (q .end) (q .path) le index left at first here e x o in
+            let s = fields-closed (sinkAt q inside) (exitSink (q .walk) inside) (private-alike inside) (q .bytes) b (q .end) (q .path) le index left at first here e x o in
             finished-shuts b _ x n s ∙ v .same b o inside hb;
         kept = v .kept;
       }
 
   -- they did not
   pub fields-end : (h : Head) → fieldHead (upTo (q .bytes) (q .end)) left at ≡ h → NotGo h → NotClosed h → (y : World) (path′ : List ℕ)
-      → ((o : ℕ) (inside : Bool) → y ≡ ran (fieldsStop (exitSink (q .sink) inside) (q .bytes) (q .end) o path h) x) → path′ ≡ path
-      → FieldsRan q index start x₀ y after.Open path′
+      → ((o : ℕ) (inside : Bool) → y ≡ played (fieldsStop (exitSink (q .walk) inside) (q .bytes) (q .end) o path h) x) → path′ ≡ path
+      → FieldsWalked q index start x₀ y after.Open path′
   fields-end h e n c y path′ out same =
       record {
         out = λ b o inside hb.
             let le : b ≤ q .end = omega arith in
             let here : b ≤ at = let z = v .later in omega arith in
-            let all : (k : ℕ) → y ≡ ran (fieldsStop (exitSink (q .sink) inside) (q .bytes) (q .end) k (q .path) h) x =
-            λ k. out k inside ∙ ap (λ (p : List ℕ). ran (fieldsStop (exitSink (q .sink) inside) (q .bytes) (q .end) k p h) x) (v .kept) in
-            let s = fields-exit (sinkAt q inside) (exitSink (q .sink) inside) (private-alike inside) (q .bytes) b (q .end) (q .path) le index left at first here h e n c x y all o in
+            let all : (k : ℕ) → y ≡ played (fieldsStop (exitSink (q .walk) inside) (q .bytes) (q .end) k (q .path) h) x =
+            λ k. out k inside ∙ ap (λ (p : List ℕ). played (fieldsStop (exitSink (q .walk) inside) (q .bytes) (q .end) k p h) x) (v .kept) in
+            let s = fields-exit (sinkAt q inside) (exitSink (q .walk) inside) (private-alike inside) (q .bytes) b (q .end) (q .path) le index left at first here h e n c x y all o in
             finished-ends b _ x y s ∙ v .same b o inside hb;
         kept = same ∙ v .kept;
       }
@@ -150,7 +152,7 @@ module _ (q : Place) (index start : ℕ) (x₀ x : World) (path : List ℕ) (at 
 
 pub record Leveling (q : Place) (inside : Bool) (start count : ℕ) (x₀ x : World) (path : List ℕ) (at left : ℕ) : Type 0 where
   pub later : start ≤ at
-  pub same : (o : ℕ) → ran (elements (sinkAt q inside) (windowAt q start o) (q .path) count left (at - start)) x ≡ ran (level (sinkAt q inside) (windowAt q start o) (q .path)) x₀
+  pub same : (o : ℕ) → played (elements (sinkAt q inside) (windowAt q start o) (q .path) count left (at - start)) x ≡ played (level (sinkAt q inside) (windowAt q start o) (q .path)) x₀
   pub kept : path ≡ q .path
 
 -- the first m of the first n
@@ -158,57 +160,57 @@ pub prefix : (m n : ℕ) (a b : List ℕ) → m ≤ n → take n a ≡ take n b 
 prefix m n a b h e = sym (take-take m n a h) ∙ ap (take m) e ∙ take-take m n b h
 
 module _ (q : Place) (inside : Bool) (start : ℕ) (fit : start ≤ q .end) where
-  alike : Alike (sinkAt q inside) (exitSink (q .sink) inside)
-  alike = sink-alike (q .sink) (q .tables) (q .below) inside (q .level)
+  alike : Alike (sinkAt q inside) (exitSink (q .walk) inside)
+  alike = sink-alike (q .walk) (q .tables) (q .below) inside (q .level)
 
   -- the count ends the level
   pub level-end : (h : Head) → levelHead (upTo (q .bytes) (q .end)) start ≡ h → NotGo h → (x y : World) (path : List ℕ)
-      → ((o : ℕ) → y ≡ ran (levelStop (exitSink (q .sink) inside) (q .bytes) (q .end) o (q .path) h) x) → path ≡ q .path → LevelRan q inside start x y path
+      → ((o : ℕ) → y ≡ played (levelStop (exitSink (q .walk) inside) (q .bytes) (q .end) o (q .path) h) x) → path ≡ q .path → LevelWalked q inside start x y path
   level-end h e n x y path out same =
-      record { out = level-exit (sinkAt q inside) (exitSink (q .sink) inside) alike (q .bytes) start (q .end) (q .path) fit h e n x y out; kept = same }
+      record { out = level-exit (sinkAt q inside) (exitSink (q .walk) inside) alike (q .bytes) start (q .end) (q .path) fit h e n x y out; kept = same }
 
   pub level-begin : {count first m : ℕ} → levelHead (upTo (q .bytes) (q .end)) start ≡ head.Go count first m → (x : World) → Leveling q inside start count x x (q .path) first maxElements
   level-begin e x =
       record {
         later = let n = level-next (q .bytes) start (q .end) e in n .0;
-        same = λ o. sym (level-walks (sinkAt q inside) (exitSink (q .sink) inside) alike (q .bytes) start (q .end) (q .path) fit e x o);
+        same = λ o. sym (level-walks (sinkAt q inside) (exitSink (q .walk) inside) alike (q .bytes) start (q .end) (q .path) fit e x o);
         kept = refl;
       }
 
   module _ (count : ℕ) (x₀ x : World) (path : List ℕ) (at left : ℕ) (v : Leveling q inside start count x₀ x path at left) where
     -- the elements end
     pub elements-end : (h : Head) → elementHead (upTo (q .bytes) (q .end)) count left at ≡ h → NotGo h → (y : World) (path′ : List ℕ)
-        → ((o : ℕ) → y ≡ ran (levelStop (exitSink (q .sink) inside) (q .bytes) (q .end) o path h) x) → path′ ≡ path → LevelRan q inside start x₀ y path′
+        → ((o : ℕ) → y ≡ played (levelStop (exitSink (q .walk) inside) (q .bytes) (q .end) o path h) x) → path′ ≡ path → LevelWalked q inside start x₀ y path′
     elements-end h e n y path′ out same =
-        let all : (o : ℕ) → y ≡ ran (levelStop (exitSink (q .sink) inside) (q .bytes) (q .end) o (q .path) h) x =
-        λ o. out o ∙ ap (λ (p : List ℕ). ran (levelStop (exitSink (q .sink) inside) (q .bytes) (q .end) o p h) x) (v .kept) in
+        let all : (o : ℕ) → y ≡ played (levelStop (exitSink (q .walk) inside) (q .bytes) (q .end) o (q .path) h) x =
+        λ o. out o ∙ ap (λ (p : List ℕ). played (levelStop (exitSink (q .walk) inside) (q .bytes) (q .end) o p h) x) (v .kept) in
         record {
-          out = λ o. elements-exit (sinkAt q inside) (exitSink (q .sink) inside) alike (q .bytes) start (q .end) (q .path) fit count left at (v .later) h e n x y all o ∙ v .same o;
+          out = λ o. elements-exit (sinkAt q inside) (exitSink (q .walk) inside) alike (q .bytes) start (q .end) (q .path) fit count left at (v .later) h e n x y all o ∙ v .same o;
           kept = same ∙ v .kept;
         }
 
     -- an element was entered with the world x₁ and the path p₁, and its fields left the world y and r
     module _ (i next m : ℕ) (e : elementHead (upTo (q .bytes) (q .end)) count left at ≡ head.Go i next m) (x₁ y : World) (p₁ path′ : List ℕ)
-        (counts : x₁ ≡ ran (element i ∷ itemNoted (q .sink) path i) x) (is : p₁ ≡ itemPath (q .sink) path i) (r : After) (p₂ : List ℕ)
-        (f : FieldsRan (place (q .sink) (q .tables) (q .below) (q .level) (q .bytes) (q .end) p₁) i next x₁ y r p₂) (same : path′ ≡ path) where
+        (counts : x₁ ≡ played (element i ∷ itemOver (q .walk) path i) x) (is : p₁ ≡ itemPath (q .walk) path i) (r : After) (p₂ : List ℕ)
+        (f : FieldsWalked (place (q .walk) (q .tables) (q .below) (q .level) (q .bytes) (q .end) p₁) i next x₁ y r p₂) (same : path′ ≡ path) where
       later′ : start ≤ next
       later′ = let n = element-next (q .bytes) (q .end) count left at e in let z = v .later in omega arith
 
       path-here : p₁ ≡ inItem (sinkAt q inside) (q .path) i
-      path-here = is ∙ ap (λ (p : List ℕ). itemPath (q .sink) p i) (v .kept) ∙ sym (item-path (q .sink) (q .tables) (q .below) inside (q .level) (q .path) i)
+      path-here = is ∙ ap (λ (p : List ℕ). itemPath (q .walk) p i) (v .kept) ∙ sym (item-path (q .walk) (q .tables) (q .below) inside (q .level) (q .path) i)
 
-      world-here : x₁ ≡ ran (element i ∷ entering (sinkAt q inside) (q .path) i) x
+      world-here : x₁ ≡ played (element i ∷ entering (sinkAt q inside) (q .path) i) x
       world-here =
           counts
-          ∙ ap (λ (p : List ℕ). ran (element i ∷ itemNoted (q .sink) p i) x) (v .kept)
-          ∙ ap (λ (t : Trace). ran (element i ∷ t) x) (sym (item-noted (q .sink) (q .tables) (q .below) inside (q .level) (q .path) i))
+          ∙ ap (λ (p : List ℕ). played (element i ∷ itemOver (q .walk) p i) x) (v .kept)
+          ∙ ap (λ (t : Trace). played (element i ∷ t) x) (sym (item-over (q .walk) (q .tables) (q .below) inside (q .level) (q .path) i))
 
       -- the element's fields by the definition, and the world and the elements behind them
       abbrev fieldsOf : ℕ → Run
       fieldsOf o = fields (sinkAt q inside) (windowAt q start o) i (inItem (sinkAt q inside) (q .path) i) maxFields (next - start) true
 
       abbrev entered : World
-      entered = ran (element i ∷ entering (sinkAt q inside) (q .path) i) x
+      entered = played (element i ∷ entering (sinkAt q inside) (q .path) i) x
 
       abbrev more : ℕ → ℕ → Trace
       more o k = elements (sinkAt q inside) (windowAt q start o) (q .path) count (left - 1) k
@@ -218,19 +220,19 @@ module _ (q : Place) (inside : Bool) (start : ℕ) (fit : start ≤ q .end) wher
           f .out start o inside later′
           ∙ ap₂ (λ (p : List ℕ) (w : World). finished start (fields (sinkAt q inside) (windowAt q start o) i p maxFields (next - start) true) w) path-here world-here
 
-      walked : (o : ℕ) → ran (elements (sinkAt q inside) (windowAt q start o) (q .path) count left (at - start)) x ≡ ran (behind (more o) (fieldsOf o)) entered
-      walked o = elements-walk (sinkAt q inside) (exitSink (q .sink) inside) alike (q .bytes) start (q .end) (q .path) fit count left at (v .later) e x o
+      walked : (o : ℕ) → played (elements (sinkAt q inside) (windowAt q start o) (q .path) count left (at - start)) x ≡ played (behind (more o) (fieldsOf o)) entered
+      walked o = elements-walk (sinkAt q inside) (exitSink (q .walk) inside) alike (q .bytes) start (q .end) (q .path) fit count left at (v .later) e x o
 
       pub elements-turn : (n : ℕ) → r ≡ after.Closed n → Leveling q inside start count x₀ y path′ n (left - 1)
       elements-turn n er =
-          let ran-on : (o : ℕ) → ended y (after.Closed n) ≡ finished start (fieldsOf o) entered = λ o. ap (ended y) (sym er) ∙ runs o in
+          let played-on : (o : ℕ) → ended y (after.Closed n) ≡ finished start (fieldsOf o) entered = λ o. ap (ended y) (sym er) ∙ runs o in
           record {
-            later = closed-later start n (fieldsOf 0) entered y (ran-on 0);
-            same = λ o. sym (walked o ∙ behind-closed start n (more o) (fieldsOf o) entered y (ran-on o)) ∙ v .same o;
+            later = closed-later start n (fieldsOf 0) entered y (played-on 0);
+            same = λ o. sym (walked o ∙ behind-closed start n (more o) (fieldsOf o) entered y (played-on o)) ∙ v .same o;
             kept = same ∙ v .kept;
           }
 
-      pub elements-open : r ≡ after.Open → LevelRan q inside start x₀ y path′
+      pub elements-open : r ≡ after.Open → LevelWalked q inside start x₀ y path′
       elements-open er =
           record {
             out = λ o. behind-open start (more o) (fieldsOf o) entered y (ap (ended y) (sym er) ∙ runs o) ∙ sym (walked o) ∙ v .same o;
@@ -244,34 +246,34 @@ module _ (q : Place) (index : ℕ) (first : Bool) (handle start : ℕ) (x : Worl
   size-here o = size-inner (q .bytes) start (q .end) o fit
 
   -- a field that is no array to walk
-  pub field-put : (k : Kind) → k ≡ kindOf (q .sink) (q .tables) (q .below) (q .level) handle (q .end - start) → NotArray k → (y : World) (path : List ℕ)
-      → ((o : ℕ) → y ≡ ran (flatField (q .tables) index (q .path) first handle (windowAt q start o) k) x) → path ≡ q .path
-      → FieldRan q index first handle start x y path
+  pub field-put : (k : Kind) → k ≡ kindOf (q .walk) (q .tables) (q .below) (q .level) handle (q .end - start) → NotArray k → (y : World) (path : List ℕ)
+      → ((o : ℕ) → y ≡ played (flatField (q .tables) index (q .path) first handle (windowAt q start o) k) x) → path ≡ q .path
+      → FieldWalked q index first handle start x y path
   field-put k e n y path out same =
       record {
         out = λ o inside.
-            let e′ = e ∙ ap (kindOf (q .sink) (q .tables) (q .below) (q .level) handle) (sym (size-here o)) in
-            out o ∙ ap (λ (t : Trace). ran t x) (sym (field-flat (q .sink) (q .tables) (q .below) inside (q .level) index (q .path) first handle (windowAt q start o) k e′ n));
+            let e′ = e ∙ ap (kindOf (q .walk) (q .tables) (q .below) (q .level) handle) (sym (size-here o)) in
+            out o ∙ ap (λ (t : Trace). played t x) (sym (field-flat (q .walk) (q .tables) (q .below) inside (q .level) index (q .path) first handle (windowAt q start o) k e′ n));
         kept = same;
       }
 
   -- an array: its label is put behind the path, and its level is walked
-  pub field-walked : (lower : ℕ) (l : Label) → kind.Array lower l ≡ kindOf (q .sink) (q .tables) (q .below) (q .level) handle (q .end - start) → (x₁ y : World) (longer path : List ℕ) (c : Place) (start′ : ℕ) (path′ : List ℕ)
-      → x₁ ≡ ran (noted (dot (q .path) (labelBytes (q .tables) handle l))) x → longer ≡ grown (q .path) (dot (q .path) (labelBytes (q .tables) handle l))
-      → LevelRan c true start′ x₁ y path′ → c ≡ place (q .sink) (q .tables) (q .below - 1) lower (c .bytes) (c .end) longer
+  pub field-walked : (lower : ℕ) (l : Label) → kind.Array lower l ≡ kindOf (q .walk) (q .tables) (q .below) (q .level) handle (q .end - start) → (x₁ y : World) (longer path : List ℕ) (c : Place) (start′ : ℕ) (path′ : List ℕ)
+      → x₁ ≡ played (overIfLong (dot (q .path) (labelBytes (q .tables) handle l))) x → longer ≡ grownPath (q .path) (dot (q .path) (labelBytes (q .tables) handle l))
+      → LevelWalked c true start′ x₁ y path′ → c ≡ place (q .walk) (q .tables) (q .below - 1) lower (c .bytes) (c .end) longer
       → ((o : ℕ) → windowAt c start′ o ≡ windowAt q start o) → path ≡ q .path
-      → FieldRan q index first handle start x y path
+      → FieldWalked q index first handle start x y path
   field-walked lower l e x₁ y longer path c start′ path′ counts is r ec window same =
       record {
         out = λ o inside.
-            let e′ = e ∙ ap (kindOf (q .sink) (q .tables) (q .below) (q .level) handle) (sym (size-here o)) in
-            let s = sinkFor (q .sink) (q .tables) (q .below - 1) true lower in
+            let e′ = e ∙ ap (kindOf (q .walk) (q .tables) (q .below) (q .level) handle) (sym (size-here o)) in
+            let s = sinkFor (q .walk) (q .tables) (q .below - 1) true lower in
             r .out o
-            ∙ ap (λ (p : Place). ran (level (sinkAt p true) (windowAt c start′ o) (p .path)) x₁) ec
-            ∙ ap₂ (λ (w : Window) (p : List ℕ). ran (level s w p) x₁) (window o) is
-            ∙ ap (ran (level s (windowAt q start o) (grown (q .path) (dot (q .path) (labelBytes (q .tables) handle l))))) counts
-            ∙ sym (ran-append (noted (dot (q .path) (labelBytes (q .tables) handle l))) (level s (windowAt q start o) (grown (q .path) (dot (q .path) (labelBytes (q .tables) handle l)))) x)
-            ∙ ap (λ (t : Trace). ran t x) (sym (field-array (q .sink) (q .tables) (q .below) inside (q .level) index (q .path) first handle (windowAt q start o) lower l e′));
+            ∙ ap (λ (p : Place). played (level (sinkAt p true) (windowAt c start′ o) (p .path)) x₁) ec
+            ∙ ap₂ (λ (w : Window) (p : List ℕ). played (level s w p) x₁) (window o) is
+            ∙ ap (played (level s (windowAt q start o) (grownPath (q .path) (dot (q .path) (labelBytes (q .tables) handle l))))) counts
+            ∙ sym (played-append (overIfLong (dot (q .path) (labelBytes (q .tables) handle l))) (level s (windowAt q start o) (grownPath (q .path) (dot (q .path) (labelBytes (q .tables) handle l)))) x)
+            ∙ ap (λ (t : Trace). played t x) (sym (field-array (q .walk) (q .tables) (q .below) inside (q .level) index (q .path) first handle (windowAt q start o) lower l e′));
         kept = same;
       }
 
@@ -287,28 +289,30 @@ child-inside bytes start end le fit =
 
 -- what the code found a field to be is what the tables say of it, and its label lies in a pool
 module _ (rows names declared pool : List ℕ) where
-  pub kind-is : (s : Sink) (below lvl handle width : ℕ) {k : Kind} → k ≡ kindOf s (lookUps rows declared) below lvl handle width
+  pub kind-is : (s : Walk) (below lvl handle width : ℕ) {k : Kind} → k ≡ kindOf s (lookUps rows declared) below lvl handle width
       → k ≡ kindOf s (tables rows names declared pool) below lvl handle width
   kind-is s below lvl handle width e = e ∙ kind-tables s rows names declared pool below lvl handle width
 
   pub kind-ready : {bytes : List ℕ} {start end plen : ℕ} {spans : List ℕ} → Ready bytes start end plen (tables rows names declared pool) spans
-      → (s : Sink) (below lvl handle width : ℕ) {k : Kind} → k ≡ kindOf s (lookUps rows declared) below lvl handle width
+      → (s : Walk) (below lvl handle width : ℕ) {k : Kind} → k ≡ kindOf s (lookUps rows declared) below lvl handle width
       → KindLies (tables rows names declared pool) k
   kind-ready r s below lvl handle width e =
       let t = tables rows names declared pool in
       subst (KindLies t) (sym (kind-is s below lvl handle width e)) (kind-lies s t below lvl handle width (r .leaf-lies) (r .container-lies))
 
+-- a window that lies in its bytes lies there from their first bit on
+pub up-to : {bytes : List ℕ} {start end plen : ℕ} {t : Tables} {spans : List ℕ} → Ready bytes start end plen t spans → Lies bytes 0 end
+up-to r = (omega arith, r .lies .1, r .lies .2)
+
 -- what the code asks for a child, and for a field or an element's fields of the same level
 pub ready-child : (bytes : List ℕ) (start end plen longer : ℕ) (t : Tables) (spans : List ℕ) → Ready bytes start end plen t spans → longer ≤ longestPath
     → Ready (take ((end + 7) / 8 - start / 8) (drop (start / 8) bytes)) (start % 8) (start % 8 + (end - start)) longer t spans
 ready-child bytes start end plen longer t spans r h =
-    let le = r .ordered in
-    let fit = r .inside in
-    let few = r .short in
+    let le = r .lies .0 in
+    let fit = r .lies .1 in
+    let few = r .lies .2 in
     record {
-      ordered = omega arith;
-      inside = child-inside bytes start end le fit;
-      short = omega arith;
+      lies = (omega arith, child-inside bytes start end le fit, omega arith);
       path = h;
       leaf-lies = r .leaf-lies;
       container-lies = r .container-lies;
@@ -318,12 +322,10 @@ ready-child bytes start end plen longer t spans r h =
 pub ready-part : (bytes : List ℕ) (start end from′ end′ plen longer : ℕ) (t : Tables) (spans : List ℕ) → Ready bytes start end plen t spans → from′ ≤ end′ → end′ ≤ end → longer ≤ longestPath
     → Ready bytes from′ end′ longer t spans
 ready-part bytes start end from′ end′ plen longer t spans r le in-end h =
-    let fit = r .inside in
-    let few = r .short in
+    let fit = r .lies .1 in
+    let few = r .lies .2 in
     record {
-      ordered = le;
-      inside = omega arith;
-      short = omega arith;
+      lies = (le, omega arith, omega arith);
       path = h;
       leaf-lies = r .leaf-lies;
       container-lies = r .container-lies;

@@ -1,27 +1,26 @@
 -- What the three functions of the cycle leave: the world that the walk's definition comes to, and the working path as it was.
-use Prim.Native.Nat.{ℕ, _+_, _-_, _*_, _≤_}
+use Prim.Native.Nat.{ℕ, _+_, _-_, _≤_}
 use mathlib.Core.Path.{_≡_}
 use mathlib.Core.Bool.{Bool, true}
 use mathlib.Core.List.{List}
-use lib.ListN.{length}
+use Rattle.bits.specs.Sizes.{maxFields, longestPath}
 use Rattle.schema.specs.Tables.{Tables}
 use Rattle.schema.specs.Labels.{leafLabel, containerLabel, LabelLies}
 use Rattle.schema.specs.Spans.{spansOf}
 use Rattle.framing.specs.Windows.{Window}
 use Rattle.framing.specs.Walk as W
-use Rattle.framing.specs.Walk.{Run, done, stopped, fields, level, maxFields}
-use Rattle.framing.specs.Paths.{longestPath}
+use Rattle.framing.specs.Walk.{Run, done, stopped, fields, level}
 use Rattle.outputs.specs.World.{World}
-use Rattle.bitio.specs.Cursors.{longestWindow}
-use Rattle.steps.specs.Held.{ran}
+use Rattle.steps.specs.Tally.{played}
+use Rattle.steps.specs.Steps.{Lies}
 use Rattle.steps.specs.Views.{inner, sinkFor}
-use Rattle.steps.specs.declared.Sink.{Sink}
+use Rattle.framing.specs.declared.Walk.{Walk}
 use Rattle.cycle.specs.declared.After.{After}
 use Rattle.cycle.specs.declared.After.the-variants as after
 
 -- where a walk stands: what does not change while it walks a level
 pub record Place : Type 0 where
-  pub sink : Sink
+  pub walk : Walk
   pub tables : Tables
   pub below : ℕ
   pub level : ℕ
@@ -29,13 +28,13 @@ pub record Place : Type 0 where
   pub end : ℕ
   pub path : List ℕ
 
-abbrev pub place : Sink → Tables → (below level : ℕ) (bytes : List ℕ) (end : ℕ) (path : List ℕ) → Place
-place sink tables below level bytes end path =
-    record { sink = sink; tables = tables; below = below; level = level; bytes = bytes; end = end; path = path }
+abbrev pub place : Walk → Tables → (below level : ℕ) (bytes : List ℕ) (end : ℕ) (path : List ℕ) → Place
+place walk tables below level bytes end path =
+    record { walk = walk; tables = tables; below = below; level = level; bytes = bytes; end = end; path = path }
 
 -- the definition's sink there
 abbrev pub sinkAt : Place → (inside : Bool) → W.Sink
-sinkAt q inside = sinkFor (q .sink) (q .tables) (q .below) inside (q .level)
+sinkAt q inside = sinkFor (q .walk) (q .tables) (q .below) inside (q .level)
 
 -- the definition's window, if it starts at bit b of the bytes
 abbrev pub windowAt : Place → (b origin : ℕ) → Window
@@ -44,17 +43,15 @@ windowAt q b o = inner (q .bytes) b (q .end) o
 -- What the code asks: the window lies in its bytes and is not too long, the path fits, every label lies in its pool, and the spans are those of
 -- the rows.
 pub record Ready (bytes : List ℕ) (start end plen : ℕ) (t : Tables) (spans : List ℕ) : Type 0 where
-  pub ordered : start ≤ end
-  pub inside : end ≤ 8 * length bytes
-  pub short : end ≤ longestWindow
+  pub lies : Lies bytes start end
   pub path : plen ≤ longestPath
   pub leaf-lies : (level handle : ℕ) → LabelLies t (leafLabel t level handle)
   pub container-lies : (level handle : ℕ) → LabelLies t (containerLabel t level handle)
   pub spans-are : spans ≡ spansOf (t .rows)
 
 -- a level: the world x became y, and the path the walk stands at is still `path`
-pub record LevelRan (q : Place) (inside : Bool) (start : ℕ) (x y : World) (path : List ℕ) : Type 0 where
-  pub out : (o : ℕ) → y ≡ ran (level (sinkAt q inside) (windowAt q start o) (q .path)) x
+pub record LevelWalked (q : Place) (inside : Bool) (start : ℕ) (x y : World) (path : List ℕ) : Type 0 where
+  pub out : (o : ℕ) → y ≡ played (level (sinkAt q inside) (windowAt q start o) (q .path)) x
   pub kept : path ≡ q .path
 
 -- what an element's fields leave: the world, and whether they closed, with the position as a bit of the bytes
@@ -63,16 +60,16 @@ pub record Done : Type 0 where
   pub after : After
 
 abbrev pub finished : (b : ℕ) → Run → World → Done
-finished b (done t q) x = record { world = ran t x; after = after.Closed (b + q) }
-finished b (stopped t) x = record { world = ran t x; after = after.Open }
+finished b (done t q) x = record { world = played t x; after = after.Closed (b + q) }
+finished b (stopped t) x = record { world = played t x; after = after.Open }
 
 -- an element's fields, the first due at bit `start` of the bytes; the window may start at any bit b before it
-pub record FieldsRan (q : Place) (index start : ℕ) (x y : World) (r : After) (path : List ℕ) : Type 0 where
+pub record FieldsWalked (q : Place) (index start : ℕ) (x y : World) (r : After) (path : List ℕ) : Type 0 where
   pub out : (b o : ℕ) (inside : Bool) → b ≤ start
       → record { world = y; after = r } ≡ finished b (fields (sinkAt q inside) (windowAt q b o) index (q .path) maxFields (start - b) true) x
   pub kept : path ≡ q .path
 
 -- a field, from bit `start` to the place's end
-pub record FieldRan (q : Place) (index : ℕ) (first : Bool) (handle start : ℕ) (x y : World) (path : List ℕ) : Type 0 where
-  pub out : (o : ℕ) (inside : Bool) → y ≡ ran (sinkAt q inside .field index (q .path) first handle (windowAt q start o)) x
+pub record FieldWalked (q : Place) (index : ℕ) (first : Bool) (handle start : ℕ) (x y : World) (path : List ℕ) : Type 0 where
+  pub out : (o : ℕ) (inside : Bool) → y ≡ played (sinkAt q inside .field index (q .path) first handle (windowAt q start o)) x
   pub kept : path ≡ q .path

@@ -1,18 +1,18 @@
 // The walkers' cycle (array.rs): a level, the fields of an element, and a field call one another. They only match, lend and
 // call; every test on bits and every write is a step of the crate `steps`.
 ghost use mathlib.Core.Path.{_≡_};
-ghost use mathlib.Core.Bool.{Bool, true, _&&_};
-ghost use Prim.Native.Nat.{ℕ, _-_, _*_, _≤_};
+ghost use mathlib.Core.Bool.{_&&_};
+ghost use Prim.Native.Nat.{_-_, _≤_};
 ghost use lib.Dec.{eqb};
-ghost use lib.ListN.{length, take};
+ghost use lib.ListN.{take};
 ghost use Rattle.schema.specs.Tables.{tables};
-ghost use Rattle.framing.specs.Walk.{level, maxFields};
-ghost use Rattle.steps.specs.Held.{held, ran};
-ghost use Rattle.steps.specs.Views.{inner, sinkFor};
-ghost use Rattle.cycle.specs.Cycle.{place, Ready, FieldsRan, LevelRan, FieldRan};
+ghost use Rattle.steps.specs.Tally.{worldOf};
+ghost use Rattle.cycle.specs.Cycle.{place, Ready, LevelWalked, FieldsWalked, FieldWalked};
+use bits::sizes::MAX_ELEMENTS;
+use bits::sizes::MAX_FIELDS;
+use framing::Walk;
 use steps::Head;
 use steps::Kind;
-use steps::Sink;
 use steps::exits::stop_fields;
 use steps::exits::stop_level;
 use steps::heads::element_head;
@@ -20,12 +20,10 @@ use steps::heads::field_head;
 use steps::heads::level_head;
 use steps::kinds::kind_of;
 use steps::kinds::put_field;
+use steps::paths::WorkingPath;
 use steps::paths::enter;
 use steps::paths::grow_label;
-
-const MAX_ELEMENTS: u32 = 4096;
-
-const MAX_FIELDS: u32 = 128;
+use steps::tally::Tally;
 
 // How an element's fields end: closed, and the bit behind the zero handle; or not.
 pub enum After {
@@ -44,42 +42,53 @@ fn still_first(first: bool, body: u64, next: u64) -> bool
     body == next
 }
 
-// One array level: the bits from..end of bytes, with `below` levels allowed under it.
+// One array level: the bits from..end of bytes, with `below` levels allowed under it (01, Walking an array, rules 1 to 4).
 pub fn walk_level<'a>(
-    c: &mut [u32; 11],
+    tally: &mut Tally,
     bytes: &[u8],
     from: u64,
     end: u64,
-    sink: Sink,
+    walk: Walk,
     inside: bool,
     below: u32,
     level: u32,
     plen: usize,
     rows: &[u32],
-    spans: &[usize; 130],
+    spans: &[usize; schema::spans::SPAN_NUMBERS],
     names: &'a [u8],
     declared: &[u32],
     pool: &'a [u8],
-    path: &mut [u8; 1024],
-    words: &mut [u32],
+    path: &mut WorkingPath,
+    records: &mut [u32],
     paths: &mut [u8],
     payloads: &mut [u8],
 )
     requires { ⌜ Ready (now bytes) «from» end plen (tables (now rows) (now names) (now declared) (now pool)) (now spans) ⌝ }
-    ensures { λ _. ⌜ LevelRan (place sink (tables (now (rows .entry)) (now (names .entry)) (now (declared .entry)) (now (pool .entry))) below level (now (bytes .entry)) end (take plen (now (path .entry)))) inside «from» (held (now (c .entry)) (now (words .entry)) (now (paths .entry)) (now (payloads .entry))) (held (now (c .exit)) (now (words .exit)) (now (paths .exit)) (now (payloads .exit))) (take plen (now (path .exit))) ⌝ }
+    ensures { λ _. ⌜ LevelWalked
+        (place walk (tables (now (rows .entry)) (now (names .entry)) (now (declared .entry)) (now (pool .entry))) below level
+        (now (bytes .entry)) end (take plen (now (path .entry))))
+        inside «from»
+        (worldOf (now (tally .entry)) (now (records .entry)) (now (paths .entry)) (now (payloads .entry)))
+        (worldOf (now (tally .exit)) (now (records .exit)) (now (paths .exit)) (now (payloads .exit)))
+        (take plen (now (path .exit))) ⌝ }
 {
     let o = level_head(bytes, from, end);
-    let Head::Go(total, first, _) = o else {
+    let Head::Go {
+        value: total,
+        body: first,
+        next: _,
+    } = o
+    else {
         stop_level(
-            c,
+            tally,
             o,
             bytes,
             end,
-            sink,
+            walk,
             inside,
             plen,
             path,
-            words,
+            records,
             paths,
             payloads,
         );
@@ -89,29 +98,34 @@ pub fn walk_level<'a>(
     let mut left = MAX_ELEMENTS;
     loop {
         let h = element_head(bytes, end, total, left, at);
-        let Head::Go(index, next, _) = h else {
+        let Head::Go {
+            value: index,
+            body: next,
+            next: _,
+        } = h
+        else {
             stop_level(
-                c,
+                tally,
                 h,
                 bytes,
                 end,
-                sink,
+                walk,
                 inside,
                 plen,
                 path,
-                words,
+                records,
                 paths,
                 payloads,
             );
             return;
         };
-        let longer = enter(&mut *c, &mut *path, sink, plen, index);
+        let longer = enter(&mut *tally, &mut *path, walk, plen, index);
         let w = walk_fields(
-            &mut *c,
+            &mut *tally,
             bytes,
             next,
             end,
-            sink,
+            walk,
             below,
             level,
             longer,
@@ -122,7 +136,7 @@ pub fn walk_level<'a>(
             declared,
             pool,
             &mut *path,
-            &mut *words,
+            &mut *records,
             &mut *paths,
             &mut *payloads,
         );
@@ -134,29 +148,35 @@ pub fn walk_level<'a>(
     }
 }
 
-// The fields of the element `index`, from bit `from` on.
+// The fields of the element `index`, from bit `from` on (rule 5).
 fn walk_fields<'a>(
-    c: &mut [u32; 11],
+    tally: &mut Tally,
     bytes: &[u8],
     from: u64,
     end: u64,
-    sink: Sink,
+    walk: Walk,
     below: u32,
     level: u32,
     plen: usize,
     index: u32,
     rows: &[u32],
-    spans: &[usize; 130],
+    spans: &[usize; schema::spans::SPAN_NUMBERS],
     names: &'a [u8],
     declared: &[u32],
     pool: &'a [u8],
-    path: &mut [u8; 1024],
-    words: &mut [u32],
+    path: &mut WorkingPath,
+    records: &mut [u32],
     paths: &mut [u8],
     payloads: &mut [u8],
 ) -> After
     requires { ⌜ Ready (now bytes) «from» end plen (tables (now rows) (now names) (now declared) (now pool)) (now spans) ⌝ }
-    ensures { λ r. ⌜ FieldsRan (place sink (tables (now (rows .entry)) (now (names .entry)) (now (declared .entry)) (now (pool .entry))) below level (now (bytes .entry)) end (take plen (now (path .entry)))) index «from» (held (now (c .entry)) (now (words .entry)) (now (paths .entry)) (now (payloads .entry))) (held (now (c .exit)) (now (words .exit)) (now (paths .exit)) (now (payloads .exit))) r (take plen (now (path .exit))) ⌝ }
+    ensures { λ r. ⌜ FieldsWalked
+        (place walk (tables (now (rows .entry)) (now (names .entry)) (now (declared .entry)) (now (pool .entry))) below level
+        (now (bytes .entry)) end (take plen (now (path .entry))))
+        index «from»
+        (worldOf (now (tally .entry)) (now (records .entry)) (now (paths .entry)) (now (payloads .entry)))
+        (worldOf (now (tally .exit)) (now (records .exit)) (now (paths .exit)) (now (payloads .exit)))
+        r (take plen (now (path .exit))) ⌝ }
 {
     let mut first = true;
     let mut at = from;
@@ -166,16 +186,32 @@ fn walk_fields<'a>(
         if let Head::Closed(n) = h {
             return After::Closed(n);
         }
-        let Head::Go(handle, body, next) = h else {
-            stop_fields(c, h, bytes, end, sink, plen, path, words, paths, payloads);
+        let Head::Go {
+            value: handle,
+            body,
+            next,
+        } = h
+        else {
+            stop_fields(
+                tally,
+                h,
+                bytes,
+                end,
+                walk,
+                plen,
+                path,
+                records,
+                paths,
+                payloads,
+            );
             return After::Open;
         };
         walk_field(
-            &mut *c,
+            &mut *tally,
             bytes,
             body,
             next,
-            sink,
+            walk,
             below,
             level,
             plen,
@@ -188,7 +224,7 @@ fn walk_fields<'a>(
             declared,
             pool,
             &mut *path,
-            &mut *words,
+            &mut *records,
             &mut *paths,
             &mut *payloads,
         );
@@ -198,13 +234,14 @@ fn walk_fields<'a>(
     }
 }
 
-// One field, the bits from..end of bytes: the array that the schema says it is, or what a step makes of it.
+// One field, the bits from..end of bytes: the array that the schema says it is, or what a step makes of it
+// (rule 6).
 fn walk_field<'a>(
-    c: &mut [u32; 11],
+    tally: &mut Tally,
     bytes: &[u8],
     from: u64,
     end: u64,
-    sink: Sink,
+    walk: Walk,
     below: u32,
     level: u32,
     plen: usize,
@@ -212,23 +249,29 @@ fn walk_field<'a>(
     first: bool,
     handle: u32,
     rows: &[u32],
-    spans: &[usize; 130],
+    spans: &[usize; schema::spans::SPAN_NUMBERS],
     names: &'a [u8],
     declared: &[u32],
     pool: &'a [u8],
-    path: &mut [u8; 1024],
-    words: &mut [u32],
+    path: &mut WorkingPath,
+    records: &mut [u32],
     paths: &mut [u8],
     payloads: &mut [u8],
 )
     requires { ⌜ Ready (now bytes) «from» end plen (tables (now rows) (now names) (now declared) (now pool)) (now spans) ⌝ }
-    ensures { λ _. ⌜ FieldRan (place sink (tables (now (rows .entry)) (now (names .entry)) (now (declared .entry)) (now (pool .entry))) below level (now (bytes .entry)) end (take plen (now (path .entry)))) index first handle «from» (held (now (c .entry)) (now (words .entry)) (now (paths .entry)) (now (payloads .entry))) (held (now (c .exit)) (now (words .exit)) (now (paths .exit)) (now (payloads .exit))) (take plen (now (path .exit))) ⌝ }
+    ensures { λ _. ⌜ FieldWalked
+        (place walk (tables (now (rows .entry)) (now (names .entry)) (now (declared .entry)) (now (pool .entry))) below level
+        (now (bytes .entry)) end (take plen (now (path .entry))))
+        index first handle «from»
+        (worldOf (now (tally .entry)) (now (records .entry)) (now (paths .entry)) (now (payloads .entry)))
+        (worldOf (now (tally .exit)) (now (records .exit)) (now (paths .exit)) (now (payloads .exit)))
+        (take plen (now (path .exit))) ⌝ }
 {
     let width = end - from;
-    let kind = kind_of(sink, below, rows, spans, declared, level, handle, width);
+    let kind = kind_of(walk, below, rows, spans, declared, level, handle, width);
     let Kind::Array(child, label) = kind else {
         put_field(
-            c,
+            tally,
             kind,
             bytes,
             from,
@@ -240,22 +283,22 @@ fn walk_field<'a>(
             names,
             pool,
             path,
-            words,
+            records,
             paths,
             payloads,
         );
         return;
     };
-    let longer = grow_label(&mut *c, &mut *path, plen, label, handle, names, pool);
+    let longer = grow_label(&mut *tally, &mut *path, plen, label, handle, names, pool);
     let a = (from / 8) as usize;
     let z = ((end + 7) / 8) as usize;
     let start = from % 8;
     walk_level(
-        c,
+        tally,
         &bytes[a..z],
         start,
         start + width,
-        sink,
+        walk,
         true,
         below - 1,
         child,
@@ -266,7 +309,7 @@ fn walk_field<'a>(
         declared,
         pool,
         path,
-        words,
+        records,
         paths,
         payloads,
     );

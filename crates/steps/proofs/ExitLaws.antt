@@ -6,30 +6,31 @@ use Prim.Native.Nat.{ℕ, _-_, _≤_}
 use native.Mathlib.Omega.{arith}
 use lib.Dec.{eqb}
 use borrow.Author.Tests.{eq-eqb, ne-eqb}
+use Rattle.bits.specs.Sizes.{trailerBits}
 use Rattle.framing.specs.Windows.{Reading, got, failed, reading}
 use Rattle.framing.specs.Events.{number, error, nested, root, Trace}
-use Rattle.framing.specs.Walk.{Sink, numberAt, trailerBits, trailerOf, closing}
+use Rattle.framing.specs.Walk.{Sink, numberAt, trailerOf, closing}
 use Rattle.outputs.specs.World.{World}
-use Rattle.steps.specs.Held.{ran}
+use Rattle.steps.specs.Tally.{played}
 use Rattle.steps.specs.Views.{inner, upTo, leftoverOf}
 use Rattle.steps.specs.Heads.{numberOf}
 use Rattle.steps.specs.declared.Number.the-variants as number
-use Rattle.steps.proofs.TallyLaws.{ran-number}
+use Rattle.steps.proofs.TallyLaws.{played-number}
 use Rattle.steps.proofs.HeadLaws.{number-got, number-failed}
 use Rattle.steps.proofs.ViewLaws.{reading-start}
 
 -- what is left, counted as nested bits or as root bits
 module _ (W W′ : World) (n : ℕ) where
-  pub left-inside : (inside : Bool) → inside ≡ true → W′ ≡ ran (nested n ∷ []) W → W′ ≡ ran (leftoverOf inside n ∷ []) W
+  pub left-inside : (inside : Bool) → inside ≡ true → W′ ≡ played (nested n ∷ []) W → W′ ≡ played (leftoverOf inside n ∷ []) W
   left-inside inside e d = rw e d
 
-  pub left-outside : (inside : Bool) → inside ≡ false → W′ ≡ ran (root n ∷ []) W → W′ ≡ ran (leftoverOf inside n ∷ []) W
+  pub left-outside : (inside : Bool) → inside ≡ false → W′ ≡ played (root n ∷ []) W → W′ ≡ played (leftoverOf inside n ∷ []) W
   left-outside inside e d = rw e d
 
 -- The level whose terminator ends before bit b, in the world W, which the code makes W′.
 module _ (s : Sink) (bytes : List ℕ) (b end o : ℕ) (W W′ : World) (h : b ≤ end) where
-  closes-with : (t : Trace) → closing s (inner bytes b end o) 0 ≡ t → W′ ≡ ran t W → W′ ≡ ran (closing s (inner bytes b end o) 0) W
-  closes-with t e d = d ∙ ap (λ (u : Trace). ran u W) (sym e)
+  closes-with : (t : Trace) → closing s (inner bytes b end o) 0 ≡ t → W′ ≡ played t W → W′ ≡ played (closing s (inner bytes b end o) 0) W
+  closes-with t e d = d ∙ ap (λ (u : Trace). played u W) (sym e)
 
   all-left : end - b - 0 ≡ end - b
   all-left = omega arith
@@ -38,10 +39,10 @@ module _ (s : Sink) (bytes : List ℕ) (b end o : ℕ) (W W′ : World) (h : b �
   unfolding closing inner
   leaves-all e = simp (all-left, e)
 
-  pub closes-plainly : s .trailer ≡ false → W′ ≡ ran (s .leftover (end - b) ∷ []) W → W′ ≡ ran (closing s (inner bytes b end o) 0) W
+  pub closes-plainly : s .trailer ≡ false → W′ ≡ played (s .leftover (end - b) ∷ []) W → W′ ≡ played (closing s (inner bytes b end o) 0) W
   closes-plainly e d = closes-with (s .leftover (end - b) ∷ []) (leaves-all (simp e)) d
 
-  pub closes-longer : (end - b ≡ trailerBits → ⊥) → W′ ≡ ran (s .leftover (end - b) ∷ []) W → W′ ≡ ran (closing s (inner bytes b end o) 0) W
+  pub closes-longer : (end - b ≡ trailerBits → ⊥) → W′ ≡ played (s .leftover (end - b) ∷ []) W → W′ ≡ played (closing s (inner bytes b end o) 0) W
   closes-longer n d = closes-with (s .leftover (end - b) ∷ []) (leaves-all (none (s .trailer) (ne-eqb (end - b) trailerBits n))) d
     where
       none : (x : Bool) → eqb (end - b) trailerBits ≡ false → x && eqb (end - b) trailerBits ≡ false
@@ -56,20 +57,20 @@ module _ (s : Sink) (bytes : List ℕ) (b end o : ℕ) (W W′ : World) (h : b �
     trailed-by : (r : Reading) → reading (upTo bytes end) b ≡ r → closing s (inner bytes b end o) 0 ≡ trailerOf s (inner bytes b end o) 0 r
     trailed-by r e = trailed ∙ ap (trailerOf s (inner bytes b end o) 0) (reading-start bytes b end o h ∙ e)
 
-    pub trailer-failed : numberOf b (reading (upTo bytes end) b) ≡ number.Failed → W′ ≡ ran (error ∷ []) W
-        → W′ ≡ ran (closing s (inner bytes b end o) 0) W
+    pub trailer-failed : numberOf b (reading (upTo bytes end) b) ≡ number.Failed → W′ ≡ played (error ∷ []) W
+        → W′ ≡ played (closing s (inner bytes b end o) 0) W
     trailer-failed e d = closes-with (error ∷ []) (trailed-by failed (number-failed _ _ e)) d
 
     module _ (v q : ℕ) (e : numberOf b (reading (upTo bytes end) b) ≡ number.Value v q) where
       -- a zero is taken
-      pub trailer-zero : v ≡ 0 → W′ ≡ ran (s .leftover 0 ∷ []) W → W′ ≡ ran (closing s (inner bytes b end o) 0) W
+      pub trailer-zero : v ≡ 0 → W′ ≡ played (s .leftover 0 ∷ []) W → W′ ≡ played (closing s (inner bytes b end o) 0) W
       trailer-zero z d =
           let g = number-got (upTo bytes end) b v q e in
           let x = numberAt (inner bytes b end o) 0 (g .bytes) v in
-          closes-with (number x ∷ s .leftover 0 ∷ []) (trailed-by (got v (g .bytes)) (g .is) ∙ simp (eq-eqb v 0 z)) (d ∙ ran-number x _ W)
+          closes-with (number x ∷ s .leftover 0 ∷ []) (trailed-by (got v (g .bytes)) (g .is) ∙ simp (eq-eqb v 0 z)) (d ∙ played-number x _ W)
 
       -- another value stays
-      pub trailer-more : (v ≡ 0 → ⊥) → W′ ≡ ran (s .leftover (end - b) ∷ []) W → W′ ≡ ran (closing s (inner bytes b end o) 0) W
+      pub trailer-more : (v ≡ 0 → ⊥) → W′ ≡ played (s .leftover (end - b) ∷ []) W → W′ ≡ played (closing s (inner bytes b end o) 0) W
       trailer-more n d =
           let g = number-got (upTo bytes end) b v q e in
           closes-with (s .leftover (end - b) ∷ [])

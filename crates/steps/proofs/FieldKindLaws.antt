@@ -17,15 +17,15 @@ use Rattle.schema.specs.declared.Label.the-variants as label
 use Rattle.schema.proofs.LabelLaws.{container-of, leaf-of}
 use Rattle.framing.specs.Windows.{Window}
 use Rattle.framing.specs.Events.{nested, truncation, Trace}
-use Rattle.framing.specs.Paths.{grown, noted, given}
-use Rattle.framing.specs.Walk.{level, inItem, entering}
-use Rattle.framing.specs.Sinks.{onChild, structSink, tooDeep, leafOf}
-use Rattle.steps.specs.Views.{sinkFor, exitSink}
-use Rattle.steps.specs.Paths.{pools, itemPath, itemNoted}
+use Rattle.framing.specs.Paths.{grownPath, overIfLong, leafOrOver}
+use Rattle.framing.specs.Walk.{Sink, level, inItem, entering}
+use Rattle.framing.specs.Sinks.{onChild, structSink, tooDeep, leafOf, takesTrailer, givesLeaves}
+use Rattle.steps.specs.Views.{leftoverOf, sinkFor, exitSink}
+use Rattle.steps.specs.Paths.{pools, itemPath, itemOver}
 use Rattle.steps.specs.Kinds.{kindBy, kindOf, KindLies}
 use Rattle.steps.specs.Gives.{taggedLeaf, flatField}
-use Rattle.steps.specs.declared.Sink.{Sink}
-use Rattle.steps.specs.declared.Sink.the-variants as sink
+use Rattle.framing.specs.declared.Walk.{Walk}
+use Rattle.framing.specs.declared.Walk.the-variants as walk
 use Rattle.steps.specs.declared.Kind.{Kind}
 use Rattle.steps.specs.declared.Kind.the-variants as kind
 use Rattle.steps.proofs.CaseLaws.{NotArray}
@@ -33,19 +33,21 @@ use Rattle.steps.proofs.WalkLaws.{Alike}
 
 -- ---- ways out
 
-pub sink-alike : (s : Sink) (t : Tables) (below : ℕ) (inside : Bool) (lvl : ℕ) → Alike (sinkFor s t below inside lvl) (exitSink s inside)
+pub sink-alike : (s : Walk) (t : Tables) (below : ℕ) (inside : Bool) (lvl : ℕ) → Alike (sinkFor s t below inside lvl) (exitSink s inside)
 unfolding sinkFor structSink
-sink-alike (sink.Record trailer) t zero inside lvl = record { trailer = refl; flattens = refl; leftover = refl }
-sink-alike (sink.Record trailer) t (suc below) inside lvl = record { trailer = refl; flattens = refl; leftover = refl }
-sink-alike sink.Object t below inside lvl = record { trailer = refl; flattens = refl; leftover = refl }
+sink-alike walk.Struct t zero inside lvl = record { trailer = refl; flattens = refl; leftover = refl }
+sink-alike walk.Struct t (suc below) inside lvl = record { trailer = refl; flattens = refl; leftover = refl }
+sink-alike walk.Exact t zero inside lvl = record { trailer = refl; flattens = refl; leftover = refl }
+sink-alike walk.Exact t (suc below) inside lvl = record { trailer = refl; flattens = refl; leftover = refl }
+sink-alike walk.Object t below inside lvl = record { trailer = refl; flattens = refl; leftover = refl }
 
-pub item-path : (s : Sink) (t : Tables) (below : ℕ) (inside : Bool) (lvl : ℕ) (path : List ℕ) (i : ℕ) → inItem (sinkFor s t below inside lvl) path i ≡ itemPath s path i
+pub item-path : (s : Walk) (t : Tables) (below : ℕ) (inside : Bool) (lvl : ℕ) (path : List ℕ) (i : ℕ) → inItem (sinkFor s t below inside lvl) path i ≡ itemPath s path i
 unfolding inItem
 item-path s t below inside lvl path i = rw (sink-alike s t below inside lvl .flattens)
 
-pub item-noted : (s : Sink) (t : Tables) (below : ℕ) (inside : Bool) (lvl : ℕ) (path : List ℕ) (i : ℕ) → entering (sinkFor s t below inside lvl) path i ≡ itemNoted s path i
+pub item-over : (s : Walk) (t : Tables) (below : ℕ) (inside : Bool) (lvl : ℕ) (path : List ℕ) (i : ℕ) → entering (sinkFor s t below inside lvl) path i ≡ itemOver s path i
 unfolding entering
-item-noted s t below inside lvl path i = rw (sink-alike s t below inside lvl .flattens)
+item-over s t below inside lvl path i = rw (sink-alike s t below inside lvl .flattens)
 
 -- ---- what a label's bytes and place depend on
 
@@ -61,10 +63,10 @@ pool-lies rows names declared pool (label.Declared a n) h = h
 pool-lies rows names declared pool (label.Named a n) h = h
 pool-lies rows names declared pool label.Plain h = tt
 
-pub kind-tables : (s : Sink) (rows names declared pool : List ℕ) (below lvl handle width : ℕ)
+pub kind-tables : (s : Walk) (rows names declared pool : List ℕ) (below lvl handle width : ℕ)
     → kindOf s (lookUps rows declared) below lvl handle width ≡ kindOf s (tables rows names declared pool) below lvl handle width
 unfolding kindOf
-kind-tables (sink.Record trailer) rows names declared pool below lvl handle width = go (child rows lvl handle)
+kind-tables s rows names declared pool below lvl handle width = ap (λ (k : Kind). if givesLeaves s then k else kind.Object) (go (child rows lvl handle))
   where
     t : Tables
     t = tables rows names declared pool
@@ -78,12 +80,11 @@ kind-tables (sink.Record trailer) rows names declared pool below lvl handle widt
     go : (c : Child) → kindBy bare below lvl handle width c ≡ kindBy t below lvl handle width c
     go child.Leaf = ap kind.Leaf (leaf-of t lvl handle)
     go (child.Array lower) = ap (λ (x : Label). if eqb width 0 then kind.Nothing else (if eqb below 0 then kind.Deep x else kind.Array lower x)) same
-kind-tables sink.Object rows names declared pool below lvl handle width = refl
 
-pub kind-lies : (s : Sink) (t : Tables) (below lvl handle width : ℕ) → ((l h : ℕ) → LabelLies t (leafLabel t l h)) → ((l h : ℕ) → LabelLies t (containerLabel t l h))
+pub kind-lies : (s : Walk) (t : Tables) (below lvl handle width : ℕ) → ((l h : ℕ) → LabelLies t (leafLabel t l h)) → ((l h : ℕ) → LabelLies t (containerLabel t l h))
     → KindLies t (kindOf s t below lvl handle width)
 unfolding kindOf
-kind-lies (sink.Record trailer) t below lvl handle width leaves containers = go (child (t .rows) lvl handle)
+kind-lies s t below lvl handle width leaves containers = by-walk (givesLeaves s)
   where
     go2 : (lower : ℕ) (x y : Bool) → KindLies t (if x then kind.Nothing else (if y then kind.Deep (containerLabel t lvl handle) else kind.Array lower (containerLabel t lvl handle)))
     go2 lower true y = tt
@@ -93,7 +94,10 @@ kind-lies (sink.Record trailer) t below lvl handle width leaves containers = go 
     go : (c : Child) → KindLies t (kindBy t below lvl handle width c)
     go child.Leaf = leaves lvl handle
     go (child.Array lower) = go2 lower (eqb width 0) (eqb below 0)
-kind-lies sink.Object t below lvl handle width leaves containers = tt
+
+    by-walk : (b : Bool) → KindLies t (if b then kindBy t below lvl handle width (child (t .rows) lvl handle) else kind.Object)
+    by-walk true = go (child (t .rows) lvl handle)
+    by-walk false = tt
 
 pub kind-pools : (rows names declared pool : List ℕ) (k : Kind) → KindLies (tables rows names declared pool) k → KindLies (pools names pool) k
 kind-pools rows names declared pool kind.Object h = tt
@@ -107,61 +111,78 @@ pub flat-pools : (rows names declared pool : List ℕ) (i : ℕ) (path : List �
 unfolding flatField taggedLeaf
 flat-pools rows names declared pool i path first handle w kind.Object = refl
 flat-pools rows names declared pool i path first handle w kind.Nothing = refl
-flat-pools rows names declared pool i path first handle w (kind.Leaf x) = ap (λ (b : List ℕ). given (leafOf (dot path b) handle w)) (pool-bytes rows names declared pool handle x)
-flat-pools rows names declared pool i path first handle w (kind.Deep x) = ap (λ (b : List ℕ). truncation ∷ given (leafOf (dot path b) handle w)) (pool-bytes rows names declared pool handle x)
+flat-pools rows names declared pool i path first handle w (kind.Leaf x) = ap (λ (b : List ℕ). leafOrOver (leafOf (dot path b) handle w)) (pool-bytes rows names declared pool handle x)
+flat-pools rows names declared pool i path first handle w (kind.Deep x) = ap (λ (b : List ℕ). truncation ∷ leafOrOver (leafOf (dot path b) handle w)) (pool-bytes rows names declared pool handle x)
 flat-pools rows names declared pool i path first handle w (kind.Array lower x) = refl
 
 -- ---- a field
 
 -- an array that is walked: its trace, by the level under it
-abbrev pub arrayField : Sink → Tables → (below : ℕ) (path : List ℕ) (handle : ℕ) → Window → (lower : ℕ) → Label → Trace
+abbrev pub arrayField : Walk → Tables → (below : ℕ) (path : List ℕ) (handle : ℕ) → Window → (lower : ℕ) → Label → Trace
 arrayField s t below path handle w lower x =
-    noted (dot path (labelBytes t handle x)) ++ level (sinkFor s t (below - 1) true lower) w (grown path (dot path (labelBytes t handle x)))
+    overIfLong (dot path (labelBytes t handle x)) ++ level (sinkFor s t (below - 1) true lower) w (grownPath path (dot path (labelBytes t handle x)))
 
 -- what a field gives goes by its kind
-unfoldable pub byKind : Sink → Tables → (below : ℕ) (i : ℕ) (path : List ℕ) (first : Bool) (handle : ℕ) → Window → Kind → Trace
+unfoldable pub byKind : Walk → Tables → (below : ℕ) (i : ℕ) (path : List ℕ) (first : Bool) (handle : ℕ) → Window → Kind → Trace
 byKind s t below i path first handle w kind.Object = flatField t i path first handle w kind.Object
 byKind s t below i path first handle w kind.Nothing = flatField t i path first handle w kind.Nothing
 byKind s t below i path first handle w (kind.Leaf x) = flatField t i path first handle w (kind.Leaf x)
 byKind s t below i path first handle w (kind.Deep x) = flatField t i path first handle w (kind.Deep x)
 byKind s t below i path first handle w (kind.Array lower x) = arrayField s t below path handle w lower x
 
-field-kind : (s : Sink) (t : Tables) (below : ℕ) (inside : Bool) (lvl i : ℕ) (path : List ℕ) (first : Bool) (handle : ℕ) (w : Window)
+-- the walks that give leaves
+module _ (s : Walk) (leafy : givesLeaves s ≡ true) (t : Tables) (lvl i : ℕ) (path : List ℕ) (first : Bool) (handle : ℕ) (w : Window) where
+  leafy-kind : (below : ℕ) (inside : Bool) → structSink below t (takesTrailer s) (leftoverOf inside) lvl .field i path first handle w
+      ≡ byKind s t below i path first handle w (kindBy t below lvl handle (w .size) (child (t .rows) lvl handle))
+  unfolding sinkFor structSink byKind flatField taggedLeaf
+  leafy-kind zero inside = go (child (t .rows) lvl handle)
+    where
+      go : (c : Child) → onChild t lvl tooDeep path handle w c ≡ byKind s t 0 i path first handle w (kindBy t 0 lvl handle (w .size) c)
+      go child.Leaf = refl
+      go (child.Array lower) = go2 (eqb (w .size) 0)
+        where
+          go2 : (x : Bool) → (if x then [] else tooDeep lower path (dot path (labelBytes t handle (containerLabel t lvl handle))) handle w)
+              ≡ byKind s t 0 i path first handle w (if x then kind.Nothing else kind.Deep (containerLabel t lvl handle))
+          go2 true = refl
+          go2 false = refl
+  leafy-kind (suc n) inside = go (child (t .rows) lvl handle)
+    where
+      some : eqb (suc n) 0 ≡ false
+      some = ne-eqb (suc n) 0 (λ z. omega arith)
+
+      less : n ≡ suc n - 1
+      less = omega arith
+
+      below-sink : (m lower : ℕ) → structSink m t (takesTrailer s) nested lower ≡ sinkFor s t m true lower
+      below-sink m lower = sym (rw leafy refl)
+
+      go : (c : Child)
+          → onChild t lvl (λ below p longer h v. overIfLong longer ++ level (structSink n t (takesTrailer s) nested below) v (grownPath p longer)) path handle w c
+          ≡ byKind s t (suc n) i path first handle w (kindBy t (suc n) lvl handle (w .size) c)
+      go child.Leaf = refl
+      go (child.Array lower) = rw some (go2 (eqb (w .size) 0))
+        where
+          longer : List ℕ
+          longer = dot path (labelBytes t handle (containerLabel t lvl handle))
+
+          go2 : (x : Bool) → (if x then [] else (overIfLong longer ++ level (structSink n t (takesTrailer s) nested lower) w (grownPath path longer)))
+              ≡ byKind s t (suc n) i path first handle w (if x then kind.Nothing else kind.Array lower (containerLabel t lvl handle))
+          go2 true = refl
+          go2 false =
+              ap (λ (k : Sink). overIfLong longer ++ level k w (grownPath path longer)) (below-sink n lower)
+              ∙ ap (λ (m : ℕ). overIfLong longer ++ level (sinkFor s t m true lower) w (grownPath path longer)) less
+
+field-kind : (s : Walk) (t : Tables) (below : ℕ) (inside : Bool) (lvl i : ℕ) (path : List ℕ) (first : Bool) (handle : ℕ) (w : Window)
     → sinkFor s t below inside lvl .field i path first handle w ≡ byKind s t below i path first handle w (kindOf s t below lvl handle (w .size))
-unfolding sinkFor structSink byKind flatField taggedLeaf kindOf
-field-kind (sink.Record trailer) t zero inside lvl i path first handle w = go (child (t .rows) lvl handle)
+unfolding sinkFor byKind flatField kindOf
+field-kind s t below inside lvl i path first handle w = go (givesLeaves s) refl
   where
-    go : (c : Child) → onChild t lvl tooDeep path handle w c ≡ byKind (sink.Record trailer) t 0 i path first handle w (kindBy t 0 lvl handle (w .size) c)
-    go child.Leaf = refl
-    go (child.Array lower) = go2 (eqb (w .size) 0)
-      where
-        go2 : (x : Bool) → (if x then [] else tooDeep lower path (dot path (labelBytes t handle (containerLabel t lvl handle))) handle w)
-            ≡ byKind (sink.Record trailer) t 0 i path first handle w (if x then kind.Nothing else kind.Deep (containerLabel t lvl handle))
-        go2 true = refl
-        go2 false = refl
-field-kind (sink.Record trailer) t (suc n) inside lvl i path first handle w = go (child (t .rows) lvl handle)
-  where
-    some : eqb (suc n) 0 ≡ false
-    some = ne-eqb (suc n) 0 (λ z. omega arith)
+    go : (b : Bool) → givesLeaves s ≡ b
+        → sinkFor s t below inside lvl .field i path first handle w ≡ byKind s t below i path first handle w (kindOf s t below lvl handle (w .size))
+    go true e = rw e (leafy-kind s e t lvl i path first handle w below inside)
+    go false e = rw e refl
 
-    less : n ≡ suc n - 1
-    less = omega arith
-
-    go : (c : Child) → onChild t lvl (λ below p longer h v. noted longer ++ level (structSink n t trailer nested below) v (grown p longer)) path handle w c
-        ≡ byKind (sink.Record trailer) t (suc n) i path first handle w (kindBy t (suc n) lvl handle (w .size) c)
-    go child.Leaf = refl
-    go (child.Array lower) = rw some (go2 (eqb (w .size) 0))
-      where
-        longer : List ℕ
-        longer = dot path (labelBytes t handle (containerLabel t lvl handle))
-
-        go2 : (x : Bool) → (if x then [] else (noted longer ++ level (structSink n t trailer nested lower) w (grown path longer)))
-            ≡ byKind (sink.Record trailer) t (suc n) i path first handle w (if x then kind.Nothing else kind.Array lower (containerLabel t lvl handle))
-        go2 true = refl
-        go2 false = ap (λ (m : ℕ). noted longer ++ level (structSink m t trailer nested lower) w (grown path longer)) less
-field-kind sink.Object t below inside lvl i path first handle w = refl
-
-flat-kind : (s : Sink) (t : Tables) (below i : ℕ) (path : List ℕ) (first : Bool) (handle : ℕ) (w : Window) (k : Kind) → NotArray k
+flat-kind : (s : Walk) (t : Tables) (below i : ℕ) (path : List ℕ) (first : Bool) (handle : ℕ) (w : Window) (k : Kind) → NotArray k
     → byKind s t below i path first handle w k ≡ flatField t i path first handle w k
 unfolding byKind
 flat-kind s t below i path first handle w kind.Object n = refl
@@ -170,7 +191,7 @@ flat-kind s t below i path first handle w (kind.Leaf x) n = refl
 flat-kind s t below i path first handle w (kind.Deep x) n = refl
 flat-kind s t below i path first handle w (kind.Array lower x) n = absurd n
 
-module _ (s : Sink) (t : Tables) (below : ℕ) (inside : Bool) (lvl i : ℕ) (path : List ℕ) (first : Bool) (handle : ℕ) (w : Window) where
+module _ (s : Walk) (t : Tables) (below : ℕ) (inside : Bool) (lvl i : ℕ) (path : List ℕ) (first : Bool) (handle : ℕ) (w : Window) where
   -- a field that is no array to walk
   pub field-flat : (k : Kind) → k ≡ kindOf s t below lvl handle (w .size) → NotArray k
       → sinkFor s t below inside lvl .field i path first handle w ≡ flatField t i path first handle w k
@@ -186,10 +207,10 @@ module _ (s : Sink) (t : Tables) (below : ℕ) (inside : Bool) (lvl i : ℕ) (pa
   field-array lower x e = field-kind s t below inside lvl i path first handle w ∙ ap (byKind s t below i path first handle w) (sym e)
 
 -- an array is walked only where levels are left
-pub array-below : (s : Sink) (t : Tables) (below lvl handle width lower : ℕ) (x : Label) → kind.Array lower x ≡ kindOf s t below lvl handle width → 0 < below
+pub array-below : (s : Walk) (t : Tables) (below lvl handle width lower : ℕ) (x : Label) → kind.Array lower x ≡ kindOf s t below lvl handle width → 0 < below
 unfolding kindOf
 array-below s t (suc n) lvl handle width lower x e = omega arith
-array-below (sink.Record trailer) t zero lvl handle width lower x e = go (child (t .rows) lvl handle) e
+array-below s t zero lvl handle width lower x e = by-walk (givesLeaves s) e
   where
     go2 : (y : Bool) (z : Label) → kind.Array lower x ≡ (if y then kind.Nothing else kind.Deep z) → 0 < 0
     go2 true z f = never cc
@@ -198,4 +219,7 @@ array-below (sink.Record trailer) t zero lvl handle width lower x e = go (child 
     go : (c : Child) → kind.Array lower x ≡ kindBy t 0 lvl handle width c → 0 < 0
     go child.Leaf f = never cc
     go (child.Array l) f = go2 (eqb width 0) (containerLabel t lvl handle) f
-array-below sink.Object t zero lvl handle width lower x e = never cc
+
+    by-walk : (b : Bool) → kind.Array lower x ≡ (if b then kindBy t 0 lvl handle width (child (t .rows) lvl handle) else kind.Object) → 0 < 0
+    by-walk true f = go (child (t .rows) lvl handle) f
+    by-walk false f = never cc

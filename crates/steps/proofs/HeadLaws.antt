@@ -14,8 +14,9 @@ use Rattle.bits.specs.declared.Packed.the-variants.{Whole}
 use Rattle.bits.proofs.FieldLaws.{field-low, field-high, bound, joined, inside, placed}
 use Rattle.bits.proofs.PackedLaws.{packed-one}
 use Rattle.bits.proofs.PackedWindows.{Lies, whole, cut, goes-on, overflows, packed-lies}
+use Rattle.bits.specs.Sizes.{maxElements}
 use Rattle.framing.specs.Windows.{Window, Reading, got, failed, readingOf, reading}
-use Rattle.framing.specs.Walk.{maxElements, numberAt, closes, opens, lead, withWidth, fieldOf}
+use Rattle.framing.specs.Walk.{numberAt, closes, opens, lead, withWidth, fieldOf}
 use Rattle.framing.proofs.StepLaws.{lead-ends, lead-fails, lead-zero, lead-more, fieldAt-lead}
 use Rattle.steps.specs.Views.{upTo}
 use Rattle.steps.specs.Heads.{numberOf, countHead, levelHead, indexHead, elementHead, lastHead, dueHead, fieldHead, sizedHead, widthHead}

@@ -2,7 +2,7 @@
 use Prim.Native.Nat.{ℕ}
 use mathlib.Core.Path.{_≡_, refl, sym, ap, _∙_, subst}
 use mathlib.Core.Logic.{_⊎_, inl, inr}
-use mathlib.Core.Bool.{Bool}
+use mathlib.Core.Bool.{Bool, true, false}
 use mathlib.Core.List.{List}
 use lib.ListN.{length}
 use borrow.Author.Tests.{eq-eqb, ne-eqb}
@@ -16,26 +16,25 @@ use Rattle.schema.specs.declared.Label.{Label}
 use Rattle.schema.proofs.LabelLaws.{container-from, leaf-from}
 use Rattle.framing.specs.Windows.{Window}
 use Rattle.framing.specs.Events.{truncation}
-use Rattle.framing.specs.Sinks.{objectField}
+use Rattle.framing.specs.Sinks.{objectField, givesLeaves}
 use Rattle.outputs.specs.World.{World}
-use Rattle.steps.specs.Held.{held, ran, bumped}
+use Rattle.steps.specs.Tally.{slots, truncationsSlot, worldOf, played, bumped}
 use Rattle.steps.specs.Kinds.{kindBy, kindOf, KindLies}
 use Rattle.steps.specs.Gives.{taggedLeaf, flatField}
 use Rattle.steps.specs.declared.Tag.the-variants as tag
-use Rattle.steps.specs.declared.Sink.{Sink}
-use Rattle.steps.specs.declared.Sink.the-variants as sink
+use Rattle.framing.specs.declared.Walk.{Walk}
 use Rattle.steps.specs.declared.Kind.{Kind}
 use Rattle.steps.specs.declared.Kind.the-variants as kind
-use Rattle.steps.proofs.TallyLaws.{count-truncation, ran-none, ran-then}
+use Rattle.steps.proofs.TallyLaws.{count-truncation, played-none, played-then}
 
 -- ---- what a field is
 
-module _ (s : Sink) (t : Tables) (below level handle width : ℕ) where
-  pub kind-object : s ≡ sink.Object → kind.Object ≡ kindOf s t below level handle width
+module _ (s : Walk) (t : Tables) (below level handle width : ℕ) where
+  pub kind-object : givesLeaves s ≡ false → kind.Object ≡ kindOf s t below level handle width
   unfolding kindOf
   kind-object e = rw e refl
 
-  module _ (trailer : Bool) (e : s ≡ sink.Record trailer) (x : Entry) (found : x ≡ entry (t .rows) level handle) where
+  module _ (e : givesLeaves s ≡ true) (x : Entry) (found : x ≡ entry (t .rows) level handle) where
     by-child : (y : Child) → x .child ≡ y → kindBy t below level handle width y ≡ kindOf s t below level handle width
     unfolding kindOf
     by-child y q =
@@ -66,48 +65,48 @@ module _ (s : Sink) (t : Tables) (below level handle width : ℕ) where
 -- ---- what a field gives
 
 module _ (t : Tables) (index : ℕ) (path : List ℕ) (first : Bool) (handle : ℕ) (w : Window) (k : Kind) where
-  flat-by : (k′ : Kind) (v v′ : World) → k ≡ k′ → v′ ≡ ran (flatField t index path first handle w k′) v → v′ ≡ ran (flatField t index path first handle w k) v
-  flat-by k′ v v′ e q = q ∙ ap (λ (x : Kind). ran (flatField t index path first handle w x) v) (sym e)
+  flat-by : (k′ : Kind) (v v′ : World) → k ≡ k′ → v′ ≡ played (flatField t index path first handle w k′) v → v′ ≡ played (flatField t index path first handle w k) v
+  flat-by k′ v v′ e q = q ∙ ap (λ (x : Kind). played (flatField t index path first handle w x) v) (sym e)
 
-  pub flat-object : (v v′ : World) → k ≡ kind.Object → v′ ≡ ran (objectField index first w) v → v′ ≡ ran (flatField t index path first handle w k) v
+  pub flat-object : (v v′ : World) → k ≡ kind.Object → v′ ≡ played (objectField index first w) v → v′ ≡ played (flatField t index path first handle w k) v
   unfolding flatField
   flat-object v v′ e q = flat-by kind.Object v v′ e q
 
-  pub flat-nothing : (v : World) → k ≡ kind.Nothing → v ≡ ran (flatField t index path first handle w k) v
+  pub flat-nothing : (v : World) → k ≡ kind.Nothing → v ≡ played (flatField t index path first handle w k) v
   unfolding flatField
-  flat-nothing v e = flat-by kind.Nothing v v e (ran-none v)
+  flat-nothing v e = flat-by kind.Nothing v v e (played-none v)
 
-  pub flat-array : (v : World) (lower : ℕ) (x : Label) → k ≡ kind.Array lower x → v ≡ ran (flatField t index path first handle w k) v
+  pub flat-array : (v : World) (lower : ℕ) (x : Label) → k ≡ kind.Array lower x → v ≡ played (flatField t index path first handle w k) v
   unfolding flatField
-  flat-array v lower x e = flat-by (kind.Array lower x) v v e (ran-none v)
+  flat-array v lower x e = flat-by (kind.Array lower x) v v e (played-none v)
 
 -- ---- what one gives that holds the label of a leaf
 
 -- The kind k holds the label l, and what it counts before its leaf makes c₁ of the numbers c: nothing, or the truncation of an array
 -- below the last level.
 abbrev pub Labelled : Kind → (c c₁ : List ℕ) → Label → Type 0
-Labelled k c c₁ l = ((k ≡ kind.Leaf l) × (c₁ ≡ c)) ⊎ ((k ≡ kind.Deep l) × (length c ≡ 11) × (c₁ ≡ bumped c 2 1))
+Labelled k c c₁ l = ((k ≡ kind.Leaf l) × (c₁ ≡ c)) ⊎ ((k ≡ kind.Deep l) × (length c ≡ slots) × (c₁ ≡ bumped c truncationsSlot 1))
 
 module _ (k : Kind) (c c₁ : List ℕ) (l : Label) where
   pub labelled-leaf : (x : Label) → k ≡ kind.Leaf x → l ≡ x → c₁ ≡ c → Labelled k c c₁ l
   labelled-leaf x e q ec = inl (e ∙ ap (λ (n : Label). kind.Leaf n) (sym q), ec)
 
-  pub labelled-deep : (x : Label) (c₂ : List ℕ) → k ≡ kind.Deep x → l ≡ x → length c ≡ 11 → c₂ ≡ bumped c 2 1 → c₁ ≡ c₂ → Labelled k c c₁ l
-  labelled-deep x c₂ e q eleven ec e₂ = inr (e ∙ ap (λ (n : Label). kind.Deep n) (sym q), eleven, e₂ ∙ ec)
+  pub labelled-deep : (x : Label) (c₂ : List ℕ) → k ≡ kind.Deep x → l ≡ x → length c ≡ slots → c₂ ≡ bumped c truncationsSlot 1 → c₁ ≡ c₂ → Labelled k c c₁ l
+  labelled-deep x c₂ e q sized ec e₂ = inr (e ∙ ap (λ (n : Label). kind.Deep n) (sym q), sized, e₂ ∙ ec)
 
   pub labelled-lies : (t : Tables) → Labelled k c c₁ l → KindLies t k → LabelLies t l
   labelled-lies t (inl w) h = subst (KindLies t) (w .0) h
   labelled-lies t (inr w) h = subst (KindLies t) (w .0) h
 
-  pub flat-labelled : (t : Tables) (index : ℕ) (path : List ℕ) (first : Bool) (handle : ℕ) (w : Window) (words text load : List ℕ) (v′ : World)
-      → Labelled k c c₁ l → v′ ≡ ran (taggedLeaf t path handle (tag.Label l) w) (held c₁ words text load)
-      → v′ ≡ ran (flatField t index path first handle w k) (held c words text load)
+  pub flat-labelled : (t : Tables) (index : ℕ) (path : List ℕ) (first : Bool) (handle : ℕ) (w : Window) (records paths payloads : List ℕ) (v′ : World)
+      → Labelled k c c₁ l → v′ ≡ played (taggedLeaf t path handle (tag.Label l) w) (worldOf c₁ records paths payloads)
+      → v′ ≡ played (flatField t index path first handle w k) (worldOf c records paths payloads)
   unfolding flatField
-  flat-labelled t index path first handle w words text load v′ (inl (e, ec)) r =
-      flat-by t index path first handle w k (kind.Leaf l) (held c words text load) v′ e
-      (r ∙ ap (λ (n : List ℕ). ran (taggedLeaf t path handle (tag.Label l) w) (held n words text load)) ec)
-  flat-labelled t index path first handle w words text load v′ (inr (e, eleven, ec)) r =
-      flat-by t index path first handle w k (kind.Deep l) (held c words text load) v′ e
+  flat-labelled t index path first handle w records paths payloads v′ (inl (e, ec)) r =
+      flat-by t index path first handle w k (kind.Leaf l) (worldOf c records paths payloads) v′ e
+      (r ∙ ap (λ (n : List ℕ). played (taggedLeaf t path handle (tag.Label l) w) (worldOf n records paths payloads)) ec)
+  flat-labelled t index path first handle w records paths payloads v′ (inr (e, sized, ec)) r =
+      flat-by t index path first handle w k (kind.Deep l) (worldOf c records paths payloads) v′ e
       (r
-      ∙ ap (ran (taggedLeaf t path handle (tag.Label l) w)) (ap (λ (n : List ℕ). held n words text load) ec ∙ count-truncation words text load c eleven)
-      ∙ ran-then truncation (taggedLeaf t path handle (tag.Label l) w) (held c words text load))
+      ∙ ap (played (taggedLeaf t path handle (tag.Label l) w)) (ap (λ (n : List ℕ). worldOf n records paths payloads) ec ∙ count-truncation records paths payloads c sized)
+      ∙ played-then truncation (taggedLeaf t path handle (tag.Label l) w) (worldOf c records paths payloads))

@@ -3,20 +3,21 @@ use Prim.Native.Nat.{ℕ, _+_, _-_, _≤_, _<_}
 use mathlib.Core.Path.{_≡_, refl, sym, ap, _∙_}
 use mathlib.Core.List.{List, [], _∷_, _++_}
 use native.Mathlib.Omega.{arith}
-use lib.ListN.{length, take, getD}
+use lib.ListN.{length, take}
 use borrow.Author.Tests.{le-leb, lt-leb}
 use Rattle.bits.specs.Bits.{num, field}
 use Rattle.bits.specs.Runs.{bytesOf, bytesFor, put, store}
 use Rattle.bits.proofs.RunLaws.{store-fits, length-bytesOf}
+use Rattle.bits.specs.Sizes.{maxName, longestPath}
 use Rattle.schema.specs.Tables.{Tables}
 use Rattle.schema.specs.Labels.{dot}
-use Rattle.schema.specs.Layout.{maxName}
 use Rattle.schema.proofs.LaidLaws.{label-length, label-short}
 use Rattle.framing.specs.Windows.{Window}
 use Rattle.framing.specs.Events.{Leaf, leaf, over, Trace}
-use Rattle.framing.specs.Paths.{given, longestPath}
+use Rattle.framing.specs.Paths.{leafOrOver}
 use Rattle.framing.specs.Sinks.{leafOf}
-use Rattle.steps.specs.Held.{held, ran, bumped, reserved}
+use Rattle.framing.specs.Records.{leafWords, leafNumbers}
+use Rattle.steps.specs.Tally.{slots, slot, oversSlot, recordsSlot, pathsSlot, payloadsSlot, worldOf, played, bumped, reserved}
 use Rattle.steps.specs.Views.{inner}
 use Rattle.steps.specs.Paths.{tagBytes, tagLength, TagLies}
 use Rattle.steps.specs.Gives.{taggedLeaf}
@@ -35,17 +36,17 @@ tag-short t handle (tag.Label l) h = label-short t handle l h
 tag-short t handle tag.Raw h = omega arith
 
 -- a leaf's path that fits is given, and one that does not is counted
-pub given-short : (x : Leaf) → length (x .path) ≤ longestPath → given x ≡ leaf x ∷ []
-unfolding given
+pub given-short : (x : Leaf) → length (x .path) ≤ longestPath → leafOrOver x ≡ leaf x ∷ []
+unfolding leafOrOver
 given-short x h = rw (le-leb (length (x .path)) longestPath h)
 
-pub given-long : (x : Leaf) → longestPath < length (x .path) → given x ≡ over ∷ []
-unfolding given
+pub given-long : (x : Leaf) → longestPath < length (x .path) → leafOrOver x ≡ over ∷ []
+unfolding leafOrOver
 given-long x h = rw (lt-leb (length (x .path)) longestPath h)
 
 -- the leaf with this tag behind the first `plen` bytes of the working path
 module _ (t : Tables) (handle : ℕ) (x : Tag) (path : List ℕ) (plen n : ℕ)
-    (lies : TagLies t x) (sized : length path ≡ 1024) (front : plen ≤ 1024) (n-is : n ≡ plen + 1 + tagLength handle x) where
+    (lies : TagLies t x) (sized : length path ≡ longestPath) (front : plen ≤ longestPath) (n-is : n ≡ plen + 1 + tagLength handle x) where
   pub path-length : length (dot (take plen path) (tagBytes t handle x)) ≡ n
   unfolding dot
   path-length =
@@ -64,29 +65,29 @@ module _ (t : Tables) (handle : ℕ) (x : Tag) (path : List ℕ) (plen n : ℕ)
       let l = path-length in
       ed ∙ ap (put d at) m ∙ sym (store-fits d at (take plen path ++ (46 ∷ tagBytes t handle x)) (omega arith))
 
-  module _ (bytes : List ℕ) («from» end origin : ℕ) (c c′ words text load : List ℕ) (eleven : length c ≡ 11) where
-    pub leaf-over : longestPath < n → c′ ≡ bumped c 7 1
-        → held c′ words text load ≡ ran (taggedLeaf t (take plen path) handle x (inner bytes «from» end origin)) (held c words text load)
+  module _ (bytes : List ℕ) («from» end origin : ℕ) (c c′ records paths payloads : List ℕ) (counted : length c ≡ slots) where
+    pub leaf-over : longestPath < n → c′ ≡ bumped c oversSlot 1
+        → worldOf c′ records paths payloads ≡ played (taggedLeaf t (take plen path) handle x (inner bytes «from» end origin)) (worldOf c records paths payloads)
     unfolding taggedLeaf
     leaf-over h e =
         let l = path-length in
         let w : Window = inner bytes «from» end origin in
-        ap (λ (k : List ℕ). held k words text load) e
-        ∙ count-over words text load c eleven
-        ∙ ap (λ (u : Trace). ran u (held c words text load)) (sym (given-long (leafOf (dot (take plen path) (tagBytes t handle x)) handle w) (omega arith)))
+        ap (λ (k : List ℕ). worldOf k records paths payloads) e
+        ∙ count-over records paths payloads c counted
+        ∙ ap (λ (u : Trace). played u (worldOf c records paths payloads)) (sym (given-long (leafOf (dot (take plen path) (tagBytes t handle x)) handle w) (omega arith)))
 
-    pub leaf-put : (words′ text′ load′ : List ℕ) → n ≤ longestPath → c′ ≡ reserved c 5 n (bytesFor (end - «from»))
-        → words′ ≡ store words (getD c 8 0) (getD c 9 0 ∷ n ∷ handle ∷ (end - «from») ∷ getD c 10 0 ∷ [])
-        → text′ ≡ store text (getD c 9 0) (dot (take plen path) (tagBytes t handle x))
-        → load′ ≡ store load (getD c 10 0) (bytesOf (bytesFor (end - «from»)) (field (num bytes) «from» (end - «from»)))
-        → held c′ words′ text′ load′ ≡ ran (taggedLeaf t (take plen path) handle x (inner bytes «from» end origin)) (held c words text load)
+    pub leaf-put : (records′ paths′ payloads′ : List ℕ) → n ≤ longestPath → c′ ≡ reserved c leafWords n (bytesFor (end - «from»))
+        → records′ ≡ store records (slot c recordsSlot) (leafNumbers (slot c pathsSlot) n handle (end - «from») (slot c payloadsSlot))
+        → paths′ ≡ store paths (slot c pathsSlot) (dot (take plen path) (tagBytes t handle x))
+        → payloads′ ≡ store payloads (slot c payloadsSlot) (bytesOf (bytesFor (end - «from»)) (field (num bytes) «from» (end - «from»)))
+        → worldOf c′ records′ paths′ payloads′ ≡ played (taggedLeaf t (take plen path) handle x (inner bytes «from» end origin)) (worldOf c records paths payloads)
     unfolding taggedLeaf inner
-    leaf-put words′ text′ load′ h ec ew et el =
+    leaf-put records′ paths′ payloads′ h ec ew et el =
         let l = path-length in
         let y = leafOf (dot (take plen path) (tagBytes t handle x)) handle (inner bytes «from» end origin) in
         let s : bytesFor (end - «from») ≡ length (bytesOf (bytesFor (end - «from»)) (field (num bytes) «from» (end - «from»))) =
         sym (length-bytesOf (bytesFor (end - «from»)) (field (num bytes) «from» (end - «from»))) in
-        ap (λ (k : List ℕ). held k words′ text′ load′) ec
-        ∙ leaf-counted c words text load eleven y n (bytesFor (end - «from»)) words′ text′ load′ (sym l) s
-        (ew ∙ ap (λ (k : ℕ). store words (getD c 8 0) (getD c 9 0 ∷ k ∷ handle ∷ (end - «from») ∷ getD c 10 0 ∷ [])) (sym l)) et el
-        ∙ ap (λ (u : Trace). ran u (held c words text load)) (sym (given-short y (omega arith)))
+        ap (λ (k : List ℕ). worldOf k records′ paths′ payloads′) ec
+        ∙ leaf-counted c records paths payloads counted y n (bytesFor (end - «from»)) records′ paths′ payloads′ (sym l) s
+        (ew ∙ ap (λ (k : ℕ). store records (slot c recordsSlot) (leafNumbers (slot c pathsSlot) k handle (end - «from») (slot c payloadsSlot))) (sym l)) et el
+        ∙ ap (λ (u : Trace). played u (worldOf c records paths payloads)) (sym (given-short y (omega arith)))

@@ -10,31 +10,31 @@ use Rattle.framing.specs.Events.{number, pair, error, nested, Trace}
 use Rattle.framing.specs.Walk.{numberAt}
 use Rattle.framing.specs.Sinks.{guidOf, objectField}
 use Rattle.outputs.specs.World.{World}
-use Rattle.steps.specs.Held.{ran}
+use Rattle.steps.specs.Tally.{played}
 use Rattle.steps.specs.Views.{inner, upTo}
 use Rattle.steps.specs.Heads.{numberOf}
 use Rattle.steps.specs.declared.Number.the-variants as number
-use Rattle.steps.proofs.TallyLaws.{ran-none, ran-number}
+use Rattle.steps.proofs.TallyLaws.{played-none, played-number}
 use Rattle.steps.proofs.HeadLaws.{number-got, number-failed}
 use Rattle.steps.proofs.ViewLaws.{reading-start}
 
 -- The field that is the bits b..end of the bytes, in the world W, which the code makes W′.
 module _ (bytes : List ℕ) (b end o index : ℕ) (W W′ : World) (h : b ≤ end) where
-  gives : (first : Bool) (t : Trace) → objectField index first (inner bytes b end o) ≡ t → W′ ≡ ran t W
-      → W′ ≡ ran (objectField index first (inner bytes b end o)) W
-  gives first t e d = d ∙ ap (λ (u : Trace). ran u W) (sym e)
+  gives : (first : Bool) (t : Trace) → objectField index first (inner bytes b end o) ≡ t → W′ ≡ played t W
+      → W′ ≡ played (objectField index first (inner bytes b end o)) W
+  gives first t e d = d ∙ ap (λ (u : Trace). played u W) (sym e)
 
-  pub object-empty : (first : Bool) → b ≡ end → W′ ≡ W → W′ ≡ ran (objectField index first (inner bytes b end o)) W
+  pub object-empty : (first : Bool) → b ≡ end → W′ ≡ W → W′ ≡ played (objectField index first (inner bytes b end o)) W
   unfolding inner
   object-empty first e d =
       let z : end - b ≡ 0 = omega arith in
-      gives first [] (simp (eq-eqb (end - b) 0 z)) (d ∙ ran-none W)
+      gives first [] (simp (eq-eqb (end - b) 0 z)) (d ∙ played-none W)
 
   module _ (n : b ≡ end → ⊥) where
     some-bits : end - b ≡ 0 → ⊥
     some-bits z = n (omega arith)
 
-    pub object-later : (first : Bool) → first ≡ false → W′ ≡ ran (nested (end - b) ∷ []) W → W′ ≡ ran (objectField index first (inner bytes b end o)) W
+    pub object-later : (first : Bool) → first ≡ false → W′ ≡ played (nested (end - b) ∷ []) W → W′ ≡ played (objectField index first (inner bytes b end o)) W
     unfolding inner
     object-later first e d = gives first (nested (end - b) ∷ []) (simp (ne-eqb (end - b) 0 some-bits, e)) d
 
@@ -46,13 +46,13 @@ module _ (bytes : List ℕ) (b end o index : ℕ) (W W′ : World) (h : b ≤ en
       guided-by : (r : Reading) → reading (upTo bytes end) b ≡ r → objectField index first (inner bytes b end o) ≡ guidOf index (inner bytes b end o) r
       guided-by r e = guided ∙ ap (guidOf index (inner bytes b end o)) (reading-start bytes b end o h ∙ e)
 
-      pub object-failed : numberOf b (reading (upTo bytes end) b) ≡ number.Failed → W′ ≡ ran (error ∷ []) W
-          → W′ ≡ ran (objectField index first (inner bytes b end o)) W
+      pub object-failed : numberOf b (reading (upTo bytes end) b) ≡ number.Failed → W′ ≡ played (error ∷ []) W
+          → W′ ≡ played (objectField index first (inner bytes b end o)) W
       object-failed e d = gives first (error ∷ []) (guided-by failed (number-failed _ _ e)) d
 
       module _ (v q : ℕ) (e : numberOf b (reading (upTo bytes end) b) ≡ number.Value v q) where
-        pub object-pair : q ≡ end → W′ ≡ ran (pair (record { index = index; guid = v }) ∷ []) W
-            → W′ ≡ ran (objectField index first (inner bytes b end o)) W
+        pub object-pair : q ≡ end → W′ ≡ played (pair (record { index = index; guid = v }) ∷ []) W
+            → W′ ≡ played (objectField index first (inner bytes b end o)) W
         unfolding inner
         object-pair z d =
             let g = number-got (upTo bytes end) b v q e in
@@ -60,9 +60,9 @@ module _ (bytes : List ℕ) (b end o index : ℕ) (W W′ : World) (h : b ≤ en
             let k : 8 * g .bytes ≡ end - b = omega arith in
             let x = numberAt (inner bytes b end o) 0 (g .bytes) v in
             gives first (number x ∷ pair (record { index = index; guid = v }) ∷ [])
-            (guided-by (got v (g .bytes)) (g .is) ∙ simp (eq-eqb (8 * g .bytes) (end - b) k)) (d ∙ ran-number x _ W)
+            (guided-by (got v (g .bytes)) (g .is) ∙ simp (eq-eqb (8 * g .bytes) (end - b) k)) (d ∙ played-number x _ W)
 
-        pub object-longer : (q ≡ end → ⊥) → W′ ≡ ran (error ∷ []) W → W′ ≡ ran (objectField index first (inner bytes b end o)) W
+        pub object-longer : (q ≡ end → ⊥) → W′ ≡ played (error ∷ []) W → W′ ≡ played (objectField index first (inner bytes b end o)) W
         unfolding inner
         object-longer z d =
             let g = number-got (upTo bytes end) b v q e in
@@ -70,4 +70,4 @@ module _ (bytes : List ℕ) (b end o index : ℕ) (W W′ : World) (h : b ≤ en
             let k : 8 * g .bytes ≡ end - b → ⊥ = λ m. z (omega arith) in
             let x = numberAt (inner bytes b end o) 0 (g .bytes) v in
             gives first (number x ∷ error ∷ [])
-            (guided-by (got v (g .bytes)) (g .is) ∙ simp (ne-eqb (8 * g .bytes) (end - b) k)) (d ∙ ran-number x _ W)
+            (guided-by (got v (g .bytes)) (g .is) ∙ simp (ne-eqb (8 * g .bytes) (end - b) k)) (d ∙ played-number x _ W)

@@ -1,7 +1,7 @@
 -- The working path: what is written behind it, and what it is after it grew.
 use Prim.Native.Nat.{ℕ, suc, _+_, _≤_, _<_}
-use mathlib.Core.Path.{_≡_, refl, sym, ap, _∙_, subst}
-use mathlib.Core.Bool.{Bool}
+use mathlib.Core.Path.{_≡_, refl, sym, ap, _∙_}
+use mathlib.Core.Bool.{true, false}
 use mathlib.Core.List.{List, [], _∷_, _++_, append-assoc}
 use native.Mathlib.Omega.{arith}
 use lib.ListN.{length, take, drop, set, length-append, length-set}
@@ -9,19 +9,20 @@ use lib.Seq.{take-at, length-take-le}
 use borrow.Author.Tests.{le-leb, lt-leb}
 use Rattle.bits.specs.Runs.{put, store}
 use Rattle.bits.proofs.RunLaws.{put-put, put-one, put-two, store-fits, length-put}
+use Rattle.bits.specs.Sizes.{longestPath}
 use Rattle.schema.specs.Tables.{Tables}
 use Rattle.schema.specs.Labels.{decimal, labelBytes, labelLength, labelPart, atIndex, LabelLies}
 use Rattle.schema.specs.declared.Label.{Label}
 use Rattle.schema.specs.declared.Label.the-variants.{Declared, Named, Plain}
 use Rattle.schema.proofs.LaidLaws.{label-bytes, label-length}
 use Rattle.framing.specs.Events.{element, over, Trace}
-use Rattle.framing.specs.Paths.{grown, noted, longestPath}
-use Rattle.steps.specs.Held.{held, ran, bumped}
+use Rattle.framing.specs.Paths.{grownPath, overIfLong}
+use Rattle.steps.specs.Tally.{slots, elementsSlot, oversSlot, worldOf, played, bumped}
 use Rattle.steps.specs.Paths.{tagBytes, Longer, Grew, Entered}
 use Rattle.steps.specs.declared.Tag.{Tag}
-use Rattle.steps.specs.declared.Sink.{Sink}
-use Rattle.steps.specs.declared.Sink.the-variants as sink
-use Rattle.steps.proofs.TallyLaws.{count-element, count-over, ran-none, ran-then}
+use Rattle.framing.specs.declared.Walk.{Walk}
+use Rattle.framing.specs.Sinks.{givesLeaves}
+use Rattle.steps.proofs.TallyLaws.{count-element, count-over, played-none, played-then}
 
 -- ---- runs whose first elements are stored by themselves
 
@@ -116,20 +117,20 @@ length-longer d run n h = length-append (take n d) run ∙ ap (λ (k : ℕ). k +
 -- ---- growing
 
 module _ (path longer : List ℕ) where
-  pub grown-short : length longer ≤ longestPath → grown path longer ≡ longer
-  unfolding grown
+  pub grown-short : length longer ≤ longestPath → grownPath path longer ≡ longer
+  unfolding grownPath
   grown-short h = rw (le-leb (length longer) longestPath h)
 
-  pub grown-long : longestPath < length longer → grown path longer ≡ path
-  unfolding grown
+  pub grown-long : longestPath < length longer → grownPath path longer ≡ path
+  unfolding grownPath
   grown-long h = rw (lt-leb (length longer) longestPath h)
 
-  pub noted-short : length longer ≤ longestPath → noted longer ≡ []
-  unfolding noted
+  pub noted-short : length longer ≤ longestPath → overIfLong longer ≡ []
+  unfolding overIfLong
   noted-short h = rw (le-leb (length longer) longestPath h)
 
-  pub noted-long : longestPath < length longer → noted longer ≡ over ∷ []
-  unfolding noted
+  pub noted-long : longestPath < length longer → overIfLong longer ≡ over ∷ []
+  unfolding overIfLong
   noted-long h = rw (lt-leb (length longer) longestPath h)
 
 -- a run that fits was written behind the path
@@ -139,7 +140,7 @@ grew-more c path path′ run n r h e l q =
     let m = length-longer path run n h in
     let short : length (take n path ++ run) ≤ longestPath = omega arith in
     record {
-      counts = λ words text load. ran-none (held c words text load) ∙ ap (λ (t : Trace). ran t (held c words text load)) (sym (noted-short path (take n path ++ run) short));
+      counts = λ records paths payloads. played-none (worldOf c records paths payloads) ∙ ap (λ (t : Trace). played t (worldOf c records paths payloads)) (sym (noted-short path (take n path ++ run) short));
       is = ap (take r) q ∙ take-put path run n r h e ∙ sym (grown-short (take n path) (take n path ++ run) short);
       more = omega arith;
       within = l;
@@ -147,16 +148,16 @@ grew-more c path path′ run n r h e l q =
     }
 
 -- one that does not fit was counted instead
-pub grew-over : (c c′ path run : List ℕ) (n : ℕ) → length c ≡ 11 → c′ ≡ bumped c 7 1 → n ≤ length path → n ≤ longestPath → longestPath < n + length run
+pub grew-over : (c c′ path run : List ℕ) (n : ℕ) → length c ≡ slots → c′ ≡ bumped c oversSlot 1 → n ≤ length path → n ≤ longestPath → longestPath < n + length run
     → Grew (take n path ++ run) c c′ n n path path
-grew-over c c′ path run n eleven e h l past =
+grew-over c c′ path run n sized e h l past =
     let m = length-longer path run n h in
     let long : longestPath < length (take n path ++ run) = omega arith in
     record {
-      counts = λ words text load.
-          ap (λ (x : List ℕ). held x words text load) e
-          ∙ count-over words text load c eleven
-          ∙ ap (λ (t : Trace). ran t (held c words text load)) (sym (noted-long path (take n path ++ run) long));
+      counts = λ records paths payloads.
+          ap (λ (x : List ℕ). worldOf x records paths payloads) e
+          ∙ count-over records paths payloads c sized
+          ∙ ap (λ (t : Trace). played t (worldOf c records paths payloads)) (sym (noted-long path (take n path ++ run) long));
       is = sym (grown-long (take n path) (take n path ++ run) long);
       more = omega arith;
       within = l;
@@ -166,33 +167,33 @@ grew-over c c′ path run n eleven e h l past =
 -- ---- entering an element
 
 -- an element was counted first
-counted-first : (t : Trace) (new c c₁ c′ path path′ : List ℕ) (i n r : ℕ) → length c ≡ 11 → c₁ ≡ bumped c 0 1
+counted-first : (t : Trace) (new c c₁ c′ path path′ : List ℕ) (i n r : ℕ) → length c ≡ slots → c₁ ≡ bumped c elementsSlot 1
     → Longer t new c₁ c′ n r path path′ → Longer (element i ∷ t) new c c′ n r path path′
-counted-first t new c c₁ c′ path path′ i n r eleven e g =
+counted-first t new c c₁ c′ path path′ i n r sized e g =
     record {
-      counts = λ words text load.
-          g .counts words text load
-          ∙ ap (ran t) (ap (λ (x : List ℕ). held x words text load) e ∙ count-element words text load c i eleven)
-          ∙ ran-then (element i) t (held c words text load);
+      counts = λ records paths payloads.
+          g .counts records paths payloads
+          ∙ ap (played t) (ap (λ (x : List ℕ). worldOf x records paths payloads) e ∙ count-element records paths payloads c i sized)
+          ∙ played-then (element i) t (worldOf c records paths payloads);
       is = g .is;
       more = g .more;
       within = g .within;
       kept = g .kept;
     }
 
-module _ (s : Sink) (i : ℕ) (c c₁ path : List ℕ) (n : ℕ) (eleven : length c ≡ 11) (counts : c₁ ≡ bumped c 0 1) where
+module _ (s : Walk) (i : ℕ) (c c₁ path : List ℕ) (n : ℕ) (sized : length c ≡ slots) (counts : c₁ ≡ bumped c elementsSlot 1) where
   -- the object walk has no paths
-  pub entered-object : s ≡ sink.Object → n ≤ longestPath → Entered s i c c₁ n n path path
+  pub entered-object : givesLeaves s ≡ false → n ≤ longestPath → Entered s i c c₁ n n path path
   entered-object e l =
-      subst (λ (x : Sink). Entered x i c c₁ n n path path) (sym e)
-      (counted-first [] (take n path) c c₁ c₁ path path i n n eleven counts
-      (record { counts = λ words text load. ran-none (held c₁ words text load); is = refl; more = omega arith; within = l; kept = refl }))
+      rw e
+      (counted-first [] (take n path) c c₁ c₁ path path i n n sized counts
+      (record { counts = λ records paths payloads. played-none (worldOf c₁ records paths payloads); is = refl; more = omega arith; within = l; kept = refl }))
 
-  pub entered-record : (trailer : Bool) (c′ path′ : List ℕ) (r : ℕ) → s ≡ sink.Record trailer → Grew (atIndex (take n path) i) c₁ c′ n r path path′
+  pub entered-leafy : (c′ path′ : List ℕ) (r : ℕ) → givesLeaves s ≡ true → Grew (atIndex (take n path) i) c₁ c′ n r path path′
       → Entered s i c c′ n r path path′
-  entered-record trailer c′ path′ r e g =
-      subst (λ (x : Sink). Entered x i c c′ n r path path′) (sym e)
-      (counted-first (noted (atIndex (take n path) i)) (grown (take n path) (atIndex (take n path) i)) c c₁ c′ path path′ i n r eleven counts g)
+  entered-leafy c′ path′ r e g =
+      rw e
+      (counted-first (overIfLong (atIndex (take n path) i)) (grownPath (take n path) (atIndex (take n path) i)) c c₁ c′ path path′ i n r sized counts g)
 
 -- how long `[index]` is
 pub index-length : (i : ℕ) → length (91 ∷ decimal i ++ (93 ∷ [])) ≡ length (decimal i) + 2

@@ -1,5 +1,5 @@
 -- A window that starts b bits into the bytes: what stands at its bit p is what stands at bit b + p of the bytes.
-use Prim.Native.Nat.{ℕ, zero, suc, _+_, _-_, _*_, _/_, _%_, _≤_, _<_}
+use Prim.Native.Nat.{ℕ, zero, suc, _+_, _-_, _*_, _/_, _%_, _≤_}
 use native.Mathlib.Nat.{add-assoc, add-zero}
 use native.Mathlib.Omega.{arith}
 use mathlib.Core.Path.{_≡_, refl, sym, ap, ap₂, _∙_}
@@ -8,18 +8,17 @@ use mathlib.Core.List.{List, [], _∷_}
 use lib.Dec.{leb, ltb, eqb}
 use borrow.Author.Tests.{leb-true, leb-false, ltb-true, ltb-false, le-leb, lt-leb, lt-ltb, le-ltb}
 use Rattle.bits.specs.Choice.{if_then_else_}
+use Rattle.bits.specs.Sizes.{trailerBits, maxElements}
 use lib.ListN.{take, drop}
 use Rattle.bits.specs.Bits.{num, field, Bytes}
 use Rattle.bits.proofs.FieldLaws.{field-field, field-part}
 use Rattle.schema.specs.Labels.{dot, rawLabel}
 use Rattle.framing.specs.Windows.{Window, part, Reading, got, failed, reading}
-use Rattle.framing.specs.Events.{Leaf, rawHandle, Event, error, Trace, number}
-use Rattle.framing.specs.Paths.{given}
-use Rattle.framing.specs.Walk.{Sink, numberAt, Lead, ends, fails, closes, opens, leadOf, lead, Due, cut, broken, closed, present, withWidth, fieldOf, fieldAt, rawLeaf, tail, trailerBits, trailerOf, closing, maxElements}
+use Rattle.framing.specs.Events.{rawHandle, Event, Trace, number}
+use Rattle.framing.specs.Walk.{Sink, numberAt, ends, leadOf, lead, withWidth, fieldOf, fieldAt, rawLeaf, tail, trailerOf, closing}
 use Rattle.steps.specs.Views.{inner, upTo}
 use Rattle.steps.specs.Heads.{numberOf, countHead, levelHead, indexHead, elementHead, lastHead, dueHead, fieldHead, shifted}
 use Rattle.steps.proofs.ViewLaws.{reading-inner}
-use Rattle.steps.specs.declared.Head.{Head}
 use Rattle.steps.specs.declared.Head.the-variants as head
 
 -- ---- tests and choices
@@ -38,10 +37,6 @@ ltb-shift b e p q h s = go (ltb e q) refl
     go true r = let z = ltb-true e q r in lt-ltb (e - b) p (omega arith)
     go false r = let z = ltb-false e q r in le-ltb (e - b) p (omega arith)
 
-shifted-if : (b : ℕ) (x : Bool) (g h : Head) → shifted b (if x then g else h) ≡ (if x then shifted b g else shifted b h)
-shifted-if b true g h = refl
-shifted-if b false g h = refl
-
 go-at : (v q r : ℕ) → q ≡ r → head.Go v q q ≡ head.Go v r r
 go-at v q r e = ap (λ (n : ℕ). head.Go v n n) e
 
@@ -51,10 +46,6 @@ module _ (bytes : List ℕ) (b end o : ℕ) (h : b ≤ end) where
   pub size-inner : (inner bytes b end o) .size ≡ end - b
   unfolding inner
   size-inner = refl
-
-  pub size-upTo : (upTo bytes end) .size ≡ end
-  unfolding upTo
-  size-upTo = refl
 
   past : (p : ℕ) → leb ((inner bytes b end o) .size) p ≡ leb ((upTo bytes end) .size) (b + p)
   unfolding inner upTo

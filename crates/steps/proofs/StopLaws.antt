@@ -15,36 +15,35 @@ use Rattle.bits.proofs.FieldLaws.{field-field}
 use Rattle.schema.specs.Tables.{Tables}
 use Rattle.schema.specs.Labels.{dot, rawLabel}
 use Rattle.framing.specs.Events.{rawHandle, truncation, Trace}
-use Rattle.framing.specs.Paths.{given}
+use Rattle.framing.specs.Paths.{leafOrOver}
 use Rattle.framing.specs.Walk as W
 use Rattle.framing.specs.Walk.{tail, closing, rawLeaf}
-use Rattle.framing.specs.Sinks.{leafOf}
+use Rattle.framing.specs.Sinks.{leafOf, givesLeaves}
 use Rattle.outputs.specs.World.{World}
-use Rattle.steps.specs.Held.{held, ran, bumped}
+use Rattle.steps.specs.Tally.{slots, truncationsSlot, errorsSlot, implicitSlot, worldOf, played, bumped}
 use Rattle.steps.specs.Views.{inner, exitSink}
 use Rattle.steps.specs.Gives.{taggedLeaf, fieldsStop, levelStop}
 use Rattle.steps.specs.declared.Tag.the-variants as tag
-use Rattle.steps.specs.declared.Sink.{Sink}
-use Rattle.steps.specs.declared.Sink.the-variants as sink
+use Rattle.framing.specs.declared.Walk.{Walk}
 use Rattle.steps.specs.declared.Head.{Head}
 use Rattle.steps.specs.declared.Head.the-variants as head
 use Rattle.steps.proofs.Head.{the-type}
 use Rattle.steps.proofs.CaseLaws.{not-closed, fields-stop}
-use Rattle.steps.proofs.TallyLaws.{count-truncation, count-error, count-implicit, ran-none, ran-then}
+use Rattle.steps.proofs.TallyLaws.{count-truncation, count-error, count-implicit, played-none, played-then}
 
 -- ---- a tail
 
-module _ (s : Sink) (inside : Bool) (bytes : List ℕ) (at end origin : ℕ) (path : List ℕ) (w : World) where
+module _ (s : Walk) (inside : Bool) (bytes : List ℕ) (at end origin : ℕ) (path : List ℕ) (w : World) where
   -- the object walk keeps none
-  pub tail-object : s ≡ sink.Object → w ≡ ran (tail (exitSink s inside) (inner bytes at end origin) path 0) w
+  pub tail-object : givesLeaves s ≡ false → w ≡ played (tail (exitSink s inside) (inner bytes at end origin) path 0) w
   unfolding tail
-  tail-object e = rw e (ran-none w)
+  tail-object e = rw e (played-none w)
 
-  module _ (trailer : Bool) (e : s ≡ sink.Record trailer) where
+  module _ (e : givesLeaves s ≡ true) where
     -- nor does a walk at the window's end
-    pub tail-end : at ≡ end → w ≡ ran (tail (exitSink s inside) (inner bytes at end origin) path 0) w
+    pub tail-end : at ≡ end → w ≡ played (tail (exitSink s inside) (inner bytes at end origin) path 0) w
     unfolding tail inner
-    tail-end h = let none : ltb 0 (end - at) ≡ false = le-ltb 0 (end - at) (omega arith) in rw (e, none) (ran-none w)
+    tail-end h = let none : ltb 0 (end - at) ≡ false = le-ltb 0 (end - at) (omega arith) in rw (e, none) (played-none w)
 
     -- else it is a leaf `_raw` of all bits that are left
     raw-leaf : rawLeaf (inner bytes at end origin) path 0 ≡ leafOf (dot path rawLabel) rawHandle (inner bytes at end origin)
@@ -58,55 +57,55 @@ module _ (s : Sink) (inside : Bool) (bytes : List ℕ) (at end origin : ℕ) (pa
         ∙ ap (λ (k : ℕ). field (num bytes) k (end - at)) (add-zero at) in
         λ i. record { path = dot path rawLabel; handle = rawHandle; start = o i; width = n i; payload = p i }
 
-    pub tail-kept : (w′ : World) (t : Tables) → at ≤ end → (at ≡ end → ⊥) → w′ ≡ ran (taggedLeaf t path rawHandle tag.Raw (inner bytes at end origin)) w
-        → w′ ≡ ran (tail (exitSink s inside) (inner bytes at end origin) path 0) w
+    pub tail-kept : (w′ : World) (t : Tables) → at ≤ end → (at ≡ end → ⊥) → w′ ≡ played (taggedLeaf t path rawHandle tag.Raw (inner bytes at end origin)) w
+        → w′ ≡ played (tail (exitSink s inside) (inner bytes at end origin) path 0) w
     unfolding tail taggedLeaf inner
     tail-kept w′ t l h q =
         let more : ltb 0 (end - at) ≡ true = lt-ltb 0 (end - at) (omega arith) in
-        q ∙ ap (λ (u : Trace). ran u w) (sym (rw (e, more) (ap given raw-leaf)))
+        q ∙ ap (λ (u : Trace). played u w) (sym (rw (e, more) (ap leafOrOver raw-leaf)))
 
 -- ---- an element's fields that don't close
 
-module _ (s : W.Sink) (bytes : List ℕ) (end origin : ℕ) (path : List ℕ) (h : Head) (c c₁ words text load : List ℕ) where
-  fields-by : (h′ : Head) (w w′ : World) → h ≡ h′ → w′ ≡ ran (fieldsStop s bytes end origin path h′) w → w′ ≡ ran (fieldsStop s bytes end origin path h) w
-  fields-by h′ w w′ e q = q ∙ ap (λ (x : Head). ran (fieldsStop s bytes end origin path x) w) (sym e)
+module _ (s : W.Sink) (bytes : List ℕ) (end origin : ℕ) (path : List ℕ) (h : Head) (c c₁ records paths payloads : List ℕ) where
+  fields-by : (h′ : Head) (w w′ : World) → h ≡ h′ → w′ ≡ played (fieldsStop s bytes end origin path h′) w → w′ ≡ played (fieldsStop s bytes end origin path h) w
+  fields-by h′ w w′ e q = q ∙ ap (λ (x : Head). played (fieldsStop s bytes end origin path x) w) (sym e)
 
-  pub fields-ended : h ≡ head.Ended → length c ≡ 11 → c₁ ≡ bumped c 6 1 → held c₁ words text load ≡ ran (fieldsStop s bytes end origin path h) (held c words text load)
+  pub fields-ended : h ≡ head.Ended → length c ≡ slots → c₁ ≡ bumped c implicitSlot 1 → worldOf c₁ records paths payloads ≡ played (fieldsStop s bytes end origin path h) (worldOf c records paths payloads)
   unfolding fieldsStop
-  fields-ended e eleven q =
-      fields-by head.Ended (held c words text load) (held c₁ words text load) e (ap (λ (x : List ℕ). held x words text load) q ∙ count-implicit words text load c eleven)
+  fields-ended e sized q =
+      fields-by head.Ended (worldOf c records paths payloads) (worldOf c₁ records paths payloads) e (ap (λ (x : List ℕ). worldOf x records paths payloads) q ∙ count-implicit records paths payloads c sized)
 
-  pub fields-failed : h ≡ head.Failed → length c ≡ 11 → c₁ ≡ bumped c 3 1 → held c₁ words text load ≡ ran (fieldsStop s bytes end origin path h) (held c words text load)
+  pub fields-failed : h ≡ head.Failed → length c ≡ slots → c₁ ≡ bumped c errorsSlot 1 → worldOf c₁ records paths payloads ≡ played (fieldsStop s bytes end origin path h) (worldOf c records paths payloads)
   unfolding fieldsStop
-  fields-failed e eleven q =
-      fields-by head.Failed (held c words text load) (held c₁ words text load) e (ap (λ (x : List ℕ). held x words text load) q ∙ count-error words text load c eleven)
+  fields-failed e sized q =
+      fields-by head.Failed (worldOf c records paths payloads) (worldOf c₁ records paths payloads) e (ap (λ (x : List ℕ). worldOf x records paths payloads) q ∙ count-error records paths payloads c sized)
 
-  pub fields-limit : (n : ℕ) (w′ : World) → h ≡ head.Limit n → length c ≡ 11 → c₁ ≡ bumped c 2 1
-      → w′ ≡ ran (tail s (inner bytes n end origin) path 0) (held c₁ words text load) → w′ ≡ ran (fieldsStop s bytes end origin path h) (held c words text load)
+  pub fields-limit : (n : ℕ) (w′ : World) → h ≡ head.Limit n → length c ≡ slots → c₁ ≡ bumped c truncationsSlot 1
+      → w′ ≡ played (tail s (inner bytes n end origin) path 0) (worldOf c₁ records paths payloads) → w′ ≡ played (fieldsStop s bytes end origin path h) (worldOf c records paths payloads)
   unfolding fieldsStop
-  fields-limit n w′ e eleven q r =
-      fields-by (head.Limit n) (held c words text load) w′ e
+  fields-limit n w′ e sized q r =
+      fields-by (head.Limit n) (worldOf c records paths payloads) w′ e
       (r
-      ∙ ap (ran (tail s (inner bytes n end origin) path 0)) (ap (λ (x : List ℕ). held x words text load) q ∙ count-truncation words text load c eleven)
-      ∙ ran-then truncation (tail s (inner bytes n end origin) path 0) (held c words text load))
+      ∙ ap (played (tail s (inner bytes n end origin) path 0)) (ap (λ (x : List ℕ). worldOf x records paths payloads) q ∙ count-truncation records paths payloads c sized)
+      ∙ played-then truncation (tail s (inner bytes n end origin) path 0) (worldOf c records paths payloads))
 
 module _ (s : W.Sink) (bytes : List ℕ) (end origin : ℕ) (path : List ℕ) (h : Head) (w : World) where
   -- the heads that give nothing here
-  pub fields-closed : (n : ℕ) → h ≡ head.Closed n → w ≡ ran (fieldsStop s bytes end origin path h) w
+  pub fields-closed : (n : ℕ) → h ≡ head.Closed n → w ≡ played (fieldsStop s bytes end origin path h) w
   unfolding fieldsStop
-  fields-closed n e = ran-none w ∙ ap (λ (x : Head). ran (fieldsStop s bytes end origin path x) w) (sym e)
+  fields-closed n e = played-none w ∙ ap (λ (x : Head). played (fieldsStop s bytes end origin path x) w) (sym e)
 
-  pub fields-go : (v a b : ℕ) → h ≡ head.Go v a b → w ≡ ran (fieldsStop s bytes end origin path h) w
+  pub fields-go : (v a b : ℕ) → h ≡ head.Go v a b → w ≡ played (fieldsStop s bytes end origin path h) w
   unfolding fieldsStop
-  fields-go v a b e = ran-none w ∙ ap (λ (x : Head). ran (fieldsStop s bytes end origin path x) w) (sym e)
+  fields-go v a b e = played-none w ∙ ap (λ (x : Head). played (fieldsStop s bytes end origin path x) w) (sym e)
 
   -- ---- a level that ends
 
-  pub level-closed : (n : ℕ) (w′ : World) → h ≡ head.Closed n → w′ ≡ ran (closing s (inner bytes n end origin) 0) w → w′ ≡ ran (levelStop s bytes end origin path h) w
+  pub level-closed : (n : ℕ) (w′ : World) → h ≡ head.Closed n → w′ ≡ played (closing s (inner bytes n end origin) 0) w → w′ ≡ played (levelStop s bytes end origin path h) w
   unfolding levelStop
-  level-closed n w′ e q = q ∙ ap (λ (x : Head). ran (levelStop s bytes end origin path x) w) (sym e)
+  level-closed n w′ e q = q ∙ ap (λ (x : Head). played (levelStop s bytes end origin path x) w) (sym e)
 
 -- every other head ends a level as it ends an element's fields
 pub level-other : (s : W.Sink) (bytes : List ℕ) (end origin : ℕ) (path : List ℕ) (h : Head) (w w′ : World)
-    → OneOf (0 ∷ 1 ∷ 3 ∷ 4 ∷ []) (tagOf the-type h) → w′ ≡ ran (fieldsStop s bytes end origin path h) w → w′ ≡ ran (levelStop s bytes end origin path h) w
-level-other s bytes end origin path h w w′ k q = q ∙ ap (λ (t : Trace). ran t w) (sym (fields-stop s bytes end origin path h (not-closed h k)))
+    → OneOf (0 ∷ 1 ∷ 3 ∷ 4 ∷ []) (tagOf the-type h) → w′ ≡ played (fieldsStop s bytes end origin path h) w → w′ ≡ played (levelStop s bytes end origin path h) w
+level-other s bytes end origin path h w w′ k q = q ∙ ap (λ (t : Trace). played t w) (sym (fields-stop s bytes end origin path h (not-closed h k)))

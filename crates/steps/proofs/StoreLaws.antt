@@ -1,26 +1,16 @@
 -- Runs written to an output through a part of it.
 use Prim.Native.Nat.{ℕ, _+_, _-_, _*_, _/_, _%_, _^_, _≤_, _<_}
 use mathlib.Core.Path.{_≡_, refl, sym, ap, ap₂, _∙_}
-use mathlib.Core.Bool.{Bool, true, false, not}
 use mathlib.Core.List.{List, [], _∷_, _++_, append-assoc}
 use native.Mathlib.Nat.{div-one}
 use native.Mathlib.Omega.{arith}
-use lib.Dec.{leb}
 use lib.ListN.{length, take, drop, length-drop, take-append-drop}
 use lib.Seq.{length-take-le, drop-append-le}
-use borrow.Author.Tests.{leb-true, leb-false, not-true, not-false}
 use borrow.Rule.Slice.PartMut.{midOf, putMid}
 use Rattle.bits.specs.Bits.{num, field, Bytes}
 use Rattle.bits.specs.Runs.{bytesOf, bytesFor, put, store}
 use Rattle.bits.proofs.FieldLaws.{field-rest, num-lt, bytes-tail}
 use Rattle.bits.proofs.RunLaws.{store-fits, part-put}
-
--- what the answer of `fits` says
-pub fitting : (a b : ℕ) (r : Bool) → r ≡ leb a b → not r ≡ false → a ≤ b
-fitting a b r e h = leb-true a b (sym e ∙ not-false r h)
-
-pub past : (a b : ℕ) (r : Bool) → r ≡ leb a b → not r ≡ true → b < a
-past a b r e h = leb-false a b (sym e ∙ not-true r h)
 
 -- `f(&mut d[i..], ..)` wrote a run to the front of the part
 pub part-run : (d x run : List ℕ) (i k : ℕ) → k ≡ length d - i → i + length run ≤ length d → x ≡ put (midOf i k d) 0 run → putMid i k d x ≡ put d i run

@@ -1,146 +1,166 @@
--- The eleven numbers: what adding to one of them, or reserving a leaf or a pair, makes of the world that they stand for.
+-- The tally: adding to one of its numbers changes that number and no other, so each count is the event that the slot stands for.
 use mathlib.Core.Path.{_≡_, refl, ap, _∙_}
+use mathlib.Core.Bool.{Bool, true, false}
 use mathlib.Core.List.{List, [], _∷_}
-use Prim.Native.Nat.{ℕ, suc, _+_, _%_, _^_}
+use Prim.Native.Nat.{ℕ, _+_, _%_, _^_, _<_}
 use native.Mathlib.Omega.{arith}
-use lib.ListN.{length, getD, set}
+use lib.Dec.{eqb}
+use lib.ListN.{length, length-set, set}
+use lib.Seq.{getD-set-same, getD-set-other}
+use borrow.Author.Tests.{eqb-true, eqb-false}
+use Rattle.bits.specs.Choice.{if_then_else_}
 use Rattle.bits.specs.Runs.{store}
 use Rattle.bits.specs.Packed.{Number}
 use Rattle.framing.specs.Events.{Leaf, Pair, Event, number, element, leaf, pair, truncation, error, implicit, nested, root, over, Trace}
-use Rattle.framing.specs.Records.{leafRecord, pairRecord, payloadOf}
+use Rattle.framing.specs.Records.{leafWords, leafRecord, pairWords, pairRecord, payloadOf}
 use Rattle.outputs.specs.World.{World, apply}
-use Rattle.steps.specs.Held.{held, ran, bumped, reserved}
+use Rattle.steps.specs.Tally.{slots, slot, elementsSlot, fieldsSlot, truncationsSlot, errorsSlot, nestedSlot, rootSlot, implicitSlot, oversSlot, recordsSlot, pathsSlot, payloadsSlot, worldBy, worldOf, played, bumped, reserved}
 
 -- ---- the code's sums
 
-pub bump-is : (c : List ℕ) (place n r : ℕ) → r ≡ (getD c place 0 + n) % 2 ^ 32 → set c place r ≡ bumped c place n
+pub bump-is : (c : List ℕ) (place n r : ℕ) → r ≡ (slot c place + n) % 2 ^ 32 → set c place r ≡ bumped c place n
 unfolding bumped
 bump-is c place n r e = ap (set c place) e
 
-pub reserve-is : (c c1 c2 c3 c4 : List ℕ) (words text load : ℕ) → c1 ≡ bumped c 1 1 → c2 ≡ bumped c1 8 words → c3 ≡ bumped c2 9 text
-    → c4 ≡ bumped c3 10 load → c4 ≡ reserved c words text load
+pub reserve-is : (c c1 c2 c3 c4 : List ℕ) (records paths payloads : ℕ) → c1 ≡ bumped c fieldsSlot 1 → c2 ≡ bumped c1 recordsSlot records
+    → c3 ≡ bumped c2 pathsSlot paths → c4 ≡ bumped c3 payloadsSlot payloads → c4 ≡ reserved c records paths payloads
 unfolding reserved
-reserve-is c c1 c2 c3 c4 words text load e1 e2 e3 e4 =
-    e4 ∙ ap (λ (l : List ℕ). bumped l 10 load) (e3 ∙ ap (λ (l : List ℕ). bumped l 9 text) (e2 ∙ ap (λ (l : List ℕ). bumped l 8 words) e1))
+reserve-is c c1 c2 c3 c4 records paths payloads e1 e2 e3 e4 =
+    e4
+    ∙ ap (λ (l : List ℕ). bumped l payloadsSlot payloads)
+    (e3 ∙ ap (λ (l : List ℕ). bumped l pathsSlot paths) (e2 ∙ ap (λ (l : List ℕ). bumped l recordsSlot records) e1))
 
--- ---- a list of eleven numbers
+-- ---- one slot
 
-one-more : (P : List ℕ → Type 0) (n : ℕ) → ((x : ℕ) (l : List ℕ) → length l ≡ n → P (x ∷ l)) → (c : List ℕ) → length c ≡ suc n → P c
-one-more P n f [] h = absurd (omega arith)
-one-more P n f (x ∷ l) h = f x l (omega arith)
+-- n more at one place
+abbrev more : (at : ℕ → ℕ) (place n : ℕ) → ℕ → ℕ
+more at place n k = if eqb k place then (at place + n) % 2 ^ 32 else at k
 
-no-more : (P : List ℕ → Type 0) → P [] → (c : List ℕ) → length c ≡ 0 → P c
-no-more P p [] h = p
-no-more P p (x ∷ l) h = absurd (omega arith)
+bumped-at : (c : List ℕ) (place n : ℕ) → place < length c → (k : ℕ) → slot (bumped c place n) k ≡ more (slot c) place n k
+unfolding bumped
+bumped-at c place n h k = go (eqb k place) refl
+  where
+    go : (b : Bool) → eqb k place ≡ b → slot (bumped c place n) k ≡ more (slot c) place n k
+    go true e =
+        let same = eqb-true k place e in
+        rw e (ap (slot (set c place ((slot c place + n) % 2 ^ 32))) same ∙ getD-set-same c place ((slot c place + n) % 2 ^ 32) 0 h)
+    go false e = rw e (getD-set-other c place k ((slot c place + n) % 2 ^ 32) 0 (eqb-false k place e))
 
-pub by-eleven : (P : List ℕ → Type 0)
-    → ((a b c d e f g h i j k : ℕ) → P (a ∷ b ∷ c ∷ d ∷ e ∷ f ∷ g ∷ h ∷ i ∷ j ∷ k ∷ []))
-    → (l : List ℕ) → length l ≡ 11 → P l
-by-eleven P p =
-    one-more P 10 (λ a. one-more (λ l. P (a ∷ l)) 9 (λ b. one-more (λ l. P (a ∷ b ∷ l)) 8
-    (λ c. one-more (λ l. P (a ∷ b ∷ c ∷ l)) 7 (λ d. one-more (λ l. P (a ∷ b ∷ c ∷ d ∷ l)) 6
-    (λ e. one-more (λ l. P (a ∷ b ∷ c ∷ d ∷ e ∷ l)) 5 (λ f. one-more (λ l. P (a ∷ b ∷ c ∷ d ∷ e ∷ f ∷ l)) 4
-    (λ g. one-more (λ l. P (a ∷ b ∷ c ∷ d ∷ e ∷ f ∷ g ∷ l)) 3 (λ h. one-more (λ l. P (a ∷ b ∷ c ∷ d ∷ e ∷ f ∷ g ∷ h ∷ l)) 2
-    (λ i. one-more (λ l. P (a ∷ b ∷ c ∷ d ∷ e ∷ f ∷ g ∷ h ∷ i ∷ l)) 1 (λ j. one-more (λ l. P (a ∷ b ∷ c ∷ d ∷ e ∷ f ∷ g ∷ h ∷ i ∷ j ∷ l)) 0
-    (λ k. no-more (λ l. P (a ∷ b ∷ c ∷ d ∷ e ∷ f ∷ g ∷ h ∷ i ∷ j ∷ k ∷ l)) (p a b c d e f g h i j k))))))))))))
+bumped-slots : (c : List ℕ) (place n : ℕ) → place < length c → slot (bumped c place n) ≡ more (slot c) place n
+bumped-slots c place n h = λ i k. bumped-at c place n h k i
+
+bumped-length : (c : List ℕ) (place n : ℕ) → length (bumped c place n) ≡ length c
+unfolding bumped
+bumped-length c place n = length-set c place ((slot c place + n) % 2 ^ 32)
 
 -- ---- one event counted
 
-module _ (words text load : List ℕ) where
-  pub count-element : (c : List ℕ) (n : ℕ) → length c ≡ 11 → held (bumped c 0 1) words text load ≡ ran (element n ∷ []) (held c words text load)
-  unfolding held ran bumped apply
-  count-element c n =
-      by-eleven (λ l. held (bumped l 0 1) words text load ≡ ran (element n ∷ []) (held l words text load))
-      (λ a b c d e f g h i j k. refl) c
+module _ (records paths payloads : List ℕ) where
+  at-slot : (c : List ℕ) (place n : ℕ) → place < length c → worldOf (bumped c place n) records paths payloads ≡ worldBy (more (slot c) place n) records paths payloads
+  unfolding worldOf
+  at-slot c place n h = ap (λ (at : ℕ → ℕ). worldBy at records paths payloads) (bumped-slots c place n h)
 
-  pub count-truncation : (c : List ℕ) → length c ≡ 11 → held (bumped c 2 1) words text load ≡ ran (truncation ∷ []) (held c words text load)
-  unfolding held ran bumped apply
-  count-truncation =
-      by-eleven (λ l. held (bumped l 2 1) words text load ≡ ran (truncation ∷ []) (held l words text load))
-      (λ a b c d e f g h i j k. refl)
+  pub count-element : (c : List ℕ) (n : ℕ) → length c ≡ slots → worldOf (bumped c elementsSlot 1) records paths payloads ≡ played (element n ∷ []) (worldOf c records paths payloads)
+  unfolding worldOf worldBy played apply
+  count-element c n sized = at-slot c elementsSlot 1 (omega arith)
 
-  pub count-error : (c : List ℕ) → length c ≡ 11 → held (bumped c 3 1) words text load ≡ ran (error ∷ []) (held c words text load)
-  unfolding held ran bumped apply
-  count-error =
-      by-eleven (λ l. held (bumped l 3 1) words text load ≡ ran (error ∷ []) (held l words text load))
-      (λ a b c d e f g h i j k. refl)
+  pub count-truncation : (c : List ℕ) → length c ≡ slots → worldOf (bumped c truncationsSlot 1) records paths payloads ≡ played (truncation ∷ []) (worldOf c records paths payloads)
+  unfolding worldOf worldBy played apply
+  count-truncation c sized = at-slot c truncationsSlot 1 (omega arith)
 
-  pub count-nested : (c : List ℕ) (n : ℕ) → length c ≡ 11 → held (bumped c 4 n) words text load ≡ ran (nested n ∷ []) (held c words text load)
-  unfolding held ran bumped apply
-  count-nested c n =
-      by-eleven (λ l. held (bumped l 4 n) words text load ≡ ran (nested n ∷ []) (held l words text load))
-      (λ a b c d e f g h i j k. refl) c
+  pub count-error : (c : List ℕ) → length c ≡ slots → worldOf (bumped c errorsSlot 1) records paths payloads ≡ played (error ∷ []) (worldOf c records paths payloads)
+  unfolding worldOf worldBy played apply
+  count-error c sized = at-slot c errorsSlot 1 (omega arith)
 
-  pub count-root : (c : List ℕ) (n : ℕ) → length c ≡ 11 → held (bumped c 5 n) words text load ≡ ran (root n ∷ []) (held c words text load)
-  unfolding held ran bumped apply
-  count-root c n =
-      by-eleven (λ l. held (bumped l 5 n) words text load ≡ ran (root n ∷ []) (held l words text load))
-      (λ a b c d e f g h i j k. refl) c
+  pub count-nested : (c : List ℕ) (n : ℕ) → length c ≡ slots → worldOf (bumped c nestedSlot n) records paths payloads ≡ played (nested n ∷ []) (worldOf c records paths payloads)
+  unfolding worldOf worldBy played apply
+  count-nested c n sized = at-slot c nestedSlot n (omega arith)
 
-  pub count-implicit : (c : List ℕ) → length c ≡ 11 → held (bumped c 6 1) words text load ≡ ran (implicit ∷ []) (held c words text load)
-  unfolding held ran bumped apply
-  count-implicit =
-      by-eleven (λ l. held (bumped l 6 1) words text load ≡ ran (implicit ∷ []) (held l words text load))
-      (λ a b c d e f g h i j k. refl)
+  pub count-root : (c : List ℕ) (n : ℕ) → length c ≡ slots → worldOf (bumped c rootSlot n) records paths payloads ≡ played (root n ∷ []) (worldOf c records paths payloads)
+  unfolding worldOf worldBy played apply
+  count-root c n sized = at-slot c rootSlot n (omega arith)
 
-  pub count-over : (c : List ℕ) → length c ≡ 11 → held (bumped c 7 1) words text load ≡ ran (over ∷ []) (held c words text load)
-  unfolding held ran bumped apply
-  count-over =
-      by-eleven (λ l. held (bumped l 7 1) words text load ≡ ran (over ∷ []) (held l words text load))
-      (λ a b c d e f g h i j k. refl)
+  pub count-implicit : (c : List ℕ) → length c ≡ slots → worldOf (bumped c implicitSlot 1) records paths payloads ≡ played (implicit ∷ []) (worldOf c records paths payloads)
+  unfolding worldOf worldBy played apply
+  count-implicit c sized = at-slot c implicitSlot 1 (omega arith)
+
+  pub count-over : (c : List ℕ) → length c ≡ slots → worldOf (bumped c oversSlot 1) records paths payloads ≡ played (over ∷ []) (worldOf c records paths payloads)
+  unfolding worldOf worldBy played apply
+  count-over c sized = at-slot c oversSlot 1 (omega arith)
 
 -- the code's count of it: what `count` ensures, and one of the laws above
-pub by-count : (c c′ words text load : List ℕ) (place n : ℕ) (e : Event) → (c′ ≡ bumped c place n) × (length c ≡ 11)
-    → (length c ≡ 11 → held (bumped c place n) words text load ≡ ran (e ∷ []) (held c words text load))
-    → held c′ words text load ≡ ran (e ∷ []) (held c words text load)
-by-count c c′ words text load place n e did law = ap (λ (l : List ℕ). held l words text load) (did .0) ∙ law (did .1)
+pub by-count : (c c′ records paths payloads : List ℕ) (place n : ℕ) (e : Event) → (c′ ≡ bumped c place n) × (length c ≡ slots)
+    → (length c ≡ slots → worldOf (bumped c place n) records paths payloads ≡ played (e ∷ []) (worldOf c records paths payloads))
+    → worldOf c′ records paths payloads ≡ played (e ∷ []) (worldOf c records paths payloads)
+by-count c c′ records paths payloads place n e did law = ap (λ (l : List ℕ). worldOf l records paths payloads) (did .0) ∙ law (did .1)
 
 -- ---- traces
 
 -- no event; one event and then others; a number, which the code does not record
-pub ran-none : (w : World) → w ≡ ran [] w
-unfolding ran apply
-ran-none w = refl
+pub played-none : (w : World) → w ≡ played [] w
+unfolding played apply
+played-none w = refl
 
-pub ran-then : (e : Event) (t : Trace) (w : World) → ran t (ran (e ∷ []) w) ≡ ran (e ∷ t) w
-unfolding ran apply
-ran-then e t w = refl
+pub played-then : (e : Event) (t : Trace) (w : World) → played t (played (e ∷ []) w) ≡ played (e ∷ t) w
+unfolding played apply
+played-then e t w = refl
 
-pub ran-number : (x : Number) (t : Trace) (w : World) → ran t w ≡ ran (number x ∷ t) w
-unfolding ran apply
-ran-number x t w = refl
+pub played-number : (x : Number) (t : Trace) (w : World) → played t w ≡ played (number x ∷ t) w
+unfolding played apply
+played-number x t w = refl
 
 -- ---- a leaf or a pair, written and counted
 
-module _ (c words text load : List ℕ) (eleven : length c ≡ 11) where
-  leaf-here : (x : Leaf)
-      → held (reserved c 5 (length (x .path)) (length (payloadOf x)))
-      (store words (getD c 8 0) (leafRecord (getD c 9 0) (getD c 10 0) x)) (store text (getD c 9 0) (x .path)) (store load (getD c 10 0) (payloadOf x))
-      ≡ ran (leaf x ∷ []) (held c words text load)
-  unfolding held ran reserved bumped apply
-  leaf-here x =
-      by-eleven
-      (λ l. held (reserved l 5 (length (x .path)) (length (payloadOf x)))
-      (store words (getD l 8 0) (leafRecord (getD l 9 0) (getD l 10 0) x)) (store text (getD l 9 0) (x .path)) (store load (getD l 10 0) (payloadOf x))
-      ≡ ran (leaf x ∷ []) (held l words text load))
-      (λ a b c d e f g h i j k. refl) c eleven
+module _ (c records paths payloads : List ℕ) (sized : length c ≡ slots) where
+  -- a leaf's four numbers, of whichever tally
+  reserved-slots : (n p y : ℕ)
+      → slot (reserved c n p y) ≡ more (more (more (more (slot c) fieldsSlot 1) recordsSlot n) pathsSlot p) payloadsSlot y
+  unfolding reserved
+  reserved-slots n p y =
+      let c1 = bumped c fieldsSlot 1 in
+      let c2 = bumped c1 recordsSlot n in
+      let c3 = bumped c2 pathsSlot p in
+      let n1 = bumped-length c fieldsSlot 1 in
+      let n2 = bumped-length c1 recordsSlot n in
+      let n3 = bumped-length c2 pathsSlot p in
+      bumped-slots c3 payloadsSlot y (omega arith)
+      ∙ ap (λ (at : ℕ → ℕ). more at payloadsSlot y)
+      (bumped-slots c2 pathsSlot p (omega arith)
+      ∙ ap (λ (at : ℕ → ℕ). more at pathsSlot p)
+      (bumped-slots c1 recordsSlot n (omega arith) ∙ ap (λ (at : ℕ → ℕ). more at recordsSlot n) (bumped-slots c fieldsSlot 1 (omega arith))))
 
-  pub leaf-counted : (x : Leaf) (n size : ℕ) (words′ text′ load′ : List ℕ) → n ≡ length (x .path) → size ≡ length (payloadOf x)
-      → words′ ≡ store words (getD c 8 0) (leafRecord (getD c 9 0) (getD c 10 0) x)
-      → text′ ≡ store text (getD c 9 0) (x .path)
-      → load′ ≡ store load (getD c 10 0) (payloadOf x)
-      → held (reserved c 5 n size) words′ text′ load′ ≡ ran (leaf x ∷ []) (held c words text load)
-  leaf-counted x n size words′ text′ load′ en es ew et el = (λ i. held (reserved c 5 (en i) (es i)) (ew i) (et i) (el i)) ∙ leaf-here x
+  leaf-here : (x : Leaf)
+      → worldOf (reserved c leafWords (length (x .path)) (length (payloadOf x)))
+      (store records (slot c recordsSlot) (leafRecord (slot c pathsSlot) (slot c payloadsSlot) x))
+      (store paths (slot c pathsSlot) (x .path)) (store payloads (slot c payloadsSlot) (payloadOf x))
+      ≡ played (leaf x ∷ []) (worldOf c records paths payloads)
+  unfolding worldOf worldBy played apply
+  leaf-here x =
+      ap
+      (λ (at : ℕ → ℕ). worldBy at (store records (slot c recordsSlot) (leafRecord (slot c pathsSlot) (slot c payloadsSlot) x))
+      (store paths (slot c pathsSlot) (x .path)) (store payloads (slot c payloadsSlot) (payloadOf x)))
+      (reserved-slots leafWords (length (x .path)) (length (payloadOf x)))
+
+  pub leaf-counted : (x : Leaf) (n size : ℕ) (records′ paths′ payloads′ : List ℕ) → n ≡ length (x .path) → size ≡ length (payloadOf x)
+      → records′ ≡ store records (slot c recordsSlot) (leafRecord (slot c pathsSlot) (slot c payloadsSlot) x)
+      → paths′ ≡ store paths (slot c pathsSlot) (x .path)
+      → payloads′ ≡ store payloads (slot c payloadsSlot) (payloadOf x)
+      → worldOf (reserved c leafWords n size) records′ paths′ payloads′ ≡ played (leaf x ∷ []) (worldOf c records paths payloads)
+  leaf-counted x n size records′ paths′ payloads′ en es er ep ey =
+      (λ i. worldOf (reserved c leafWords (en i) (es i)) (er i) (ep i) (ey i)) ∙ leaf-here x
 
   pair-here : (x : Pair)
-      → held (bumped (bumped c 1 1) 8 2) (store words (getD c 8 0) (pairRecord x)) text load ≡ ran (pair x ∷ []) (held c words text load)
-  unfolding held ran bumped apply
+      → worldOf (bumped (bumped c fieldsSlot 1) recordsSlot pairWords) (store records (slot c recordsSlot) (pairRecord x)) paths payloads
+      ≡ played (pair x ∷ []) (worldOf c records paths payloads)
+  unfolding worldOf worldBy played apply
   pair-here x =
-      by-eleven
-      (λ l. held (bumped (bumped l 1 1) 8 2) (store words (getD l 8 0) (pairRecord x)) text load ≡ ran (pair x ∷ []) (held l words text load))
-      (λ a b c d e f g h i j k. refl) c eleven
+      let c1 = bumped c fieldsSlot 1 in
+      let n1 = bumped-length c fieldsSlot 1 in
+      ap (λ (at : ℕ → ℕ). worldBy at (store records (slot c recordsSlot) (pairRecord x)) paths payloads)
+      (bumped-slots c1 recordsSlot pairWords (omega arith)
+      ∙ ap (λ (at : ℕ → ℕ). more at recordsSlot pairWords) (bumped-slots c fieldsSlot 1 (omega arith)))
 
-  pub pair-counted : (x : Pair) (c1 c2 words′ : List ℕ) → words′ ≡ store words (getD c 8 0) (pairRecord x) → c1 ≡ bumped c 1 1 → c2 ≡ bumped c1 8 2
-      → held c2 words′ text load ≡ ran (pair x ∷ []) (held c words text load)
-  pair-counted x c1 c2 words′ ew e1 e2 =
-      (λ i. held ((e2 ∙ ap (λ (l : List ℕ). bumped l 8 2) e1) i) (ew i) text load) ∙ pair-here x
+  pub pair-counted : (x : Pair) (c1 c2 records′ : List ℕ) → records′ ≡ store records (slot c recordsSlot) (pairRecord x) → c1 ≡ bumped c fieldsSlot 1
+      → c2 ≡ bumped c1 recordsSlot pairWords → worldOf c2 records′ paths payloads ≡ played (pair x ∷ []) (worldOf c records paths payloads)
+  pair-counted x c1 c2 records′ er e1 e2 =
+      (λ i. worldOf ((e2 ∙ ap (λ (l : List ℕ). bumped l recordsSlot pairWords) e1) i) (er i) paths payloads) ∙ pair-here x

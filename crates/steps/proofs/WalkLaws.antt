@@ -10,32 +10,33 @@ use borrow.Author.Tests.{lt-leb, le-ltb, ne-eqb}
 use Rattle.bits.proofs.Never.{never}
 use Rattle.bits.specs.Choice.{if_then_else_}
 use Rattle.bits.specs.Packed.{Number}
+use Rattle.bits.specs.Sizes.{maxElements, maxFields}
 use Rattle.framing.specs.Windows.{Window, part, Reading, got, failed, reading}
 use Rattle.framing.specs.Events.{numbers, number, element, truncation, error, implicit, Trace}
-use Rattle.framing.specs.Walk.{Sink, maxElements, maxFields, numberAt, Lead, ends, fails, closes, opens, lead, Due, cut, broken, closed, present, fieldAt, tail, Run, done, stopped, prepend, fields, closing, inItem, entering, behind, elements, level}
+use Rattle.framing.specs.Walk.{Sink, numberAt, Lead, ends, fails, closes, opens, lead, Due, cut, broken, closed, present, fieldAt, tail, Run, done, stopped, prepend, fields, closing, inItem, entering, behind, elements, level}
 use Rattle.framing.proofs.StepLaws.{fields-last, fields-step, fields-present, elements-last, elements-step, level-count}
 use Rattle.outputs.specs.World.{World, wrapping}
 use Rattle.outputs.proofs.Paste.{apply-append, apply-numbers}
-use Rattle.steps.specs.Held.{ran}
+use Rattle.steps.specs.Tally.{played}
 use Rattle.steps.specs.Views.{inner, upTo, HeadIn}
 use Rattle.steps.specs.Heads.{numberOf, countHead, levelHead, indexHead, elementHead, lastHead, dueHead, fieldHead, shifted}
 use Rattle.steps.specs.Gives.{fieldsStop, levelStop}
 use Rattle.steps.specs.declared.Head.{Head}
 use Rattle.steps.specs.declared.Head.the-variants as head
 use Rattle.steps.proofs.CaseLaws.{NotGo, NotClosed, fields-stop}
-use Rattle.steps.proofs.TallyLaws.{ran-none, ran-number}
+use Rattle.steps.proofs.TallyLaws.{played-none, played-number}
 use Rattle.steps.proofs.ShiftLaws.{level-shift, element-shift, field-shift, tail-shift, closing-shift, part-inner, size-inner}
 use Rattle.steps.proofs.WithinLaws.{level-in, element-in, field-in, Counted, level-goes, Opened, element-goes, Presented, field-goes}
 
 -- ---- traces that run
 
-pub ran-append : (t u : Trace) (x : World) → ran (t ++ u) x ≡ ran u (ran t x)
-unfolding ran
-ran-append t u x = apply-append (wrapping 4294967296) t u x
+pub played-append : (t u : Trace) (x : World) → played (t ++ u) x ≡ played u (played t x)
+unfolding played
+played-append t u x = apply-append (wrapping 4294967296) t u x
 
-pub ran-numbers : (ns : List Number) (t : Trace) (x : World) → ran (numbers ns ++ t) x ≡ ran t x
-unfolding ran
-ran-numbers ns t x = apply-numbers (wrapping 4294967296) ns t x
+pub played-numbers : (ns : List Number) (t : Trace) (x : World) → played (numbers ns ++ t) x ≡ played t x
+unfolding played
+played-numbers ns t x = apply-numbers (wrapping 4294967296) ns t x
 
 -- ---- heads that end a walk
 
@@ -84,52 +85,52 @@ stop-shift s e a bytes b end o path le (head.Limit q) i g = ap (λ (t : Trace). 
 stop-shift s e a bytes b end o path le (head.Go v q r) i g = absurd g
 
 module _ (s : Sink) (w : Window) (path : List ℕ) where
-  level-stops : (x : World) → NotGo (levelHead w 0) → ran (level s w path) x ≡ ran (stopAt s w path (levelHead w 0)) x
+  level-stops : (x : World) → NotGo (levelHead w 0) → played (level s w path) x ≡ played (stopAt s w path (levelHead w 0)) x
   unfolding levelHead
-  level-stops x n = ap (λ (t : Trace). ran t x) (level-count s w path) ∙ go (reading w 0) n
+  level-stops x n = ap (λ (t : Trace). played t x) (level-count s w path) ∙ go (reading w 0) n
     where
-      go : (r : Reading) → NotGo (countHead (numberOf 0 r)) → ran (Rattle.framing.specs.Walk.onCount s w path r) x ≡ ran (stopAt s w path (countHead (numberOf 0 r))) x
+      go : (r : Reading) → NotGo (countHead (numberOf 0 r)) → played (Rattle.framing.specs.Walk.onCount s w path r) x ≡ played (stopAt s w path (countHead (numberOf 0 r))) x
       go failed g = refl
       go (got v k) g = go2 (ltb maxElements v) refl g
         where
           go2 : (y : Bool) → ltb maxElements v ≡ y → NotGo (if y then head.Limit (0 + 8 * k) else head.Go v (0 + 8 * k) (0 + 8 * k))
-              → ran (if y then number (numberAt w 0 k v) ∷ truncation ∷ tail s w path (8 * k) else number (numberAt w 0 k v) ∷ elements s w path v maxElements (8 * k)) x
-              ≡ ran (stopAt s w path (if y then head.Limit (0 + 8 * k) else head.Go v (0 + 8 * k) (0 + 8 * k))) x
-          go2 true ey g = sym (ran-number (numberAt w 0 k v) (truncation ∷ tail s w path (8 * k)) x) ∙ ap (λ (m : ℕ). ran (truncation ∷ tail s w path m) x) (sym (zero-add (8 * k)))
+              → played (if y then number (numberAt w 0 k v) ∷ truncation ∷ tail s w path (8 * k) else number (numberAt w 0 k v) ∷ elements s w path v maxElements (8 * k)) x
+              ≡ played (stopAt s w path (if y then head.Limit (0 + 8 * k) else head.Go v (0 + 8 * k) (0 + 8 * k))) x
+          go2 true ey g = sym (played-number (numberAt w 0 k v) (truncation ∷ tail s w path (8 * k)) x) ∙ ap (λ (m : ℕ). played (truncation ∷ tail s w path m) x) (sym (zero-add (8 * k)))
           go2 false ey g = absurd g
 
-  elements-stops : (count left p : ℕ) (x : World) → NotGo (elementHead w count left p) → ran (elements s w path count left p) x ≡ ran (stopAt s w path (elementHead w count left p)) x
+  elements-stops : (count left p : ℕ) (x : World) → NotGo (elementHead w count left p) → played (elements s w path count left p) x ≡ played (stopAt s w path (elementHead w count left p)) x
   unfolding elementHead
-  elements-stops count zero p x n = ap (λ (t : Trace). ran t x) (elements-last s w path count p) ∙ go (lead w p) n
+  elements-stops count zero p x n = ap (λ (t : Trace). played t x) (elements-last s w path count p) ∙ go (lead w p) n
     where
-      go : (l : Lead) → NotGo (indexHead count 0 p l) → ran (Rattle.framing.specs.Walk.onLastIndex s w path p l) x ≡ ran (stopAt s w path (indexHead count 0 p l)) x
+      go : (l : Lead) → NotGo (indexHead count 0 p l) → played (Rattle.framing.specs.Walk.onLastIndex s w path p l) x ≡ played (stopAt s w path (indexHead count 0 p l)) x
       go ends g = refl
       go fails g = refl
-      go (closes e q) g = sym (ran-number e (closing s w q) x)
+      go (closes e q) g = sym (played-number e (closing s w q) x)
       go (opens e i q) g = refl
-  elements-stops count (suc left) p x n = ap (λ (t : Trace). ran t x) (elements-step s w path count left p) ∙ go (lead w p) n
+  elements-stops count (suc left) p x n = ap (λ (t : Trace). played t x) (elements-step s w path count left p) ∙ go (lead w p) n
     where
       some : eqb (suc left) 0 ≡ false
       some = ne-eqb (suc left) 0 (λ z. omega arith)
 
       go : (l : Lead) → NotGo (indexHead count (suc left) p l)
-          → ran (Rattle.framing.specs.Walk.onIndex s w path count (λ q. elements s w path count left q) l) x ≡ ran (stopAt s w path (indexHead count (suc left) p l)) x
+          → played (Rattle.framing.specs.Walk.onIndex s w path count (λ q. elements s w path count left q) l) x ≡ played (stopAt s w path (indexHead count (suc left) p l)) x
       go ends g = refl
       go fails g = refl
-      go (closes e q) g = sym (ran-number e (closing s w q) x)
+      go (closes e q) g = sym (played-number e (closing s w q) x)
       go (opens e i q) g = rw some (go2 (leb count i) refl (rw some at g))
         where
           go2 : (y : Bool) → leb count i ≡ y → NotGo (if y then head.Failed else head.Go i q q)
-              → ran (if y then number e ∷ error ∷ [] else number e ∷ element i ∷ (entering s path i ++ behind (λ r. elements s w path count left r) (fields s w i (inItem s path i) maxFields q true))) x
-              ≡ ran (stopAt s w path (if y then head.Failed else head.Go i q q)) x
-          go2 true ey g = sym (ran-number e (error ∷ []) x)
+              → played (if y then number e ∷ error ∷ [] else number e ∷ element i ∷ (entering s path i ++ behind (λ r. elements s w path count left r) (fields s w i (inItem s path i) maxFields q true))) x
+              ≡ played (stopAt s w path (if y then head.Failed else head.Go i q q)) x
+          go2 true ey g = sym (played-number e (error ∷ []) x)
           go2 false ey g = absurd g
 
   -- an element's fields that end without closing give what the head gives
   pub record Halted (r : Run) (u : Trace) : Type 0 where
     pub trace : Trace
     pub is : r ≡ stopped trace
-    pub same : (x : World) → ran trace x ≡ ran u x
+    pub same : (x : World) → played trace x ≡ played u x
 
   fields-halt : (i : ℕ) (left p : ℕ) (first : Bool) → NotGo (fieldHead w left p) → NotClosed (fieldHead w left p)
       → Halted (fields s w i path left p first) (stopAt s w path (fieldHead w left p))
@@ -145,7 +146,7 @@ module _ (s : Sink) (w : Window) (path : List ℕ) where
     where
       go : (d : Due) → fieldAt w p ≡ d → NotGo (dueHead d) → NotClosed (dueHead d) → Halted (fields s w i path (suc left) p first) (stopAt s w path (dueHead d))
       go cut e g d = record { trace = implicit ∷ []; is = rw (fields-step, e); same = λ x. refl }
-      go (broken ns) e g d = record { trace = numbers ns ++ (error ∷ []); is = rw (fields-step, e); same = λ x. ran-numbers ns (error ∷ []) x }
+      go (broken ns) e g d = record { trace = numbers ns ++ (error ∷ []); is = rw (fields-step, e); same = λ x. played-numbers ns (error ∷ []) x }
       go (closed y q) e g d = absurd d
       go (present ns h q k) e g d = absurd g
 
@@ -232,32 +233,32 @@ field-head-in bytes end left at h e = subst (HeadIn end) e (field-in (upTo bytes
 pub record Ends (r : Run) (x y : World) : Type 0 where
   pub trace : Trace
   pub is : r ≡ stopped trace
-  pub world : y ≡ ran trace x
+  pub world : y ≡ played trace x
 
 pub record Shuts (b : ℕ) (r : Run) (x : World) (n : ℕ) : Type 0 where
   pub trace : Trace
   pub next : ℕ
   pub is : r ≡ done trace next
   pub at : n ≡ b + next
-  pub world : x ≡ ran trace x
+  pub world : x ≡ played trace x
 
 pub record Goes (r r′ : Run) (x y : World) : Type 0 where
   pub trace : Trace
   pub is : r ≡ prepend trace r′
-  pub world : y ≡ ran trace x
+  pub world : y ≡ played trace x
 
 module _ (s e : Sink) (a : Alike s e) (bytes : List ℕ) (b end : ℕ) (path : List ℕ) (le : b ≤ end) where
   -- a trace that a head of the window gives is what the code's exit gives
-  exit-by : (o : ℕ) (h g : Head) → h ≡ shifted b g → HeadIn (end - b) g → NotGo h → (x y : World) → ((k : ℕ) → y ≡ ran (levelStop e bytes end k path h) x)
-      → y ≡ ran (stopAt s (inner bytes b end o) path g) x
+  exit-by : (o : ℕ) (h g : Head) → h ≡ shifted b g → HeadIn (end - b) g → NotGo h → (x y : World) → ((k : ℕ) → y ≡ played (levelStop e bytes end k path h) x)
+      → y ≡ played (stopAt s (inner bytes b end o) path g) x
   exit-by o h g q i n x y out =
       out (o + posOf g)
-      ∙ ap (λ (k : Head). ran (levelStop e bytes end (o + posOf g) path k) x) q
-      ∙ ap (λ (t : Trace). ran t x) (sym (stop-shift s e a bytes b end o path le g i (not-go-back b g (subst NotGo q n))))
+      ∙ ap (λ (k : Head). played (levelStop e bytes end (o + posOf g) path k) x) q
+      ∙ ap (λ (t : Trace). played t x) (sym (stop-shift s e a bytes b end o path le g i (not-go-back b g (subst NotGo q n))))
 
   -- a level that ends at its count
-  pub level-exit : (h : Head) → levelHead (upTo bytes end) b ≡ h → NotGo h → (x y : World) → ((k : ℕ) → y ≡ ran (levelStop e bytes end k path h) x)
-      → (o : ℕ) → y ≡ ran (level s (inner bytes b end o) path) x
+  pub level-exit : (h : Head) → levelHead (upTo bytes end) b ≡ h → NotGo h → (x y : World) → ((k : ℕ) → y ≡ played (levelStop e bytes end k path h) x)
+      → (o : ℕ) → y ≡ played (level s (inner bytes b end o) path) x
   level-exit h eh n x y out o =
       let w = inner bytes b end o in
       let g = levelHead w 0 in
@@ -267,7 +268,7 @@ module _ (s e : Sink) (a : Alike s e) (bytes : List ℕ) (b end : ℕ) (path : L
 
   -- one that goes on to its elements
   pub level-walks : {v f m : ℕ} → levelHead (upTo bytes end) b ≡ head.Go v f m → (x : World) (o : ℕ)
-      → ran (level s (inner bytes b end o) path) x ≡ ran (elements s (inner bytes b end o) path v maxElements (f - b)) x
+      → played (level s (inner bytes b end o) path) x ≡ played (elements s (inner bytes b end o) path v maxElements (f - b)) x
   level-walks {v} {f} {m} eh x o =
       let w = inner bytes b end o in
       let k = go-back b (levelHead w 0) (sym (ap (levelHead (upTo bytes end)) (sym (add-zero b)) ∙ level-shift bytes b end o le 0) ∙ eh) in
@@ -275,9 +276,9 @@ module _ (s e : Sink) (a : Alike s e) (bytes : List ℕ) (b end : ℕ) (path : L
       let z = k .from-next in
       let y = c .next in
       let d : 8 * c .bytes ≡ f - b = omega arith in
-      ap (λ (t : Trace). ran t x) (level-count s w path ∙ counts w c)
-      ∙ sym (ran-number (numberAt w 0 (c .bytes) v) (elements s w path v maxElements (8 * c .bytes)) x)
-      ∙ ap (λ (p : ℕ). ran (elements s w path v maxElements p) x) d
+      ap (λ (t : Trace). played t x) (level-count s w path ∙ counts w c)
+      ∙ sym (played-number (numberAt w 0 (c .bytes) v) (elements s w path v maxElements (8 * c .bytes)) x)
+      ∙ ap (λ (p : ℕ). played (elements s w path v maxElements p) x) d
     where
       counts : (w : Window) {q : ℕ} → (c : Counted w 0 v q) → Rattle.framing.specs.Walk.onCount s w path (reading w 0) ≡ number (numberAt w 0 (c .bytes) v) ∷ elements s w path v maxElements (8 * c .bytes)
       counts w c = rw (c .reads, le-ltb maxElements v (c .few))
@@ -287,8 +288,8 @@ module _ (s e : Sink) (a : Alike s e) (bytes : List ℕ) (b end : ℕ) (path : L
     element-here o = let z : b + (at - b) ≡ at = omega arith in ap (elementHead (upTo bytes end) count left) (sym z) ∙ element-shift bytes b end o le count left (at - b)
 
     -- elements that end
-    pub elements-exit : (h : Head) → elementHead (upTo bytes end) count left at ≡ h → NotGo h → (x y : World) → ((k : ℕ) → y ≡ ran (levelStop e bytes end k path h) x)
-        → (o : ℕ) → y ≡ ran (elements s (inner bytes b end o) path count left (at - b)) x
+    pub elements-exit : (h : Head) → elementHead (upTo bytes end) count left at ≡ h → NotGo h → (x y : World) → ((k : ℕ) → y ≡ played (levelStop e bytes end k path h) x)
+        → (o : ℕ) → y ≡ played (elements s (inner bytes b end o) path count left (at - b)) x
     elements-exit h eh n x y out o =
         let w = inner bytes b end o in
         let g = elementHead w count left (at - b) in
@@ -298,18 +299,18 @@ module _ (s e : Sink) (a : Alike s e) (bytes : List ℕ) (b end : ℕ) (path : L
 
     -- an element, and those behind it
     pub elements-walk : {i n m : ℕ} → elementHead (upTo bytes end) count left at ≡ head.Go i n m → (x : World) (o : ℕ)
-        → ran (elements s (inner bytes b end o) path count left (at - b)) x
-        ≡ ran (behind (λ r. elements s (inner bytes b end o) path count (left - 1) r) (fields s (inner bytes b end o) i (inItem s path i) maxFields (n - b) true)) (ran (element i ∷ entering s path i) x)
+        → played (elements s (inner bytes b end o) path count left (at - b)) x
+        ≡ played (behind (λ r. elements s (inner bytes b end o) path count (left - 1) r) (fields s (inner bytes b end o) i (inItem s path i) maxFields (n - b) true)) (played (element i ∷ entering s path i) x)
     elements-walk {i} {n} {m} eh x o =
         let w = inner bytes b end o in
         let k = go-back b (elementHead w count left (at - b)) (sym (element-here o) ∙ eh) in
         let c = element-goes w count left (at - b) (k .is) in
         let z = k .from-next in
         let d : k .next ≡ n - b = omega arith in
-        ap (λ (t : Trace). ran t x) (steps w left c)
-        ∙ sym (ran-number (c .number) (element i ∷ (entering s path i ++ rest w (k .next))) x)
-        ∙ ran-append (element i ∷ entering s path i) (rest w (k .next)) x
-        ∙ ap (λ (p : ℕ). ran (rest w p) (ran (element i ∷ entering s path i) x)) d
+        ap (λ (t : Trace). played t x) (steps w left c)
+        ∙ sym (played-number (c .number) (element i ∷ (entering s path i ++ rest w (k .next))) x)
+        ∙ played-append (element i ∷ entering s path i) (rest w (k .next)) x
+        ∙ ap (λ (p : ℕ). played (rest w p) (played (element i ∷ entering s path i) x)) d
       where
         rest : Window → ℕ → Trace
         rest w q = behind (λ r. elements s w path count (left - 1) r) (fields s w i (inItem s path i) maxFields q true)
@@ -324,7 +325,7 @@ module _ (s e : Sink) (a : Alike s e) (bytes : List ℕ) (b end : ℕ) (path : L
     field-here o = let z : b + (at - b) ≡ at = omega arith in ap (fieldHead (upTo bytes end) left) (sym z) ∙ field-shift bytes b end o le left (at - b)
 
     -- fields that end without closing
-    pub fields-exit : (h : Head) → fieldHead (upTo bytes end) left at ≡ h → NotGo h → NotClosed h → (x y : World) → ((k : ℕ) → y ≡ ran (fieldsStop e bytes end k path h) x)
+    pub fields-exit : (h : Head) → fieldHead (upTo bytes end) left at ≡ h → NotGo h → NotClosed h → (x y : World) → ((k : ℕ) → y ≡ played (fieldsStop e bytes end k path h) x)
         → (o : ℕ) → Ends (fields s (inner bytes b end o) i path left (at - b) first) x y
     fields-exit h eh n c x y out o =
         let w = inner bytes b end o in
@@ -332,7 +333,7 @@ module _ (s e : Sink) (a : Alike s e) (bytes : List ℕ) (b end : ℕ) (path : L
         let q : h ≡ shifted b g = sym eh ∙ field-here o in
         let i′ : HeadIn (end - b) g = subst (λ (k : ℕ). HeadIn k g) (size-inner bytes b end o le) (field-in w left (at - b)) in
         let halt = fields-halt s w path i left (at - b) first (not-go-back b g (subst NotGo q n)) (not-closed-back b g (subst NotClosed q c)) in
-        let all : (k : ℕ) → y ≡ ran (levelStop e bytes end k path h) x = λ k. out k ∙ ap (λ (t : Trace). ran t x) (sym (fields-stop e bytes end k path h c)) in
+        let all : (k : ℕ) → y ≡ played (levelStop e bytes end k path h) x = λ k. out k ∙ ap (λ (t : Trace). played t x) (sym (fields-stop e bytes end k path h c)) in
         record { trace = halt .trace; is = halt .is; world = exit-by o h g q i′ n x y all ∙ sym (halt .same x) }
 
     -- fields that close before bit n
@@ -341,12 +342,12 @@ module _ (s e : Sink) (a : Alike s e) (bytes : List ℕ) (b end : ℕ) (path : L
         let w = inner bytes b end o in
         let k = closed-back b (fieldHead w left (at - b)) (sym (field-here o) ∙ eh) in
         let c = fields-close s w path i left (at - b) first (n - b) (k .0) in
-        record { trace = number (c .read) ∷ []; next = n - b; is = c .is; at = k .1; world = ran-none x ∙ ran-number (c .read) [] x }
+        record { trace = number (c .read) ∷ []; next = n - b; is = c .is; at = k .1; world = played-none x ∙ played-number (c .read) [] x }
 
     -- a field, and those behind it
     pub fields-walk : {h body next : ℕ} → fieldHead (upTo bytes end) left at ≡ head.Go h body next → (x : World) (o : ℕ)
         → Goes (fields s (inner bytes b end o) i path left (at - b) first) (fields s (inner bytes b end o) i path (left - 1) (next - b) (first && eqb (next - body) 0)) x
-        (ran (s .field i path first h (inner bytes body next (o + (body - b)))) x)
+        (played (s .field i path first h (inner bytes body next (o + (body - b)))) x)
     fields-walk {h} {body} {next} eh x o =
         let w = inner bytes b end o in
         let k = go-back b (fieldHead w left (at - b)) (sym (field-here o) ∙ eh) in
@@ -361,7 +362,7 @@ module _ (s e : Sink) (a : Alike s e) (bytes : List ℕ) (b end : ℕ) (path : L
         record {
           trace = numbers (c .numbers) ++ s .field i path first h (part w (k .next) (c .width));
           is = walks w left c ∙ (λ j. prepend (numbers (c .numbers) ++ s .field i path first h (part w (k .next) (c .width))) (fields s w i path (left - 1) (here4 (k .next) (c .width) (k .last) e2 wide j) (first && eqb (here5 (k .next) (c .width) (k .last) e1 e2 wide j) 0)));
-          world = sym (ran-numbers (c .numbers) (s .field i path first h (part w (k .next) (c .width))) x ∙ ap (λ (v : Window). ran (s .field i path first h v) x) same);
+          world = sym (played-numbers (c .numbers) (s .field i path first h (part w (k .next) (c .width))) x ∙ ap (λ (v : Window). played (s .field i path first h v) x) same);
         }
       where
         here1 : (q : ℕ) → body ≡ b + q → b + q ≡ body

@@ -1,21 +1,21 @@
 -- Where heads lie: no position passes the window, and what goes on lies behind.
 use Prim.Native.Nat.{ℕ, zero, suc, _+_, _*_, _≤_, _<_}
 use native.Mathlib.Omega.{arith}
-use mathlib.Core.Path.{_≡_, refl, sym, ap, subst, _∙_}
+use mathlib.Core.Path.{_≡_, refl, sym, ap, _∙_}
 use mathlib.Core.Bool.{Bool, true, false}
-use mathlib.Core.List.{List, [], _∷_}
+use mathlib.Core.List.{List}
 use lib.Dec.{leb, ltb, eqb}
 use borrow.Author.Tests.{leb-false, ltb-false, eqb-false}
 use Rattle.bits.specs.Choice.{if_then_else_}
 use Rattle.bits.specs.Packed.{Number}
 use Rattle.bits.proofs.Never.{never}
+use Rattle.bits.specs.Sizes.{maxElements}
 use Rattle.framing.specs.Windows.{Window, Reading, got, failed, reading}
-use Rattle.framing.specs.Walk.{maxElements, numberAt, Lead, ends, fails, closes, opens, lead, Due, cut, broken, closed, present, fieldAt}
-use Rattle.framing.proofs.Induct.{Inside, inside, nothing, reading-inside, Read, LeadIn, lead-in, DueIn, due-in}
+use Rattle.framing.specs.Walk.{Lead, ends, fails, closes, opens, lead, Due, cut, broken, closed, present, fieldAt}
+use Rattle.framing.proofs.Induct.{Inside, inside, nothing, reading-inside, LeadIn, lead-in, DueIn, due-in}
 use Rattle.framing.proofs.Induct as I
 use Rattle.steps.specs.Views.{HeadIn}
 use Rattle.steps.specs.Heads.{numberOf, countHead, levelHead, indexHead, elementHead, lastHead, dueHead, fieldHead}
-use Rattle.steps.specs.declared.Head.{Head}
 use Rattle.steps.specs.declared.Head.the-variants as head
 
 -- ---- a head's position is in the window

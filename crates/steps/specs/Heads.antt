@@ -2,8 +2,9 @@
 use Prim.Native.Nat.{ℕ, zero, suc, _+_, _*_}
 use lib.Dec.{leb, ltb, eqb}
 use Rattle.bits.specs.Choice.{if_then_else_}
+use Rattle.bits.specs.Sizes.{maxElements}
 use Rattle.framing.specs.Windows.{Window, Reading, got, failed, reading}
-use Rattle.framing.specs.Walk.{maxElements, Lead, ends, fails, closes, opens, lead, Due, cut, broken, closed, present, fieldAt}
+use Rattle.framing.specs.Walk.{Lead, ends, fails, closes, opens, lead, Due, cut, broken, closed, present, fieldAt}
 use Rattle.steps.specs.declared.Number.{Number}
 use Rattle.steps.specs.declared.Number.the-variants as number
 use Rattle.steps.specs.declared.Head.{Head}

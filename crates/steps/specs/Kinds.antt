@@ -6,8 +6,8 @@ use Rattle.schema.specs.Tables.{Tables, child}
 use Rattle.schema.specs.Labels.{containerLabel, leafLabel, LabelLies}
 use Rattle.schema.specs.declared.Child.{Child}
 use Rattle.schema.specs.declared.Child.the-variants as child
-use Rattle.steps.specs.declared.Sink.{Sink}
-use Rattle.steps.specs.declared.Sink.the-variants as sink
+use Rattle.framing.specs.declared.Walk.{Walk}
+use Rattle.framing.specs.Sinks.{givesLeaves}
 use Rattle.steps.specs.declared.Kind.{Kind}
 use Rattle.steps.specs.declared.Kind.the-variants as kind
 
@@ -18,9 +18,9 @@ kindBy t below level handle width (child.Array lower) =
     (if eqb below 0 then kind.Deep (containerLabel t level handle) else kind.Array lower (containerLabel t level handle))
 
 -- a field of `width` bits, in a level with `below` levels allowed under it
-unfoldable pub kindOf : Sink → Tables → (below level handle width : ℕ) → Kind
-kindOf (sink.Record trailer) t below level handle width = kindBy t below level handle width (child (t .rows) level handle)
-kindOf sink.Object t below level handle width = kind.Object
+unfoldable pub kindOf : Walk → Tables → (below level handle width : ℕ) → Kind
+kindOf s t below level handle width =
+    if givesLeaves s then kindBy t below level handle width (child (t .rows) level handle) else kind.Object
 
 -- its label lies in its pool
 abbrev pub KindLies : Tables → Kind → Type 0

@@ -1,4 +1,5 @@
-pub mod Held
+pub mod Tally
+pub mod Steps
 pub mod Views
 pub mod Heads
 pub mod Paths

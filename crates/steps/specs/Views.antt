@@ -1,6 +1,6 @@
 -- Where the code stands in a walk: positions are bits of the bytes, and a window is the bits from `from` to before `end`.
 use Prim.Native.Nat.{ℕ, _-_, _≤_}
-use mathlib.Core.Bool.{Bool, true, false}
+use mathlib.Core.Bool.{Bool}
 use mathlib.Core.List.{List, []}
 use Rattle.bits.specs.Choice.{if_then_else_}
 use Rattle.bits.specs.Bits.{num, field}
@@ -8,9 +8,8 @@ use Rattle.schema.specs.Tables.{Tables}
 use Rattle.framing.specs.Windows.{Window}
 use Rattle.framing.specs.Events.{Event, nested, root}
 use Rattle.framing.specs.Walk as W
-use Rattle.framing.specs.Sinks.{structSink, objectSinkOver}
-use Rattle.steps.specs.declared.Sink.{Sink}
-use Rattle.steps.specs.declared.Sink.the-variants as sink
+use Rattle.framing.specs.Sinks.{structSink, objectSinkOver, givesLeaves, takesTrailer}
+use Rattle.framing.specs.declared.Walk.{Walk}
 use Rattle.steps.specs.declared.Head.{Head}
 use Rattle.steps.specs.declared.Head.the-variants as head
 
@@ -22,29 +21,20 @@ inner bytes «from» end origin = record { bits = field (num bytes) «from» (en
 unfoldable pub upTo : (bytes : List ℕ) (end : ℕ) → Window
 upTo bytes end = record { bits = num bytes; size = end; origin = 0 }
 
--- ---- what the code's sink stands for
-
-abbrev pub takesTrailer : Sink → Bool
-takesTrailer (sink.Record trailer) = trailer
-takesTrailer sink.Object = true
-
-abbrev pub flattensOf : Sink → Bool
-flattensOf (sink.Record trailer) = true
-flattensOf sink.Object = false
+-- ---- what a walk of the code stands for
 
 -- what is left behind a terminator: inside another array nested bits, else root bits
 abbrev pub leftoverOf : (inside : Bool) → ℕ → Event
 leftoverOf inside = if inside then nested else root
 
-unfoldable pub sinkFor : Sink → Tables → (below : ℕ) (inside : Bool) (level : ℕ) → W.Sink
-sinkFor (sink.Record trailer) t below inside level = structSink below t trailer (leftoverOf inside) level
-sinkFor sink.Object t below inside level =
-    objectSinkOver (leftoverOf inside)
+unfoldable pub sinkFor : Walk → Tables → (below : ℕ) (inside : Bool) (level : ℕ) → W.Sink
+sinkFor s t below inside level =
+    if givesLeaves s then structSink below t (takesTrailer s) (leftoverOf inside) level else objectSinkOver (leftoverOf inside)
 
 -- the ways out of a level don't depend on its fields
-abbrev pub exitSink : Sink → (inside : Bool) → W.Sink
+abbrev pub exitSink : Walk → (inside : Bool) → W.Sink
 exitSink s inside =
-    record { trailer = takesTrailer s; flattens = flattensOf s; leftover = leftoverOf inside; field = λ i path first handle w. [] }
+    record { trailer = takesTrailer s; flattens = givesLeaves s; leftover = leftoverOf inside; field = λ i path first handle w. [] }
 
 -- the position of a head that ends a level or an element is no later than the end
 abbrev pub HeadIn : (end : ℕ) → Head → Type 0

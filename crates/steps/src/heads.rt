@@ -1,20 +1,21 @@
 // What stands at a position: the heads of a level, of an element and of a field.
 ghost use mathlib.Core.Path.{_≡_};
-ghost use Prim.Native.Nat.{_+_, _*_, _≤_, _<_};
+ghost use Prim.Native.Nat.{_+_, _*_, _≤_};
 ghost use lib.ListN.{length};
 ghost use Rattle.bits.specs.Bits.{num, field};
+ghost use Rattle.bits.specs.Sizes.{longestWindow};
 ghost use Rattle.framing.specs.Windows.{reading};
+ghost use Rattle.steps.specs.Steps.{Lies};
 ghost use Rattle.steps.specs.Views.{upTo};
 ghost use Rattle.steps.specs.Heads.{numberOf, levelHead, elementHead, fieldHead, widthHead};
 use crate::Head;
 use crate::Number;
 use bits::Packed;
-
-const MAX_ELEMENTS: u32 = 4096;
+use bits::sizes::MAX_ELEMENTS;
 
 // The packed number at bit at.
 pub fn number_at(bytes: &[u8], at: u64, end: u64) -> Number
-    requires { ⌜ (at ≤ end) × (end ≤ 8 * length (now bytes)) × (end ≤ 524288) ⌝ }
+    requires { ⌜ Lies (now bytes) at end ⌝ }
     ensures { λ r. ⌜ r ≡ numberOf at (reading (upTo (now (bytes .entry)) end) at) ⌝ }
 {
     let number = bits::number::packed_at(bytes, at, end);
@@ -29,9 +30,9 @@ pub fn number_at(bytes: &[u8], at: u64, end: u64) -> Number
     }
 }
 
-// A level: its count.
+// A level: its count (01, Walking an array, rule 1).
 pub fn level_head(bytes: &[u8], at: u64, end: u64) -> Head
-    requires { ⌜ (at ≤ end) × (end ≤ 8 * length (now bytes)) × (end ≤ 524288) ⌝ }
+    requires { ⌜ Lies (now bytes) at end ⌝ }
     ensures { λ r. ⌜ r ≡ levelHead (upTo (now (bytes .entry)) end) at ⌝ }
 {
     let number = number_at(bytes, at, end);
@@ -40,15 +41,19 @@ pub fn level_head(bytes: &[u8], at: u64, end: u64) -> Head
             if MAX_ELEMENTS < count {
                 return Head::Limit(next);
             }
-            Head::Go(count, next, next)
+            Head::Go {
+                value: count,
+                body: next,
+                next: next,
+            }
         }
         Number::Failed => Head::Failed,
     }
 }
 
-// An element of an array of `count`, of which `left` more are allowed: its index.
+// An element of an array of `count`, of which `left` more are allowed: its index (rules 2 and 3).
 pub fn element_head(bytes: &[u8], end: u64, count: u32, left: u32, at: u64) -> Head
-    requires { ⌜ (end ≤ 8 * length (now bytes)) × (end ≤ 524288) ⌝ }
+    requires { ⌜ Lies (now bytes) 0 end ⌝ }
     ensures { λ r. ⌜ r ≡ elementHead (upTo (now (bytes .entry)) end) count left at ⌝ }
 {
     if end <= at {
@@ -66,7 +71,11 @@ pub fn element_head(bytes: &[u8], end: u64, count: u32, left: u32, at: u64) -> H
             if count < v {
                 return Head::Failed;
             }
-            Head::Go(v - 1, next, next)
+            Head::Go {
+                value: v - 1,
+                body: next,
+                next: next,
+            }
         }
         Number::Failed => Head::Failed,
     }
@@ -74,7 +83,7 @@ pub fn element_head(bytes: &[u8], end: u64, count: u32, left: u32, at: u64) -> H
 
 // The width of a field and its payload, the width's number due at bit at.
 fn width_head(bytes: &[u8], end: u64, handle: u32, at: u64) -> Head
-    requires { ⌜ (at ≤ end) × (end ≤ 8 * length (now bytes)) × (end ≤ 524288) ⌝ }
+    requires { ⌜ Lies (now bytes) at end ⌝ }
     ensures { λ r. ⌜ r ≡ widthHead (upTo (now (bytes .entry)) end) handle at ⌝ }
 {
     let number = number_at(bytes, at, end);
@@ -84,15 +93,19 @@ fn width_head(bytes: &[u8], end: u64, handle: u32, at: u64) -> Head
             if end - body < wide {
                 return Head::Failed;
             }
-            Head::Go(handle, body, body + wide)
+            Head::Go {
+                value: handle,
+                body: body,
+                next: body + wide,
+            }
         }
         Number::Failed => Head::Failed,
     }
 }
 
 // The two bytes from bit at.
-fn pair_at(s: &[u8], at: u64) -> u64
-    requires { ⌜ (at + 16 ≤ 8 * length (now s)) × (at ≤ 524288) ⌝ }
+fn two_bytes_at(s: &[u8], at: u64) -> u64
+    requires { ⌜ (at + 16 ≤ 8 * length (now s)) × (at ≤ longestWindow) ⌝ }
     ensures { λ r. ⌜ r ≡ field (num (now (s .entry))) at 16 ⌝ }
 {
     let i = (at / 8) as usize;
@@ -106,7 +119,7 @@ fn pair_at(s: &[u8], at: u64) -> u64
 
 // A field, its numbers of any length.
 fn long_field_head(bytes: &[u8], end: u64, left: u32, at: u64) -> Head
-    requires { ⌜ (end ≤ 8 * length (now bytes)) × (end ≤ 524288) ⌝ }
+    requires { ⌜ Lies (now bytes) 0 end ⌝ }
     ensures { λ r. ⌜ r ≡ fieldHead (upTo (now (bytes .entry)) end) left at ⌝ }
 {
     if end <= at {
@@ -127,9 +140,9 @@ fn long_field_head(bytes: &[u8], end: u64, left: u32, at: u64) -> Head
     }
 }
 
-// A field, of which `left` more are allowed: its handle and payload. Numbers of one byte each are read together.
+// A field, of which `left` more are allowed: its handle and payload (rule 5). Numbers of one byte each are read together.
 pub fn field_head(bytes: &[u8], end: u64, left: u32, at: u64) -> Head
-    requires { ⌜ (end ≤ 8 * length (now bytes)) × (end ≤ 524288) ⌝ }
+    requires { ⌜ Lies (now bytes) 0 end ⌝ }
     ensures { λ r. ⌜ r ≡ fieldHead (upTo (now (bytes .entry)) end) left at ⌝ }
 {
     if end <= at {
@@ -138,7 +151,7 @@ pub fn field_head(bytes: &[u8], end: u64, left: u32, at: u64) -> Head
     if end - at < 16 {
         return long_field_head(bytes, end, left, at);
     }
-    let two = pair_at(bytes, at);
+    let two = two_bytes_at(bytes, at);
     let first = two % 256;
     let next = at + 8;
     if first == 0 {
@@ -161,5 +174,9 @@ pub fn field_head(bytes: &[u8], end: u64, left: u32, at: u64) -> Head
         return Head::Failed;
     }
     let behind = body + wide;
-    Head::Go(handle, body, behind)
+    Head::Go {
+        value: handle,
+        body: body,
+        next: behind,
+    }
 }

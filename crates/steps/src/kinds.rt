@@ -1,22 +1,26 @@
-// What a field is, and what one gives that is no array to walk.
+// What a field is, and what one gives that is no array to walk (01, Walking an array, rules 6 and 8).
 ghost use mathlib.Core.Path.{_≡_};
-ghost use mathlib.Core.Bool.{Bool};
-ghost use Prim.Native.Nat.{ℕ, _+_, _*_, _≤_};
-ghost use lib.ListN.{length, take};
+ghost use Prim.Native.Nat.{ℕ, _≤_};
+ghost use lib.ListN.{take};
+ghost use Rattle.bits.specs.Sizes.{longestPath};
 ghost use Rattle.schema.specs.Tables.{lookUps};
 ghost use Rattle.schema.specs.Spans.{spansOf};
-ghost use Rattle.steps.specs.Held.{held, ran};
+ghost use Rattle.steps.specs.Tally.{worldOf};
+ghost use Rattle.steps.specs.Steps.{Lies, Plays};
 ghost use Rattle.steps.specs.Views.{inner};
 ghost use Rattle.steps.specs.Paths.{pools};
 ghost use Rattle.steps.specs.Kinds.{kindOf, KindLies};
 ghost use Rattle.steps.specs.Gives.{flatField};
 use crate::Kind;
-use crate::Sink;
 use crate::Tag;
 use crate::leaves::put_leaf;
 use crate::objects::object_field;
+use crate::paths::WorkingPath;
 use crate::tally::TRUNCATIONS;
+use crate::tally::Tally;
 use crate::tally::count;
+use crate::walks::gives_leaves;
+use framing::Walk;
 use schema::Child;
 use schema::labels::container_label_from;
 use schema::labels::leaf_label_from;
@@ -24,21 +28,21 @@ use schema::spans::entry_of;
 
 // What a field of `width` bits with this handle is, in a level with `below` levels allowed under it.
 pub fn kind_of(
-    sink: Sink,
+    walk: Walk,
     below: u32,
     rows: &[u32],
-    spans: &[usize; 130],
+    spans: &[usize; schema::spans::SPAN_NUMBERS],
     declared: &[u32],
     level: u32,
     handle: u32,
     width: u64,
 ) -> Kind
     requires { ⌜ now spans ≡ spansOf (now rows) ⌝ }
-    ensures { λ r. ⌜ r ≡ kindOf sink (lookUps (now (rows .entry)) (now (declared .entry))) below level handle width ⌝ }
+    ensures { λ r. ⌜ r ≡ kindOf walk (lookUps (now (rows .entry)) (now (declared .entry))) below level handle width ⌝ }
 {
-    let Sink::Record { trailer: _ } = sink else {
+    if !gives_leaves(walk) {
         return Kind::Object;
-    };
+    }
     let entry = entry_of(rows, spans, level, handle);
     let child = entry.child;
     match child {
@@ -61,7 +65,7 @@ pub fn kind_of(
 
 // A field that is no array to walk: a leaf, an array below the last level, nothing, or a field of the object walk.
 pub fn put_field<'a>(
-    c: &mut [u32; 11],
+    tally: &mut Tally,
     kind: Kind,
     bytes: &[u8],
     from: u64,
@@ -72,25 +76,29 @@ pub fn put_field<'a>(
     plen: usize,
     names: &'a [u8],
     pool: &'a [u8],
-    path: &mut [u8; 1024],
-    words: &mut [u32],
+    path: &mut WorkingPath,
+    records: &mut [u32],
     paths: &mut [u8],
     payloads: &mut [u8],
 )
-    requires { ⌜ («from» ≤ end) × (end ≤ 8 * length (now bytes)) × (end ≤ 524288) × (plen ≤ 1024) × KindLies (pools (now names) (now pool)) kind ⌝ }
-    ensures out { λ _. ⌜ ((o : ℕ) → held (now (c .exit)) (now (words .exit)) (now (paths .exit)) (now (payloads .exit)) ≡ ran (flatField (pools (now (names .entry)) (now (pool .entry))) index (take plen (now (path .entry))) first handle (inner (now (bytes .entry)) «from» end o) kind) (held (now (c .entry)) (now (words .entry)) (now (paths .entry)) (now (payloads .entry)))) ⌝ }
-    ensures kept { λ _. ⌜ take plen (now (path .exit)) ≡ take plen (now (path .entry)) ⌝ }
+    requires { ⌜ Lies (now bytes) «from» end × (plen ≤ longestPath) × KindLies (pools (now names) (now pool)) kind ⌝ }
+    ensures { λ _. ⌜ Plays
+        (λ (o : ℕ). flatField (pools (now (names .entry)) (now (pool .entry))) index (take plen (now (path .entry))) first handle
+        (inner (now (bytes .entry)) «from» end o) kind)
+        (worldOf (now (tally .entry)) (now (records .entry)) (now (paths .entry)) (now (payloads .entry)))
+        (worldOf (now (tally .exit)) (now (records .exit)) (now (paths .exit)) (now (payloads .exit)))
+        plen (now (path .entry)) (now (path .exit)) ⌝ }
 {
     let label = match kind {
         Kind::Object => {
-            return object_field(c, bytes, from, end, index, first, words);
+            return object_field(tally, bytes, from, end, index, first, records);
         }
         Kind::Nothing => {
             return;
         }
         Kind::Leaf(named) => named,
         Kind::Deep(named) => {
-            count(&mut *c, TRUNCATIONS, 1);
+            count(&mut *tally, TRUNCATIONS, 1);
             named
         }
         Kind::Array(_, _) => {
@@ -98,7 +106,7 @@ pub fn put_field<'a>(
         }
     };
     put_leaf(
-        c,
+        tally,
         bytes,
         from,
         end,
@@ -108,7 +116,7 @@ pub fn put_field<'a>(
         names,
         pool,
         path,
-        words,
+        records,
         paths,
         payloads,
     );

@@ -1,8 +1,10 @@
 // One step of a walk (array.rs): what stands at a position, what a field is, and what a step counts and writes. The walkers'
 // cycle only matches, lends and calls; every test on bits and every write stands here.
 //
-// A position is a bit of `bytes`. The counters and the places of the next writes are lent as one array; a run that does not
-// fit its output is not written, and its place is counted all the same, so that a walk lent empty outputs measures.
+// A position is a bit of `bytes`. `names` is the pool of the schema's names, `pool` that of the declared ones. The counters
+// and the places of the next writes are lent as one array, the tally; a run that does not fit its output is not written, and
+// its place is counted all the same, so that a walk lent empty outputs measures. `records` takes leaves, in an object walk
+// pairs.
 pub mod exits;
 pub mod heads;
 pub mod kinds;
@@ -11,14 +13,9 @@ pub mod objects;
 pub mod paths;
 pub mod runs;
 pub mod tally;
+pub mod walks;
 
 use schema::Label;
-
-// What the walks differ in: a struct or exact walk, and whether it takes a trailer; or the object walk.
-pub enum Sink {
-    Record { trailer: bool },
-    Object,
-}
 
 // A packed number and the bit behind it.
 pub enum Number {
@@ -36,8 +33,8 @@ pub enum Head {
     Closed(u64),
     // More than is allowed, and where the tail starts that is kept.
     Limit(u64),
-    // A level's count, an element's index or a field's handle; where its body starts, and where a field's body ends.
-    Go(u32, u64, u64),
+    // A level's count, an element's index or a field's handle; where its body starts, and the bit behind a field's body.
+    Go { value: u32, body: u64, next: u64 },
 }
 
 // What stands behind the dot of a leaf's path.

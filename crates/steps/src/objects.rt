@@ -1,62 +1,65 @@
-// A field of the object walk.
+// A field of the object walk (01, Walking an array, rule 8).
 ghost use mathlib.Core.Path.{_≡_};
 ghost use mathlib.Core.List.{List, [], _∷_};
-ghost use Prim.Native.Nat.{ℕ, _*_, _≤_};
-ghost use lib.ListN.{length};
+ghost use Prim.Native.Nat.{ℕ};
 ghost use Rattle.framing.specs.Events.{pair};
 ghost use Rattle.framing.specs.Sinks.{objectField};
-ghost use Rattle.steps.specs.Held.{held, ran};
+ghost use Rattle.steps.specs.Tally.{worldOf, played};
+ghost use Rattle.steps.specs.Steps.{Lies};
 ghost use Rattle.steps.specs.Views.{inner};
 use crate::Number;
 use crate::heads::number_at;
-use crate::runs::store_pair;
 use crate::tally::ERRORS;
 use crate::tally::FIELDS;
 use crate::tally::NESTED;
-use crate::tally::WORDS;
+use crate::tally::RECORDS;
+use crate::tally::Tally;
 use crate::tally::count;
-
-const PAIR_WORDS: u32 = 2;
+use outputs::records::PAIR_WORDS;
+use outputs::records::store_pair;
 
 // A pair, written and counted.
-fn put_pair(c: &mut [u32; 11], words: &mut [u32], index: u32, guid: u32)
-    ensures { λ _. ⌜ ((text load : List ℕ) → held (now (c .exit)) (now (words .exit)) text load ≡ ran (pair (record { index = index; guid = guid }) ∷ []) (held (now (c .entry)) (now (words .entry)) text load)) ⌝ }
+fn put_pair(tally: &mut Tally, records: &mut [u32], index: u32, guid: u32)
+    ensures { λ _. ⌜ ((paths payloads : List ℕ) → worldOf (now (tally .exit)) (now (records .exit)) paths payloads
+        ≡ played (pair (record { index = index; guid = guid }) ∷ []) (worldOf (now (tally .entry)) (now (records .entry)) paths payloads)) ⌝ }
 {
-    let at = c[WORDS];
-    store_pair(words, at, index, guid);
-    count(&mut *c, FIELDS, 1);
-    count(c, WORDS, PAIR_WORDS);
+    let at = tally[RECORDS];
+    store_pair(records, at, index, guid);
+    count(&mut *tally, FIELDS, 1);
+    count(tally, RECORDS, PAIR_WORDS as u32);
 }
 
 // The bits from..end of bytes as a field of the element `index`; first: no field before it had a payload.
 pub fn object_field(
-    c: &mut [u32; 11],
+    tally: &mut Tally,
     bytes: &[u8],
     from: u64,
     end: u64,
     index: u32,
     first: bool,
-    words: &mut [u32],
+    records: &mut [u32],
 )
-    requires { ⌜ («from» ≤ end) × (end ≤ 8 * length (now bytes)) × (end ≤ 524288) ⌝ }
-    ensures { λ _. ⌜ ((o : ℕ) (text load : List ℕ) → held (now (c .exit)) (now (words .exit)) text load ≡ ran (objectField index first (inner (now (bytes .entry)) «from» end o)) (held (now (c .entry)) (now (words .entry)) text load)) ⌝ }
+    requires { ⌜ Lies (now bytes) «from» end ⌝ }
+    ensures { λ _. ⌜ ((o : ℕ) (paths payloads : List ℕ) → worldOf (now (tally .exit)) (now (records .exit)) paths payloads
+        ≡ played (objectField index first (inner (now (bytes .entry)) «from» end o))
+        (worldOf (now (tally .entry)) (now (records .entry)) paths payloads)) ⌝ }
 {
     if from == end {
         return;
     }
     if !first {
-        count(c, NESTED, (end - from) as u32);
+        count(tally, NESTED, (end - from) as u32);
         return;
     }
     let number = number_at(bytes, from, end);
     match number {
         Number::Value(guid, next) => {
             if next == end {
-                put_pair(c, words, index, guid);
+                put_pair(tally, records, index, guid);
                 return;
             }
-            count(c, ERRORS, 1);
+            count(tally, ERRORS, 1);
         }
-        Number::Failed => count(c, ERRORS, 1),
+        Number::Failed => count(tally, ERRORS, 1),
     }
 }

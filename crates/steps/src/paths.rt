@@ -3,25 +3,31 @@ ghost use mathlib.Core.Path.{_≡_};
 ghost use mathlib.Core.List.{[], _∷_, _++_};
 ghost use Prim.Native.Nat.{_+_, _≤_};
 ghost use lib.ListN.{length, take};
-ghost use Rattle.bits.specs.Runs.{put, store};
-ghost use Rattle.schema.specs.Decimals.{decimal};
+ghost use Rattle.bits.specs.Sizes.{longestPath};
+ghost use Rattle.bits.specs.Runs.{put};
+ghost use Rattle.bits.specs.Decimals.{decimal};
 ghost use Rattle.schema.specs.Labels.{dot, labelBytes, labelLength, LabelLies};
 ghost use Rattle.steps.specs.Paths.{pools, tagBytes, tagLength, TagLies, Entered, Grew};
-use crate::Sink;
 use crate::Tag;
 use crate::runs::copy_run;
 use crate::tally::ELEMENTS;
 use crate::tally::OVERS;
+use crate::tally::Tally;
 use crate::tally::count;
+use crate::walks::gives_leaves;
+use bits::decimal::write_decimal;
+use bits::digits::decimal_length;
+use bits::sizes::LONGEST_PATH;
+use framing::Walk;
 use schema::Label;
-use schema::decimal::decimal_length;
-use schema::decimal::write_decimal;
 use schema::labels::label_length;
 use schema::labels::label_part;
 
+pub type WorkingPath = [u8; LONGEST_PATH];
+
 // How many bytes a working path may have. Lent as a slice, the array tells its length.
-pub fn path_room(path: &[u8; 1024]) -> usize
-    ensures { λ r. ⌜ (r ≡ 1024) × (length (now (path .entry)) ≡ 1024) ⌝ }
+pub fn path_room(path: &WorkingPath) -> usize
+    ensures { λ r. ⌜ (r ≡ longestPath) × (length (now (path .entry)) ≡ longestPath) ⌝ }
 {
     let whole: &[u8] = path;
     whole.len()
@@ -38,10 +44,10 @@ pub fn tag_length(tag: Tag, handle: u32) -> usize
 }
 
 // `_raw` from byte at of the working path.
-fn write_raw(path: &mut [u8; 1024], at: usize)
-    requires { ⌜ at + 4 ≤ 1024 ⌝ }
+fn write_raw(path: &mut WorkingPath, at: usize)
+    requires { ⌜ at + 4 ≤ longestPath ⌝ }
     ensures out { λ _. ⌜ now (path .exit) ≡ put (now (path .entry)) at (95 ∷ 114 ∷ 97 ∷ 119 ∷ []) ⌝ }
-    ensures sized { λ _. ⌜ length (now (path .entry)) ≡ 1024 ⌝ }
+    ensures sized { λ _. ⌜ length (now (path .entry)) ≡ longestPath ⌝ }
 {
     let whole: &mut [u8] = path;
     whole[at] = 95;
@@ -52,16 +58,16 @@ fn write_raw(path: &mut [u8; 1024], at: usize)
 
 // The label from byte at of the working path, which has room for it.
 fn write_label<'a>(
-    path: &mut [u8; 1024],
+    path: &mut WorkingPath,
     at: usize,
     label: Label,
     handle: u32,
     names: &'a [u8],
     pool: &'a [u8],
 )
-    requires { ⌜ (LabelLies (pools (now names) (now pool)) label) × (at + labelLength handle label ≤ 1024) ⌝ }
+    requires { ⌜ (LabelLies (pools (now names) (now pool)) label) × (at + labelLength handle label ≤ longestPath) ⌝ }
     ensures out { λ _. ⌜ now (path .exit) ≡ put (now (path .entry)) at (labelBytes (pools (now (names .entry)) (now (pool .entry))) handle label) ⌝ }
-    ensures sized { λ _. ⌜ length (now (path .entry)) ≡ 1024 ⌝ }
+    ensures sized { λ _. ⌜ length (now (path .entry)) ≡ longestPath ⌝ }
 {
     match label {
         Label::Plain => {
@@ -82,14 +88,14 @@ fn write_label<'a>(
 
 // A dot and the tag behind the working path, which has room for them.
 pub fn write_tag<'a>(
-    path: &mut [u8; 1024],
+    path: &mut WorkingPath,
     plen: usize,
     tag: Tag,
     handle: u32,
     names: &'a [u8],
     pool: &'a [u8],
 )
-    requires { ⌜ (TagLies (pools (now names) (now pool)) tag) × (plen + 1 + tagLength handle tag ≤ 1024) ⌝ }
+    requires { ⌜ (TagLies (pools (now names) (now pool)) tag) × (plen + 1 + tagLength handle tag ≤ longestPath) ⌝ }
     ensures { λ _. ⌜ now (path .exit) ≡ put (now (path .entry)) plen (46 ∷ tagBytes (pools (now (names .entry)) (now (pool .entry))) handle tag) ⌝ }
 {
     path[plen] = 46;
@@ -101,21 +107,22 @@ pub fn write_tag<'a>(
 
 // The working path with `.label` behind it: its length. One that would be too long stays as it is.
 pub fn grow_label<'a>(
-    c: &mut [u32; 11],
-    path: &mut [u8; 1024],
+    tally: &mut Tally,
+    path: &mut WorkingPath,
     plen: usize,
     label: Label,
     handle: u32,
     names: &'a [u8],
     pool: &'a [u8],
 ) -> usize
-    requires { ⌜ (plen ≤ 1024) × LabelLies (pools (now names) (now pool)) label ⌝ }
-    ensures { λ r. ⌜ Grew (dot (take plen (now (path .entry))) (labelBytes (pools (now (names .entry)) (now (pool .entry))) handle label)) (now (c .entry)) (now (c .exit)) plen r (now (path .entry)) (now (path .exit)) ⌝ }
+    requires { ⌜ (plen ≤ longestPath) × LabelLies (pools (now names) (now pool)) label ⌝ }
+    ensures { λ r. ⌜ Grew (dot (take plen (now (path .entry))) (labelBytes (pools (now (names .entry)) (now (pool .entry))) handle label))
+        (now (tally .entry)) (now (tally .exit)) plen r (now (path .entry)) (now (path .exit)) ⌝ }
 {
     let room = path_room(path);
     let n = plen + 1 + label_length(label, handle);
     if room < n {
-        count(c, OVERS, 1);
+        count(tally, OVERS, 1);
         return plen;
     }
     write_tag(path, plen, Tag::Label(label), handle, names, pool);
@@ -123,8 +130,8 @@ pub fn grow_label<'a>(
 }
 
 // `[index]` behind the working path, which has room for it; k is how many digits the index has.
-fn write_index(path: &mut [u8; 1024], plen: usize, k: usize, index: u32)
-    requires { ⌜ (k ≡ length (decimal index)) × (plen + k + 2 ≤ 1024) ⌝ }
+fn write_index(path: &mut WorkingPath, plen: usize, k: usize, index: u32)
+    requires { ⌜ (k ≡ length (decimal index)) × (plen + k + 2 ≤ longestPath) ⌝ }
     ensures { λ _. ⌜ now (path .exit) ≡ put (now (path .entry)) plen (91 ∷ decimal index ++ (93 ∷ [])) ⌝ }
 {
     path[plen] = 91;
@@ -132,20 +139,26 @@ fn write_index(path: &mut [u8; 1024], plen: usize, k: usize, index: u32)
     path[plen + 1 + k] = 93;
 }
 
-// Counts an element, and puts `[index]` behind the working path: its length. The object walk has no paths.
-pub fn enter(c: &mut [u32; 11], path: &mut [u8; 1024], sink: Sink, plen: usize, index: u32) -> usize
-    requires { ⌜ plen ≤ 1024 ⌝ }
-    ensures { λ r. ⌜ Entered sink index (now (c .entry)) (now (c .exit)) plen r (now (path .entry)) (now (path .exit)) ⌝ }
+// Counts an element (01, Walking an array, rule 4), and puts `[index]` behind the working path: its length. The object walk has no paths.
+pub fn enter(
+    tally: &mut Tally,
+    path: &mut WorkingPath,
+    walk: Walk,
+    plen: usize,
+    index: u32,
+) -> usize
+    requires { ⌜ plen ≤ longestPath ⌝ }
+    ensures { λ r. ⌜ Entered walk index (now (tally .entry)) (now (tally .exit)) plen r (now (path .entry)) (now (path .exit)) ⌝ }
 {
-    count(&mut *c, ELEMENTS, 1);
-    let Sink::Record { trailer: _ } = sink else {
+    count(&mut *tally, ELEMENTS, 1);
+    if !gives_leaves(walk) {
         return plen;
-    };
+    }
     let room = path_room(path);
     let k = decimal_length(index);
     let n = plen + k + 2;
     if room < n {
-        count(c, OVERS, 1);
+        count(tally, OVERS, 1);
         return plen;
     }
     write_index(path, plen, k, index);

@@ -1,8 +1,9 @@
-// The seven counters, the working paths that would have been too long, and the places of the next writes.
+// The tally of a walk: the seven counters, the working paths that would have been too long, and the places of the next
+// writes.
 ghost use mathlib.Core.Path.{_≡_};
 ghost use Prim.Native.Nat.{_<_};
 ghost use lib.ListN.{length};
-ghost use Rattle.steps.specs.Held.{bumped, reserved};
+ghost use Rattle.steps.specs.Tally.{slots, bumped, reserved};
 
 pub const ELEMENTS: usize = 0;
 
@@ -20,30 +21,34 @@ pub const IMPLICIT: usize = 6;
 
 pub const OVERS: usize = 7;
 
-pub const WORDS: usize = 8;
+pub const RECORDS: usize = 8;
 
-pub const TEXT: usize = 9;
+pub const PATHS: usize = 9;
 
-pub const LOAD: usize = 10;
+pub const PAYLOADS: usize = 10;
 
-// Adds n to a counter. Lent as a slice, the array tells that it has eleven numbers.
-pub fn count(c: &mut [u32; 11], place: usize, n: u32)
-    requires { ⌜ place < 11 ⌝ }
-    ensures counts { λ _. ⌜ now (c .exit) ≡ bumped (now (c .entry)) place n ⌝ }
-    ensures eleven { λ _. ⌜ length (now (c .entry)) ≡ 11 ⌝ }
+pub const SLOTS: usize = 11;
+
+pub type Tally = [u32; SLOTS];
+
+// Adds n to a number. Lent as a slice, the array tells how many it has.
+pub fn count(tally: &mut Tally, place: usize, n: u32)
+    requires { ⌜ place < slots ⌝ }
+    ensures counts { λ _. ⌜ now (tally .exit) ≡ bumped (now (tally .entry)) place n ⌝ }
+    ensures sized { λ _. ⌜ length (now (tally .entry)) ≡ slots ⌝ }
 {
-    let all: &mut [u32] = c;
+    let all: &mut [u32] = tally;
     let old = all[place];
     all[place] = std::num::wrapping_add_u32(old, n);
 }
 
-// Counts a leaf of so many words, path bytes and payload bytes.
-pub fn reserve(c: &mut [u32; 11], words: u32, text: u32, load: u32)
-    ensures counts { λ _. ⌜ now (c .exit) ≡ reserved (now (c .entry)) words text load ⌝ }
-    ensures eleven { λ _. ⌜ length (now (c .entry)) ≡ 11 ⌝ }
+// Counts a leaf of so many numbers, path bytes and payload bytes.
+pub fn reserve(tally: &mut Tally, records: u32, paths: u32, payloads: u32)
+    ensures counts { λ _. ⌜ now (tally .exit) ≡ reserved (now (tally .entry)) records paths payloads ⌝ }
+    ensures sized { λ _. ⌜ length (now (tally .entry)) ≡ slots ⌝ }
 {
-    count(&mut *c, FIELDS, 1);
-    count(&mut *c, WORDS, words);
-    count(&mut *c, TEXT, text);
-    count(c, LOAD, load);
+    count(&mut *tally, FIELDS, 1);
+    count(&mut *tally, RECORDS, records);
+    count(&mut *tally, PATHS, paths);
+    count(tally, PAYLOADS, payloads);
 }

@@ -1,114 +1,125 @@
--- `array::decode_object_ref_array` meets its contract: each exit is one of the laws of the two passes. Below, t is the place behind the spans, m
--- behind the pass that measures, w behind the pass that writes.
+-- Each exit is one of the laws of the test and of the two passes.
 use borrow.Author.Needs.{needs}
-use native.Mathlib.Omega.{arith}
-use Rattle.array.proofs.PassLaws.{passable, none-laid, words-alone}
-use Rattle.array.proofs.CallLaws.{objects-long, objects-short, objects-written}
+use mathlib.Core.Path.{sym, _∙_}
+use Rattle.array.proofs.PassLaws.{passable, none-laid}
+use Rattle.array.proofs.CallLaws.{objects-long, objects-told}
 use Rattle.array.proofs.decode_object_ref_array.Statement.{statement}
 use Rattle.array.proofs.decode_object_ref_array.Tie as tie
 
+is-too-long-requires : tie.Need-is-too-long-requires
+is-too-long-requires c κs = search needs
+
 returns : tie.Need-returns
-returns c = objects-long _ _ _ (c .if1 .taken)
+returns c = objects-long _ _ _ (sym (c .before .is-too-long .ensures) ∙ c .if1 .taken)
 
-slice-aggregate-level-spans : tie.Need-slice-aggregate-level-spans
-slice-aggregate-level-spans c = search needs
+slice-aggregate-two-passes : tie.Need-slice-aggregate-two-passes
+slice-aggregate-two-passes c = search needs
 
-level-spans-requires : tie.Need-level-spans-requires
-level-spans-requires c κs = search needs
+slice-aggregate-two-passes-2 : tie.Need-slice-aggregate-two-passes-2
+slice-aggregate-two-passes-2 c = search needs
 
-slice-aggregate-measure : tie.Need-slice-aggregate-measure
-slice-aggregate-measure c = search needs
+slice-aggregate-two-passes-3 : tie.Need-slice-aggregate-two-passes-3
+slice-aggregate-two-passes-3 c = search needs
 
-slice-aggregate-measure-2 : tie.Need-slice-aggregate-measure-2
-slice-aggregate-measure-2 c = search needs
+slice-aggregate-two-passes-4 : tie.Need-slice-aggregate-two-passes-4
+slice-aggregate-two-passes-4 c = search needs
 
-slice-aggregate-measure-3 : tie.Need-slice-aggregate-measure-3
-slice-aggregate-measure-3 c = search needs
+slice-aggregate-two-passes-5 : tie.Need-slice-aggregate-two-passes-5
+slice-aggregate-two-passes-5 c = search needs
 
-slice-aggregate-measure-4 : tie.Need-slice-aggregate-measure-4
-slice-aggregate-measure-4 c = search needs
+slice-aggregate-two-passes-6 : tie.Need-slice-aggregate-two-passes-6
+slice-aggregate-two-passes-6 c = search needs
 
-measure-requires : tie.Need-measure-requires
-measure-requires c κs =
-    let t = c .before .before .before .before .before .before in
-    passable _ _ _ _ _ (t .before .before .if1 .left) none-laid (t .level-spans .ensures)
+two-passes-requires : tie.Need-two-passes-requires
+two-passes-requires c κs =
+    let few = c .before .before .before .before .before .before .before in
+    passable _ _ _ _ (sym (few .before .is-too-long .ensures) ∙ few .if1 .left) none-laid
 
-array-read-given : tie.Need-array-read-given
-array-read-given c = search needs
+enum-known-passed : tie.Need-enum-known-passed
+enum-known-passed c = search needs
 
-length-of-requires : tie.Need-length-of-requires
-length-of-requires c κs = search needs
+enum-known-passed-2 : tie.Need-enum-known-passed-2
+enum-known-passed-2 c = search needs
 
-returns-2 : tie.Need-returns-2
-returns-2 c =
-    let t = c .before .before .before .before .before .before .before .before .before in
-    objects-short _ _ _ _ _ (t .before .before .if1 .left) _ (c .before .before .measure .ensures)
-    (let e = c .before .length-of .ensures in let h = c .if2 .taken in omega arith)
+enum-told : tie.Need-enum-told
+enum-told c = search needs
 
-slice-aggregate-pass : tie.Need-slice-aggregate-pass
-slice-aggregate-pass c = search needs
+enum-told-2 : tie.Need-enum-told-2
+enum-told-2 c = search needs
 
-slice-aggregate-pass-2 : tie.Need-slice-aggregate-pass-2
-slice-aggregate-pass-2 c = search needs
-
-slice-aggregate-pass-3 : tie.Need-slice-aggregate-pass-3
-slice-aggregate-pass-3 c = search needs
-
-slice-aggregate-pass-4 : tie.Need-slice-aggregate-pass-4
-slice-aggregate-pass-4 c = search needs
-
-slice-aggregate-pass-5 : tie.Need-slice-aggregate-pass-5
-slice-aggregate-pass-5 c = search needs
-
-slice-aggregate-pass-6 : tie.Need-slice-aggregate-pass-6
-slice-aggregate-pass-6 c = search needs
-
-pass-requires : tie.Need-pass-requires
-pass-requires c κs =
-    let t = c .before .before .before .before .before .before .before .before .before .before .before .before .before .before .before .before .before .before .before in
-    passable _ _ _ _ _ (t .before .before .if1 .left) none-laid (t .level-spans .ensures)
-
-stats-of-requires : tie.Need-stats-of-requires
-stats-of-requires c κs = search needs
-
-verdict-requires : tie.Need-verdict-requires
-verdict-requires c κs = search needs
+enum-told-3 : tie.Need-enum-told-3
+enum-told-3 c = search needs
 
 same-length : tie.Need-same-length
 same-length c = search needs
 
+returns-2 : tie.Need-returns-2
+returns-2 c =
+    let both = c .before .before .before .before .before .before .before in
+    let few = both .before .before .before .before .before .before .before .before in
+    objects-told _ _ _ (sym (few .before .is-too-long .ensures) ∙ few .if1 .left) _ _ _ (c .before .passed .given .1) (both .two-passes .ensures)
+
+same-length-2 : tie.Need-same-length-2
+same-length-2 c = search needs
+
 returns-3 : tie.Need-returns-3
 returns-3 c =
-    let w = c .before .before .before .before .before .before .before in
-    let m = w .before .before .before .before .before .before .before .before .before .before .before .before .before in
-    let t = m .before .before .before .before .before .before .before in
-    objects-written _ _ _ _ _ (t .before .before .if1 .left) _ (m .measure .ensures)
-    (let e = w .before .before .before .before .before .before .before .before .before .before .before .before .length-of .ensures in let h = w .before .before .before .before .before .before .before .before .before .before .before .if2 .left in omega arith) _ _
-    (words-alone _ _ _ _ _ _ (search needs) (search needs) (w .pass .ensures)) _ (c .before .stats-of .ensures) _ (c .verdict .ensures)
+    let both = c .before .before .before .before .before .before .before in
+    let few = both .before .before .before .before .before .before .before .before in
+    objects-told _ _ _ (sym (few .before .is-too-long .ensures) ∙ few .if1 .left) _ _ _ (c .before .passed2 .given .1) (both .two-passes .ensures)
+
+same-length-3 : tie.Need-same-length-3
+same-length-3 c = search needs
+
+returns-4 : tie.Need-returns-4
+returns-4 c =
+    let both = c .before .before .before .before .before .before in
+    let few = both .before .before .before .before .before .before .before .before in
+    objects-told _ _ _ (sym (few .before .is-too-long .ensures) ∙ few .if1 .left) _ _ _ (c .enum-told .given .1) (both .two-passes .ensures)
+
+same-length-4 : tie.Need-same-length-4
+same-length-4 c = search needs
+
+returns-5 : tie.Need-returns-5
+returns-5 c =
+    let both = c .before .before .before .before .before .before in
+    let few = both .before .before .before .before .before .before .before .before in
+    objects-told _ _ _ (sym (few .before .is-too-long .ensures) ∙ few .if1 .left) _ _ _ (c .enum-told2 .given .1) (both .two-passes .ensures)
+
+same-length-5 : tie.Need-same-length-5
+same-length-5 c = search needs
+
+returns-6 : tie.Need-returns-6
+returns-6 c =
+    let both = c .before .before .before .before .before .before in
+    let few = both .before .before .before .before .before .before .before .before in
+    objects-told _ _ _ (sym (few .before .is-too-long .ensures) ∙ few .if1 .left) _ _ _ (c .enum-told3 .given .1) (both .two-passes .ensures)
 
 pub decode-object-ref-array-spec : {M : Type 1} → statement M
 decode-object-ref-array-spec =
     tie.close
     (tie.spec
+    is-too-long-requires
     returns
-    slice-aggregate-level-spans
-    level-spans-requires
-    slice-aggregate-measure
-    slice-aggregate-measure-2
-    slice-aggregate-measure-3
-    slice-aggregate-measure-4
-    measure-requires
-    array-read-given
-    length-of-requires
-    returns-2
-    slice-aggregate-pass
-    slice-aggregate-pass-2
-    slice-aggregate-pass-3
-    slice-aggregate-pass-4
-    slice-aggregate-pass-5
-    slice-aggregate-pass-6
-    pass-requires
-    stats-of-requires
-    verdict-requires
+    slice-aggregate-two-passes
+    slice-aggregate-two-passes-2
+    slice-aggregate-two-passes-3
+    slice-aggregate-two-passes-4
+    slice-aggregate-two-passes-5
+    slice-aggregate-two-passes-6
+    two-passes-requires
+    enum-known-passed
+    enum-known-passed-2
+    enum-told
+    enum-told-2
+    enum-told-3
     same-length
-    returns-3)
+    returns-2
+    same-length-2
+    returns-3
+    same-length-3
+    returns-4
+    same-length-4
+    returns-5
+    same-length-5
+    returns-6)

@@ -28,19 +28,20 @@ use borrow.Author.Needs.{needs}
 use Prim.Native.Nat.{_+_, _*_, _-_, _/_}
 use native.Mathlib.Omega.{arith}
 use mathlib.Core.Path.{_≡_, refl, sym, ap, _∙_}
+use mathlib.Core.Bool.{true}
 use mathlib.Core.List.{List}
 use lib.ListN.{length, take}
 use Rattle.schema.specs.Tables.{tables}
 use Rattle.schema.specs.Labels.{dot}
 use Rattle.framing.specs.Events.{Trace}
-use Rattle.framing.specs.Paths.{grown, noted}
-use Rattle.steps.specs.Held.{held, ran}
+use Rattle.framing.specs.Paths.{grownPath, overIfLong}
+use Rattle.steps.specs.Tally.{worldOf, played}
 use Rattle.cycle.specs.Cycle.{place}
 use Rattle.steps.proofs.CaseLaws.{not-go, not-closed, not-array}
 use Rattle.steps.proofs.ShiftLaws.{part-bytes}
 use Rattle.steps.proofs.WalkLaws.{level-head-in, element-head-in, field-head-in, element-next, field-next}
 use Rattle.steps.proofs.FieldKindLaws.{pool-bytes, pool-lies, kind-pools, flat-pools, array-below}
-use Rattle.cycle.proofs.CycleLaws.{kind-is, kind-ready, Fielding, fields-begin, fields-turn, fields-shut, fields-end, Leveling, prefix, level-end, level-begin, elements-end, elements-turn, elements-open, field-put, field-walked, ready-child, ready-part}
+use Rattle.cycle.proofs.CycleLaws.{kind-is, kind-ready, Fielding, fields-begin, fields-turn, fields-shut, fields-end, Leveling, prefix, level-end, level-begin, elements-end, elements-turn, elements-open, field-put, field-walked, up-to, ready-child, ready-part}
 
 abbrev μ-walk-field : Measures 10 walk-field-kinds.ps ℕ
 μ-walk-field κs a =
@@ -119,7 +120,7 @@ walk-level-claims t = (
 walk-field-sub-width : (t : ℕ) → walk-field-lts.Need-sub-width (walk-field-claims t) (walk-field-at t) walk-field.Post
 walk-field-sub-width t c =
     let at-start = c .before .before .before .before .before .before .before .before in
-    omega (arith, at-start .pre .1 .ordered, at-start .pre .1 .inside, at-start .pre .1 .short)
+    omega (arith, at-start .pre .1 .lies)
 
 walk-field-kind-of-requires : (t : ℕ) → walk-field-lts.Need-kind-of-requires (walk-field-claims t) (walk-field-at t) walk-field.Post
 walk-field-kind-of-requires t c κs =
@@ -136,7 +137,7 @@ walk-field-put-field-requires t c κs =
     let a = at-start .args in
     let ready = at-start .pre .1 in
     let lies = kind-ready (a .rows .now) (a .names .now) (a .declared .now) (a .pool .now) ready _ _ _ _ _ (at-after-kind-of .kind-of .ensures) in
-    (ready .ordered, ready .inside, ready .short, ready .path, kind-pools (a .rows .now) (a .names .now) (a .declared .now) (a .pool .now) (at-after-kind-of .kind-of .result) lies)
+    (ready .lies, ready .path, kind-pools (a .rows .now) (a .names .now) (a .declared .now) (a .pool .now) (at-after-kind-of .kind-of .result) lies)
 
 walk-field-same-length : (t : ℕ) → walk-field-lts.Need-same-length (walk-field-claims t) (walk-field-at t) walk-field.Post
 walk-field-same-length t c = search needs
@@ -156,9 +157,9 @@ walk-field-returns t c =
     let a = at-start .args in
     let k = kind-is (a .rows .now) (a .names .now) (a .declared .now) (a .pool .now) _ _ _ _ _ (at-after-kind-of .kind-of .ensures) in
     let put = at-after-put-field .put-field .ensures in
-    let x = held (a .c .now) (a .words .now) (a .paths .now) (a .payloads .now) in
-    field-put _ _ _ _ _ _ (at-start .pre .1 .ordered) _ k (not-array (at-after-kind-of .kind-of .result) (at-at-match-keys2 .match .keys2)) _ _
-    (λ o. put .0 o ∙ ap (λ (u : Trace). ran u x) (flat-pools (a .rows .now) (a .names .now) (a .declared .now) (a .pool .now) _ _ _ _ _ _)) (put .1)
+    let x = worldOf (a .tally .now) (a .records .now) (a .paths .now) (a .payloads .now) in
+    field-put _ _ _ _ _ _ (at-start .pre .1 .lies .0) _ k (not-array (at-after-kind-of .kind-of .result) (at-at-match-keys2 .match .keys2)) _ _
+    (λ o. put .out o ∙ ap (λ (u : Trace). played u x) (flat-pools (a .rows .now) (a .names .now) (a .declared .now) (a .pool .now) _ _ _ _ _ _)) (put .kept)
 
 walk-field-grow-label-requires : (t : ℕ) → walk-field-lts.Need-grow-label-requires (walk-field-claims t) (walk-field-at t) walk-field.Post
 walk-field-grow-label-requires t c κs =
@@ -173,27 +174,27 @@ walk-field-grow-label-requires t c κs =
 walk-field-add-z : (t : ℕ) → walk-field-lts.Need-add-z (walk-field-claims t) (walk-field-at t) walk-field.Post
 walk-field-add-z t c =
     let at-start = c .before .before .before .before .before .before .before .before .before .before .before .before .before .before .before in
-    omega (arith, at-start .pre .1 .ordered, at-start .pre .1 .inside, at-start .pre .1 .short)
+    omega (arith, at-start .pre .1 .lies)
 
 walk-field-sub-walk-level : (t : ℕ) → walk-field-lts.Need-sub-walk-level (walk-field-claims t) (walk-field-at t) walk-field.Post
 walk-field-sub-walk-level t c =
     let at-start = c .before .before .before .before .before .before .before .before .before .before .before .before .before .before .before .before in
-    omega (arith, at-start .pre .1 .ordered, at-start .pre .1 .inside, at-start .pre .1 .short)
+    omega (arith, at-start .pre .1 .lies)
 
 walk-field-part-walk-level-start : (t : ℕ) → walk-field-lts.Need-part-walk-level-start (walk-field-claims t) (walk-field-at t) walk-field.Post
 walk-field-part-walk-level-start t c =
     let at-start = c .before .before .before .before .before .before .before .before .before .before .before .before .before .before .before .before in
-    omega (arith, at-start .pre .1 .ordered, at-start .pre .1 .inside, at-start .pre .1 .short)
+    omega (arith, at-start .pre .1 .lies)
 
 walk-field-part-walk-level-end : (t : ℕ) → walk-field-lts.Need-part-walk-level-end (walk-field-claims t) (walk-field-at t) walk-field.Post
 walk-field-part-walk-level-end t c =
     let at-start = c .before .before .before .before .before .before .before .before .before .before .before .before .before .before .before .before in
-    omega (arith, at-start .pre .1 .ordered, at-start .pre .1 .inside, at-start .pre .1 .short)
+    omega (arith, at-start .pre .1 .lies)
 
 walk-field-add-walk-level : (t : ℕ) → walk-field-lts.Need-add-walk-level (walk-field-claims t) (walk-field-at t) walk-field.Post
 walk-field-add-walk-level t c =
     let at-start = c .before .before .before .before .before .before .before .before .before .before .before .before .before .before .before .before .before in
-    omega (arith, at-start .pre .1 .ordered, at-start .pre .1 .inside, at-start .pre .1 .short)
+    omega (arith, at-start .pre .1 .lies)
 
 walk-field-sub-walk-level-2 : (t : ℕ) → walk-field-lts.Need-sub-walk-level-2 (walk-field-claims t) (walk-field-at t) walk-field.Post
 walk-field-sub-walk-level-2 t c =
@@ -231,26 +232,26 @@ walk-field-returns-2 t c =
     let a = at-start .args in
     let ready = at-start .pre .1 in
     let grew = at-after-grow-label .grow-label .ensures in
-    let ran-level = at-after-walk-level .walk-level .ensures in
+    let played-level = at-after-walk-level .walk-level .ensures in
     let bytes = pool-bytes (a .rows .now) (a .names .now) (a .declared .now) (a .pool .now) (a .handle) (at-after-kind .kind .given .0 .1 .0) in
     let path = take (a .plen) (a .path .now) in
-    let x = held (a .c .now) (a .words .now) (a .paths .now) (a .payloads .now) in
+    let x = worldOf (a .tally .now) (a .records .now) (a .paths .now) (a .payloads .now) in
     let k = kind-is (a .rows .now) (a .names .now) (a .declared .now) (a .pool .now) _ _ _ _ _ (sym (at-after-kind .kind .given .1) ∙ at-after-kind-of .kind-of .ensures) in
-    field-walked _ _ _ _ _ _ (ready .ordered) _ _ k _ _ _ _ _ _ _
-    (grew .counts (a .words .now) (a .paths .now) (a .payloads .now) ∙ ap (λ (l : List ℕ). ran (noted (dot path l)) x) bytes)
-    (grew .is ∙ ap (λ (l : List ℕ). grown path (dot path l)) bytes) ran-level refl
-    (λ o. part-bytes _ _ _ o ((a .end + 7) / 8 - a .from / 8) (λ i. at-after-shared-slice-known .shared-slice-known .given i .fits) (ready .ordered)
-    (omega (arith, ready .ordered, ready .inside, ready .short)))
-    (prefix _ _ _ _ (grew .more) (ran-level .kept) ∙ grew .kept)
+    field-walked _ _ _ _ _ _ (ready .lies .0) _ _ k _ _ _ _ _ _ _
+    (grew .counts (a .records .now) (a .paths .now) (a .payloads .now) ∙ ap (λ (l : List ℕ). played (overIfLong (dot path l)) x) bytes)
+    (grew .is ∙ ap (λ (l : List ℕ). grownPath path (dot path l)) bytes) played-level refl
+    (λ o. part-bytes _ _ _ o ((a .end + 7) / 8 - a .from / 8) (λ i. at-after-shared-slice-known .shared-slice-known .given i .fits) (ready .lies .0)
+    (omega (arith, ready .lies)))
+    (prefix _ _ _ _ (grew .more) (played-level .kept) ∙ grew .kept)
 
 abbrev walk-fields-Inv-loop : walk-fields-lts.InvT-loop
-walk-fields-Inv-loop c₀ bytes from end sink below level plen index rows spans names declared pool path₀ words₀ paths₀ payloads₀ first₀ at₀ left₀ c path words paths payloads first at left =
-    Fielding (place sink (tables rows names declared pool) below level bytes end (take plen path₀)) index «from»
-    (held c₀ words₀ paths₀ payloads₀) (held c words paths payloads) (take plen path) at left first
-    × (length words ≡ length words₀) × (length paths ≡ length paths₀) × (length payloads ≡ length payloads₀)
+walk-fields-Inv-loop tally₀ bytes from end walk below level plen index rows spans names declared pool path₀ records₀ paths₀ payloads₀ first₀ at₀ left₀ tally path records paths payloads first at left =
+    Fielding (place walk (tables rows names declared pool) below level bytes end (take plen path₀)) index «from»
+    (worldOf tally₀ records₀ paths₀ payloads₀) (worldOf tally records paths payloads) (take plen path) at left first
+    × (length records ≡ length records₀) × (length paths ≡ length paths₀) × (length payloads ≡ length payloads₀)
 
 abbrev walk-fields-μ-loop : walk-fields-lts.MeasureT-loop
-walk-fields-μ-loop c₀ bytes from end sink below level plen index rows spans names declared pool path₀ words₀ paths₀ payloads₀ first₀ at₀ left₀ c path words paths payloads first at left =
+walk-fields-μ-loop tally₀ bytes from end walk below level plen index rows spans names declared pool path₀ records₀ paths₀ payloads₀ first₀ at₀ left₀ tally path records paths payloads first at left =
     left
 
 walk-fields-loop-holds : (t : ℕ) → walk-fields-lts.Need-loop-holds (walk-fields-claims t) (walk-fields-at t) walk-fields.Post walk-fields-Inv-loop walk-fields-μ-loop
@@ -261,7 +262,7 @@ walk-fields-loop-holds t c =
 walk-fields-field-head-requires : (t : ℕ) → walk-fields-lts.Need-field-head-requires (walk-fields-claims t) (walk-fields-at t) walk-fields.Post walk-fields-Inv-loop walk-fields-μ-loop
 walk-fields-field-head-requires t c κs =
     let at-start = c .before .before .before .before .before .before .before .before .before in
-    (at-start .pre .1 .inside, at-start .pre .1 .short)
+    up-to (at-start .pre .1)
 
 walk-fields-enum-known-h : (t : ℕ) → walk-fields-lts.Need-enum-known-h (walk-fields-claims t) (walk-fields-at t) walk-fields.Post walk-fields-Inv-loop walk-fields-μ-loop
 walk-fields-enum-known-h t c = search needs
@@ -287,7 +288,7 @@ walk-fields-returns t c =
     let at-after-field-head = at-after-h .before .before in
     let at-at-loop = at-after-field-head .before in
     let at-start = at-at-loop .before .before .before .before .before .before .before .before .before in
-    fields-shut _ _ _ _ _ _ _ _ _ (at-start .pre .1 .ordered) (at-at-loop .loop .inv .0)
+    fields-shut _ _ _ _ _ _ _ _ _ (at-start .pre .1 .lies .0) (at-at-loop .loop .inv .0)
     (sym (at-after-field-head .field-head .ensures) ∙ at-after-h .h .given .1)
 
 walk-fields-enum-known-h-2 : (t : ℕ) → walk-fields-lts.Need-enum-known-h-2 (walk-fields-claims t) (walk-fields-at t) walk-fields.Post walk-fields-Inv-loop walk-fields-μ-loop
@@ -299,7 +300,7 @@ walk-fields-stop-fields-requires t c κs =
     let at-at-loop = at-after-field-head .before in
     let at-start = at-at-loop .before .before .before .before .before .before .before .before .before in
     let ready = at-start .pre .1 in
-    (field-head-in _ _ _ _ _ (sym (at-after-field-head .field-head .ensures)), ready .inside, ready .short, ready .path)
+    (field-head-in _ _ _ _ _ (sym (at-after-field-head .field-head .ensures)), up-to ready, ready .path)
 
 walk-fields-same-length-4 : (t : ℕ) → walk-fields-lts.Need-same-length-4 (walk-fields-claims t) (walk-fields-at t) walk-fields.Post walk-fields-Inv-loop walk-fields-μ-loop
 walk-fields-same-length-4 t c = search needs
@@ -320,8 +321,8 @@ walk-fields-returns-2 t c =
     let at-start = at-at-loop .before .before .before .before .before .before .before .before .before in
     let h = at-after-field-head .field-head .result in
     let stop = at-after-stop-fields .stop-fields .ensures in
-    fields-end _ _ _ _ _ _ _ _ _ (at-start .pre .1 .ordered) (at-at-loop .loop .inv .0) h (sym (at-after-field-head .field-head .ensures))
-    (not-go h (at-at-match2-keys2 .match2 .keys2)) (not-closed h (at-at-match-keys2 .match .keys2)) _ _ (stop .0) (stop .1)
+    fields-end _ _ _ _ _ _ _ _ _ (at-start .pre .1 .lies .0) (at-at-loop .loop .inv .0) h (sym (at-after-field-head .field-head .ensures))
+    (not-go h (at-at-match2-keys2 .match2 .keys2)) (not-closed h (at-at-match-keys2 .match .keys2)) _ _ (λ o inside. stop inside .out o) (stop true .kept)
 
 walk-fields-walk-field-requires : (t : ℕ) → walk-fields-lts.Need-walk-field-requires (walk-fields-claims t) (walk-fields-at t) walk-fields.Post walk-fields-Inv-loop walk-fields-μ-loop
 walk-fields-walk-field-requires t c κs =
@@ -368,7 +369,7 @@ walk-fields-loop-again t c =
     let at-start = at-at-loop .before .before .before .before .before .before .before .before .before in
     let kept = at-after-walk-field .walk-field .kept .1 .1 .1 .1 .1 .1 .1 .1 .1 .1 .1 .1 .1 .1 .1 .1 .1 in
     let inv = at-at-loop .loop .inv in (
-      fields-turn _ _ _ _ _ _ _ _ _ (at-start .pre .1 .ordered) (inv .0) (sym (at-after-field-head .field-head .ensures) ∙ at-after-h2 .h2 .given .1) _ _ _
+      fields-turn _ _ _ _ _ _ _ _ _ (at-start .pre .1 .lies .0) (inv .0) (sym (at-after-field-head .field-head .ensures) ∙ at-after-h2 .h2 .given .1) _ _ _
           (at-after-walk-field .walk-field .ensures) (c .still-first .ensures),
       kept .0 ∙ inv .1,
       kept .1 .0 ∙ inv .2,
@@ -376,19 +377,19 @@ walk-fields-loop-again t c =
     )
 
 abbrev walk-level-Inv-loop : walk-level-lts.InvT-loop
-walk-level-Inv-loop c₀ bytes from end sink inside below level plen rows spans names declared pool path₀ words₀ paths₀ payloads₀ total first at₀ left₀ c path words paths payloads at left =
-    Leveling (place sink (tables rows names declared pool) below level bytes end (take plen path₀)) inside «from» total
-    (held c₀ words₀ paths₀ payloads₀) (held c words paths payloads) (take plen path) at left
-    × (length words ≡ length words₀) × (length paths ≡ length paths₀) × (length payloads ≡ length payloads₀)
+walk-level-Inv-loop tally₀ bytes from end walk inside below level plen rows spans names declared pool path₀ records₀ paths₀ payloads₀ total first at₀ left₀ tally path records paths payloads at left =
+    Leveling (place walk (tables rows names declared pool) below level bytes end (take plen path₀)) inside «from» total
+    (worldOf tally₀ records₀ paths₀ payloads₀) (worldOf tally records paths payloads) (take plen path) at left
+    × (length records ≡ length records₀) × (length paths ≡ length paths₀) × (length payloads ≡ length payloads₀)
 
 abbrev walk-level-μ-loop : walk-level-lts.MeasureT-loop
-walk-level-μ-loop c₀ bytes from end sink inside below level plen rows spans names declared pool path₀ words₀ paths₀ payloads₀ total first at₀ left₀ c path words paths payloads at left =
+walk-level-μ-loop tally₀ bytes from end walk inside below level plen rows spans names declared pool path₀ records₀ paths₀ payloads₀ total first at₀ left₀ tally path records paths payloads at left =
     left
 
 walk-level-level-head-requires : (t : ℕ) → walk-level-lts.Need-level-head-requires (walk-level-claims t) (walk-level-at t) walk-level.Post walk-level-Inv-loop walk-level-μ-loop
 walk-level-level-head-requires t c κs =
     let at-start = c .before .before .before .before .before .before .before .before in
-    (at-start .pre .1 .ordered, at-start .pre .1 .inside, at-start .pre .1 .short)
+    at-start .pre .1 .lies
 
 walk-level-enum-known-o : (t : ℕ) → walk-level-lts.Need-enum-known-o (walk-level-claims t) (walk-level-at t) walk-level.Post walk-level-Inv-loop walk-level-μ-loop
 walk-level-enum-known-o t c = search needs
@@ -398,7 +399,7 @@ walk-level-stop-level-requires t c κs =
     let at-after-level-head = c .before .before .before .before .before .before in
     let at-start = at-after-level-head .before .before .before .before .before .before .before .before .before in
     let ready = at-start .pre .1 in
-    (level-head-in _ _ _ _ (sym (at-after-level-head .level-head .ensures)), ready .inside, ready .short, ready .path)
+    (level-head-in _ _ _ _ (sym (at-after-level-head .level-head .ensures)), up-to ready, ready .path)
 
 walk-level-same-length : (t : ℕ) → walk-level-lts.Need-same-length (walk-level-claims t) (walk-level-at t) walk-level.Post walk-level-Inv-loop walk-level-μ-loop
 walk-level-same-length t c = search needs
@@ -417,20 +418,20 @@ walk-level-returns t c =
     let at-start = at-after-level-head .before .before .before .before .before .before .before .before .before in
     let h = at-after-level-head .level-head .result in
     let stop = at-after-stop-level .stop-level .ensures in
-    level-end _ _ _ (at-start .pre .1 .ordered) h (sym (at-after-level-head .level-head .ensures)) (not-go h (at-at-match-keys2 .match .keys2)) _ _ _
-    (stop .0) (stop .1)
+    level-end _ _ _ (at-start .pre .1 .lies .0) h (sym (at-after-level-head .level-head .ensures)) (not-go h (at-at-match-keys2 .match .keys2)) _ _ _
+    (stop .out) (stop .kept)
 
 walk-level-loop-holds : (t : ℕ) → walk-level-lts.Need-loop-holds (walk-level-claims t) (walk-level-at t) walk-level.Post walk-level-Inv-loop walk-level-μ-loop
 walk-level-loop-holds t c =
     let at-after-o = c .before in
     let at-after-level-head = at-after-o .before .before in
     let at-start = at-after-level-head .before .before .before .before .before .before .before .before .before in
-    (level-begin _ _ _ (at-start .pre .1 .ordered) (sym (at-after-level-head .level-head .ensures) ∙ at-after-o .o .given .1) _, refl, refl, refl)
+    (level-begin _ _ _ (at-start .pre .1 .lies .0) (sym (at-after-level-head .level-head .ensures) ∙ at-after-o .o .given .1) _, refl, refl, refl)
 
 walk-level-element-head-requires : (t : ℕ) → walk-level-lts.Need-element-head-requires (walk-level-claims t) (walk-level-at t) walk-level.Post walk-level-Inv-loop walk-level-μ-loop
 walk-level-element-head-requires t c κs =
     let at-start = c .before .before .before .before .before .before .before .before .before .before .before .before .before in
-    (at-start .pre .1 .inside, at-start .pre .1 .short)
+    up-to (at-start .pre .1)
 
 walk-level-enum-known-h : (t : ℕ) → walk-level-lts.Need-enum-known-h (walk-level-claims t) (walk-level-at t) walk-level.Post walk-level-Inv-loop walk-level-μ-loop
 walk-level-enum-known-h t c = search needs
@@ -442,7 +443,7 @@ walk-level-stop-level-requires-2 t c κs =
     let at-after-o = at-at-loop .before .before in
     let at-start = at-after-o .before .before .before .before .before .before .before .before .before .before .before in
     let ready = at-start .pre .1 in
-    (element-head-in _ _ _ _ _ _ (sym (at-after-element-head .element-head .ensures)), ready .inside, ready .short, ready .path)
+    (element-head-in _ _ _ _ _ _ (sym (at-after-element-head .element-head .ensures)), up-to ready, ready .path)
 
 walk-level-same-length-4 : (t : ℕ) → walk-level-lts.Need-same-length-4 (walk-level-claims t) (walk-level-at t) walk-level.Post walk-level-Inv-loop walk-level-μ-loop
 walk-level-same-length-4 t c = search needs
@@ -463,8 +464,8 @@ walk-level-returns-2 t c =
     let at-start = at-after-o .before .before .before .before .before .before .before .before .before .before .before in
     let h = at-after-element-head .element-head .result in
     let stop = at-after-stop-level2 .stop-level2 .ensures in
-    elements-end _ _ _ (at-start .pre .1 .ordered) _ _ _ _ _ _ (at-at-loop .loop .inv .0) h (sym (at-after-element-head .element-head .ensures))
-    (not-go h (at-at-match2-keys2 .match2 .keys2)) _ _ (stop .0) (stop .1)
+    elements-end _ _ _ (at-start .pre .1 .lies .0) _ _ _ _ _ _ (at-at-loop .loop .inv .0) h (sym (at-after-element-head .element-head .ensures))
+    (not-go h (at-at-match2-keys2 .match2 .keys2)) _ _ (stop .out) (stop .kept)
 
 walk-level-enter-requires : (t : ℕ) → walk-level-lts.Need-enter-requires (walk-level-claims t) (walk-level-at t) walk-level.Post walk-level-Inv-loop walk-level-μ-loop
 walk-level-enter-requires t c κs =
@@ -519,8 +520,8 @@ walk-level-returns-3 t c =
     let entered = at-after-enter .enter .ensures in
     let loop = at-at-loop .loop in
     let fields = at-after-walk-fields .walk-fields .ensures in
-    elements-open _ _ _ (at-start .pre .1 .ordered) _ _ _ _ _ _ (loop .inv .0) _ _ _ (sym (at-after-element-head .element-head .ensures) ∙ at-after-h .h .given .1)
-    _ _ _ _ (entered .counts (loop .words) (loop .paths) (loop .payloads)) (entered .is) _ _ fields
+    elements-open _ _ _ (at-start .pre .1 .lies .0) _ _ _ _ _ _ (loop .inv .0) _ _ _ (sym (at-after-element-head .element-head .ensures) ∙ at-after-h .h .given .1)
+    _ _ _ _ (entered .counts (loop .records) (loop .paths) (loop .payloads)) (entered .is) _ _ fields
     (prefix _ _ _ _ (entered .more) (fields .kept) ∙ entered .kept) (c .enum-told .given .1)
 
 walk-level-sub-left : (t : ℕ) → walk-level-lts.Need-sub-left (walk-level-claims t) (walk-level-at t) walk-level.Post walk-level-Inv-loop walk-level-μ-loop
@@ -557,8 +558,8 @@ walk-level-loop-again t c =
     let loop = at-at-loop .loop in
     let fields = at-after-walk-fields .walk-fields .ensures in
     let kept = at-after-walk-fields .walk-fields .kept .1 .1 .1 .1 .1 .1 .1 .1 .1 .1 .1 .1 .1 .1 .1 in (
-      elements-turn _ _ _ (at-start .pre .1 .ordered) _ _ _ _ _ _ (loop .inv .0) _ _ _ (sym (at-after-element-head .element-head .ensures) ∙ at-after-h .h .given .1)
-          _ _ _ _ (entered .counts (loop .words) (loop .paths) (loop .payloads)) (entered .is) _ _ fields
+      elements-turn _ _ _ (at-start .pre .1 .lies .0) _ _ _ _ _ _ (loop .inv .0) _ _ _ (sym (at-after-element-head .element-head .ensures) ∙ at-after-h .h .given .1)
+          _ _ _ _ (entered .counts (loop .records) (loop .paths) (loop .payloads)) (entered .is) _ _ fields
           (prefix _ _ _ _ (entered .more) (fields .kept) ∙ entered .kept) _ (at-after-w .w .given .1),
       kept .0 ∙ loop .inv .1,
       kept .1 .0 ∙ loop .inv .2,

@@ -9,8 +9,6 @@ use lib.Dec.{eqb}
 use borrow.Author.Tests.{not-true, not-false, eqb-true, eqb-false, eq-eqb, ne-eqb}
 use Rattle.cycle.proofs.still_first.Statement.{statement}
 use Rattle.cycle.proofs.still_first.Tie as tie
-use Rattle.cycle.proofs.still_first.Reads as reads
-use Rattle.cycle.proofs.still_first.Lts as lts
 
 same : (a b : ℕ) → a ≤ b → eqb a b ≡ eqb (b - a) 0
 same a b h = go (eqb a b) refl

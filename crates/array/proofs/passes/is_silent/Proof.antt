@@ -1,6 +1,10 @@
--- `passes::is_silent` meets its contract: the sink decides.
+-- Which walk it is decides.
 use borrow.Author.Needs.{needs}
-use Rattle.array.proofs.PassLaws.{silent-record}
+use mathlib.Core.Path.{sym, ap}
+use mathlib.Core.Bool.{_&&_}
+use lib.Dec.{eqb}
+use Rattle.framing.specs.declared.Walk.{Walk}
+use Rattle.framing.specs.Sinks.{givesLeaves}
 use Rattle.array.proofs.passes.is_silent.Statement.{statement}
 use Rattle.array.proofs.passes.is_silent.Tie as tie
 
@@ -10,11 +14,17 @@ enum-told c = search needs
 enum-told-2 : tie.Need-enum-told-2
 enum-told-2 c = search needs
 
+enum-told-3 : tie.Need-enum-told-3
+enum-told-3 c = search needs
+
 returns : tie.Need-returns
-returns c = silent-record _ _ _ (c .enum-told .given .1)
+returns c = sym (ap (λ (s : Walk). givesLeaves s && eqb (c .before .before .args .bits) 0) (c .enum-told .given .1))
 
 returns-2 : tie.Need-returns-2
-returns-2 c = search needs
+returns-2 c = sym (ap (λ (s : Walk). givesLeaves s && eqb (c .before .before .args .bits) 0) (c .enum-told2 .given .1))
+
+returns-3 : tie.Need-returns-3
+returns-3 c = search needs
 
 pub is-silent-spec : {M : Type 1} → statement M
-is-silent-spec = tie.close (tie.spec enum-told enum-told-2 returns returns-2)
+is-silent-spec = tie.close (tie.spec enum-told enum-told-2 enum-told-3 returns returns-2 returns-3)

@@ -1,4 +1,4 @@
--- `passes::measure` meets its contract: it is a pass from zero, and outputs of no length stay empty.
+-- It is a pass from zeros, and outputs of no length stay empty.
 use borrow.Author.Needs.{needs}
 use Rattle.array.proofs.PassLaws.{measures}
 use Rattle.array.proofs.passes.measure.Statement.{statement}

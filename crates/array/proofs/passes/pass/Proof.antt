@@ -1,8 +1,8 @@
--- `passes::pass` meets its contract: its two tests are those of the definition, and else the cycle walks the root level.
+-- Its two tests are the definition's, and else the cycle walks the root level.
 use borrow.Author.Needs.{needs}
 use mathlib.Core.Path.{sym, _∙_}
 use Rattle.steps.proofs.TallyLaws.{count-error, by-count}
-use Rattle.array.proofs.PassLaws.{ran-silent, ran-past, ran-level, ready}
+use Rattle.array.proofs.PassLaws.{played-silent, played-past, played-level, ready}
 use Rattle.array.proofs.passes.pass.Statement.{statement}
 use Rattle.array.proofs.passes.pass.Tie as tie
 
@@ -10,7 +10,9 @@ is-silent-requires : tie.Need-is-silent-requires
 is-silent-requires c κs = search needs
 
 returns : tie.Need-returns
-returns c = ran-silent _ _ _ _ _ _ (sym (c .before .is-silent .ensures) ∙ c .if1 .taken)
+returns c =
+    let at-start = c .before .before .before .before .before .before .before .before .before .before in
+    played-silent (at-start .args .walk) _ _ _ _ _ (sym (c .before .is-silent .ensures) ∙ c .if1 .taken)
 
 add-size : tie.Need-add-size
 add-size c = search needs
@@ -20,13 +22,16 @@ count-requires c κs = search needs
 
 returns-2 : tie.Need-returns-2
 returns-2 c =
-    ran-past _ _ _ _ _ _ _ (sym (c .before .before .before .before .is-silent .ensures) ∙ c .before .before .before .if1 .left) (c .before .before .if2 .taken)
+    let past = c .before .before in
+    let at-start = past .before .before .before .before .before .before .before .before .before .before .before in
+    played-past (at-start .args .walk) _ _ _ _ _ _ (sym (past .before .before .is-silent .ensures) ∙ past .before .if1 .left) (past .if2 .taken)
     (by-count _ _ _ _ _ _ _ _ (c .count .ensures) (count-error _ _ _ _))
 
 walk-level-requires : tie.Need-walk-level-requires
 walk-level-requires c κs =
-    let t = c .before .before .before .before .before in
-    ready _ _ _ _ (t .before .before .before .before .before .before .before .before .before .before .before .pre) (t .if2 .left)
+    let inside = c .before .before .before .before .before in
+    let at-start = inside .before .before .before .before .before .before .before .before .before .before .before in
+    ready _ _ _ _ (at-start .pre .0) (at-start .pre .1) (inside .if2 .left)
 
 same-length : tie.Need-same-length
 same-length c = search needs
@@ -39,9 +44,11 @@ same-length-3 c = search needs
 
 returns-3 : tie.Need-returns-3
 returns-3 c =
-    let t = c .before .before .before .before .before .before .before .before .before .before .before .before in
-    ran-level _ _ _ _ _ _ _ (sym (t .before .before .is-silent .ensures) ∙ t .before .if1 .left) (t .if2 .left)
-    (c .before .before .before .before .before .before .walk-level .ensures .out 0)
+    let walked = c .before .before .before .before .before .before in
+    let inside = walked .before .before .before .before .before .before in
+    let at-start = inside .before .before .before .before .before .before .before .before .before .before .before in
+    played-level (at-start .args .walk) _ _ _ _ _ _ (sym (inside .before .before .is-silent .ensures) ∙ inside .before .if1 .left) (inside .if2 .left)
+    (walked .walk-level .ensures .out 0)
 
 pub pass-spec : {M : Type 1} → statement M
 pass-spec =

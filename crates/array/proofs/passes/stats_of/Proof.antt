@@ -1,6 +1,6 @@
 -- `passes::stats_of` meets its contract: it copies seven numbers.
 use borrow.Author.Needs.{needs}
-use Rattle.array.proofs.PassLaws.{counters-held}
+use Rattle.array.proofs.PassLaws.{counters-in}
 use Rattle.array.proofs.passes.stats_of.Statement.{statement}
 use Rattle.array.proofs.passes.stats_of.Tie as tie
 
@@ -47,7 +47,13 @@ wide-requires-7 : tie.Need-wide-requires-7
 wide-requires-7 c κs = search needs
 
 returns : tie.Need-returns
-returns c = counters-held _ _ _ _ _ _ _ _ (c .before .before .before .before .before .before .before .before .before .before .before .before .wide .ensures) (c .before .before .before .before .before .before .before .before .before .before .wide2 .ensures) (c .before .before .before .before .before .before .before .before .wide3 .ensures) (c .before .before .before .before .before .before .wide4 .ensures) (c .before .before .before .before .wide5 .ensures) (c .before .before .wide6 .ensures) (c .wide7 .ensures)
+returns c =
+    let after-wide5 = c .before .before .before .before in
+    let after-wide4 = after-wide5 .before .before in
+    let after-wide3 = after-wide4 .before .before in
+    let after-wide2 = after-wide3 .before .before in
+    let after-wide = after-wide2 .before .before in
+    counters-in _ _ _ _ _ _ _ _ (after-wide .wide .ensures) (after-wide2 .wide2 .ensures) (after-wide3 .wide3 .ensures) (after-wide4 .wide4 .ensures) (after-wide5 .wide5 .ensures) (c .before .before .wide6 .ensures) (c .wide7 .ensures)
 
 pub stats-of-spec : {M : Type 1} → statement M
 stats-of-spec =

@@ -11,13 +11,21 @@ returns-2 : tie.Need-returns-2
 returns-2 c = failed (countersOf (c .before .before .before .before .args .stats)) (c .if2 .taken)
 
 returns-3 : tie.Need-returns-3
-returns-3 c = left-inside (countersOf (c .before .before .before .before .before .before .args .stats)) (c .if3 .taken)
+returns-3 c =
+    let at-start = c .before .before .before .before .before .before in
+    left-inside (countersOf (at-start .args .stats)) (c .if3 .taken)
 
 returns-4 : tie.Need-returns-4
-returns-4 c = left-behind (countersOf (c .before .before .before .before .before .before .before .before .args .stats)) (c .if4 .taken)
+returns-4 c =
+    let at-start = c .before .before .before .before .before .before .before .before in
+    left-behind (countersOf (at-start .args .stats)) (c .if4 .taken)
 
 returns-5 : tie.Need-returns-5
-returns-5 c = last-decides (countersOf (c .before .before .before .before .before .before .before .before .before .args .stats)) (c .before .before .before .before .before .before .before .if1 .left) (c .before .before .before .before .before .if2 .left) (c .before .before .before .if3 .left) (c .before .if4 .left)
+returns-5 c =
+    let else-2 = c .before .before .before .before .before in
+    let else-1 = else-2 .before .before in
+    let at-start = else-1 .before .before in
+    last-decides (countersOf (at-start .args .stats)) (else-1 .if1 .left) (else-2 .if2 .left) (c .before .before .before .if3 .left) (c .before .if4 .left)
 
 pub is-clean-spec : {M : Type 1} → statement M
 is-clean-spec = tie.close (tie.spec returns returns-2 returns-3 returns-4 returns-5)

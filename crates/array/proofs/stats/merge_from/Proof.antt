@@ -26,26 +26,34 @@ add-fields-emitted : tie.Need-add-fields-emitted
 add-fields-emitted c = let h = below (c .before .before .before .before) .fields in omega arith
 
 add-truncations : tie.Need-add-truncations
-add-truncations c = let h = below (c .before .before .before .before .before .before) .truncations in omega arith
+add-truncations c =
+    let else-1 = c .before .before .before .before .before .before in
+    let h = below (else-1) .truncations in omega arith
 
 add-errors : tie.Need-add-errors
-add-errors c = let h = below (c .before .before .before .before .before .before .before .before) .errors in omega arith
+add-errors c =
+    let else-1 = c .before .before .before .before .before .before .before .before in
+    let h = below (else-1) .errors in omega arith
 
 add-unconsumed-nested-bits : tie.Need-add-unconsumed-nested-bits
 add-unconsumed-nested-bits c =
-    let h = below (c .before .before .before .before .before .before .before .before .before .before) .nestedBits in omega arith
+    let else-1 = c .before .before .before .before .before .before .before .before .before .before in
+    let h = below (else-1) .nestedBits in omega arith
 
 add-unconsumed-root-bits : tie.Need-add-unconsumed-root-bits
 add-unconsumed-root-bits c =
-    let h = below (c .before .before .before .before .before .before .before .before .before .before .before .before) .rootBits in omega arith
+    let else-1 = c .before .before .before .before .before .before .before .before .before .before .before .before in
+    let h = below (else-1) .rootBits in omega arith
 
 add-implicit-terminations : tie.Need-add-implicit-terminations
 add-implicit-terminations c =
-    let h = below (c .before .before .before .before .before .before .before .before .before .before .before .before .before .before) .implicits in omega arith
+    let else-1 = c .before .before .before .before .before .before .before .before .before .before .before .before .before .before in
+    let h = below (else-1) .implicits in omega arith
 
 returns-2 : tie.Need-returns-2
 returns-2 c =
-    let t = c .before .before .before .before .before .before .before .before .before .before .before .before .before .before in
+    let else-1 = c .before .before .before .before .before .before .before .before .before .before .before .before .before .before in
+    let t = else-1 in
     merge-sums _ _ (sym (t .before .sums-fit .ensures) ∙ not-false _ (t .if1 .left))
 
 pub merge-from-spec : {M : Type 1} → statement M

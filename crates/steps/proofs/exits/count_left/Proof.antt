@@ -12,12 +12,12 @@ count-requires-2 : tie.Need-count-requires-2
 count-requires-2 c κs = search needs
 
 returns : tie.Need-returns
-returns c words text load =
+returns c records paths payloads =
     left-inside _ _ (c .before .before .before .args .n) (c .before .before .before .args .inside) (c .before .before .if1 .taken)
     (by-count _ _ _ _ _ _ _ _ (c .count .ensures) (count-nested _ _ _ _ _))
 
 returns-2 : tie.Need-returns-2
-returns-2 c words text load =
+returns-2 c records paths payloads =
     left-outside _ _ (c .before .before .before .args .n) (c .before .before .before .args .inside) (c .before .before .if1 .left)
     (by-count _ _ _ _ _ _ _ _ (c .count2 .ensures) (count-root _ _ _ _ _))
 

@@ -1,21 +1,28 @@
 -- A tail is kept as a leaf where a walk keeps tails and bits remain.
 use borrow.Author.Needs.{needs}
-use mathlib.Core.Path.{refl}
+use borrow.Author.Tests.{not-true, not-false}
+use mathlib.Core.Path.{refl, sym, _∙_}
+use lib.ListN.{take}
 use Rattle.steps.proofs.StopLaws.{tail-object, tail-end, tail-kept}
 use Rattle.steps.proofs.exits.keep_tail.Statement.{statement}
 use Rattle.steps.proofs.exits.keep_tail.Tie as tie
 
-enum-told : tie.Need-enum-told
-enum-told c = search needs
-
-enum-told-2 : tie.Need-enum-told-2
-enum-told-2 c = search needs
+gives-leaves-requires : tie.Need-gives-leaves-requires
+gives-leaves-requires c κs = search needs
 
 returns : tie.Need-returns
-returns c = (λ o inside. tail-object _ inside _ _ _ o _ _ (c .enum-told2 .given .1), refl)
+returns c inside =
+    let at-start = c .before .before .before .before .before .before in
+    let a = at-start .args in
+    let object = sym (c .before .gives-leaves .ensures) ∙ not-true _ (c .if1 .taken) in
+    record { out = λ o. tail-object (a .walk) inside (a .bytes .now) (a .at) (a .end) o (take (a .plen) (a .path .now)) _ object; kept = refl }
 
 returns-2 : tie.Need-returns-2
-returns-2 c = (λ o inside. tail-end _ inside _ _ _ o _ _ _ (c .before .enum-told .given .1) (c .if1 .taken), refl)
+returns-2 c inside =
+    let at-start = c .before .before .before .before .before .before .before in
+    let a = at-start .args in
+    let leafy = sym (c .before .before .gives-leaves .ensures) ∙ not-false _ (c .before .if1 .left) in
+    record { out = λ o. tail-end (a .walk) inside (a .bytes .now) (a .at) (a .end) o (take (a .plen) (a .path .now)) _ leafy (c .if2 .taken); kept = refl }
 
 put-tail-requires : tie.Need-put-tail-requires
 put-tail-requires c κs = search needs
@@ -30,16 +37,22 @@ same-length-3 : tie.Need-same-length-3
 same-length-3 c = search needs
 
 returns-3 : tie.Need-returns-3
-returns-3 c =
-    let p = c .before .before .before .before .before .before .put-tail .ensures in
-    (λ o inside. tail-kept _ inside _ _ _ o _ _ _ (c .before .before .before .before .before .before .before .before .before .before .before .before .before .enum-told .given .1) _ _ (c .before .before .before .before .before .before .before .before .before .before .before .before .before .before .before .before .before .before .before .pre .0) (c .before .before .before .before .before .before .before .before .before .before .before .before .if1 .left) (p .0 o), p .1)
+returns-3 c inside =
+    let after-put-tail = c .before .before .before .before .before .before in
+    let put = after-put-tail in
+    let some = put .before .before .before .before .before .before in
+    let asked = some .before .before in
+    let at-start = asked .before .before .before .before .before in
+    let leafy = sym (asked .gives-leaves .ensures) ∙ not-false _ (some .before .if1 .left) in
+    let a = at-start .args in
+    let p = put .put-tail .ensures in
+    record { out = λ o. tail-kept (a .walk) inside (a .bytes .now) (a .at) (a .end) o (take (a .plen) (a .path .now)) _ leafy _ _ (at-start .pre .0 .0) (some .if2 .left) (p .out o); kept = p .kept }
 
 pub keep-tail-spec : {M : Type 1} → statement M
 keep-tail-spec =
     tie.close
     (tie.spec
-    enum-told
-    enum-told-2
+    gives-leaves-requires
     returns
     returns-2
     put-tail-requires

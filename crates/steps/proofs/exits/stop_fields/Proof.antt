@@ -29,20 +29,22 @@ count-requires-3 c κs = search needs
 
 keep-tail-requires : tie.Need-keep-tail-requires
 keep-tail-requires c κs =
-    let l = subst (HeadIn (c .before .before .before .before .before .before .before .before .before .before .before .before .before .before .args .end)) (c .before .before .before .before .before .before .before .before .h .given .1) (c .before .before .before .before .before .before .before .before .before .before .before .before .before .before .pre .0) in
+    let limit = c .before .before .before .before .before .before .before .before in
+    let at-start = limit .before .before .before .before .before .before in
+    let l = subst (HeadIn (at-start .args .end)) (limit .h .given .1) (at-start .pre .0) in
     search (needs, l)
 
 enum-told-4 : tie.Need-enum-told-4
 enum-told-4 c = search needs
 
 returns : tie.Need-returns
-returns c = (λ o inside. fields-ended _ _ _ o _ _ _ _ _ _ _ (c .before .before .enum-told .given .1) (c .count .ensures .1) (c .count .ensures .0), refl)
+returns c inside = record { out = λ o. fields-ended _ _ _ o _ _ _ _ _ _ _ (c .before .before .enum-told .given .1) (c .count .ensures .1) (c .count .ensures .0); kept = refl }
 
 returns-2 : tie.Need-returns-2
-returns-2 c = (λ o inside. fields-failed _ _ _ o _ _ _ _ _ _ _ (c .before .before .enum-told2 .given .1) (c .count2 .ensures .1) (c .count2 .ensures .0), refl)
+returns-2 c inside = record { out = λ o. fields-failed _ _ _ o _ _ _ _ _ _ _ (c .before .before .enum-told2 .given .1) (c .count2 .ensures .1) (c .count2 .ensures .0); kept = refl }
 
 returns-3 : tie.Need-returns-3
-returns-3 c = (λ o inside. fields-closed _ _ _ o _ _ _ _ (c .enum-told3 .given .1), refl)
+returns-3 c inside = record { out = λ o. fields-closed _ _ _ o _ _ _ _ (c .enum-told3 .given .1); kept = refl }
 
 same-length : tie.Need-same-length
 same-length c = search needs
@@ -54,13 +56,16 @@ same-length-3 : tie.Need-same-length-3
 same-length-3 c = search needs
 
 returns-4 : tie.Need-returns-4
-returns-4 c =
-    let k = c .before .before .before .before .before .before .keep-tail .ensures in
-    let n = c .before .before .before .before .before .before .before .before .before .before .before .before .count3 .ensures in
-    (λ o inside. fields-limit _ _ _ o _ _ _ _ _ _ _ _ _ (c .before .before .before .before .before .before .before .before .before .before .before .before .before .before .before .h .given .1) (n .1) (n .0) (k .0 o inside), k .1)
+returns-4 c inside =
+    let kept = c .before .before .before .before .before .before in
+    let counted = kept .before .before .before .before .before .before in
+    let limit = counted .before .before .before in
+    let k = kept .keep-tail .ensures inside in
+    let n = counted .count3 .ensures in
+    record { out = λ o. fields-limit _ _ _ o _ _ _ _ _ _ _ _ _ (limit .h .given .1) (n .1) (n .0) (k .out o); kept = k .kept }
 
 returns-5 : tie.Need-returns-5
-returns-5 c = (λ o inside. fields-go _ _ _ o _ _ _ _ _ _ (c .enum-told4 .given .1), refl)
+returns-5 c inside = record { out = λ o. fields-go _ _ _ o _ _ _ _ _ _ (c .enum-told4 .given .1); kept = refl }
 
 pub stop-fields-spec : {M : Type 1} → statement M
 stop-fields-spec =

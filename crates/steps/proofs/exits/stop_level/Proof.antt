@@ -11,11 +11,14 @@ enum-known-h c = search needs
 
 close-level-requires : tie.Need-close-level-requires
 close-level-requires c κs =
-    let l = subst (HeadIn (c .before .before .before .before .before .before .before .before .args .end)) (c .before .before .h .given .1) (c .before .before .before .before .before .before .before .before .pre .0) in
+    let closed = c .before .before in
+    let at-start = closed .before .before .before .before .before .before in
+    let l = subst (HeadIn (at-start .args .end)) (closed .h .given .1) (at-start .pre .0) in
     search (needs, l)
 
 returns : tie.Need-returns
-returns c = (λ o. level-closed _ _ _ o _ _ _ _ _ (c .before .before .before .h .given .1) (c .close-level .ensures o _ _ _), refl)
+returns c =
+    record { out = λ o. level-closed _ _ _ o _ _ _ _ _ (c .before .before .before .h .given .1) (c .close-level .ensures o _ _ _); kept = refl }
 
 stop-fields-requires : tie.Need-stop-fields-requires
 stop-fields-requires c κs = search needs
@@ -31,8 +34,11 @@ same-length-3 c = search needs
 
 returns-2 : tie.Need-returns-2
 returns-2 c =
-    let p = c .before .before .before .before .before .before .stop-fields .ensures in
-    (λ o. level-other _ _ _ o _ _ _ _ (c .before .before .before .before .before .before .before .before .before .before .before .before .match .keys2) (p .0 o (c .before .before .before .before .before .before .before .before .before .before .before .before .before .before .before .before .before .args .inside)), p .1)
+    let stopped = c .before .before .before .before .before .before in
+    let other = stopped .before .before .before .before .before .before in
+    let at-start = other .before .before .before .before .before in
+    let p = stopped .stop-fields .ensures (at-start .args .inside) in
+    record { out = λ o. level-other _ _ _ o _ _ _ _ (other .match .keys2) (p .out o); kept = p .kept }
 
 pub stop-level-spec : {M : Type 1} → statement M
 stop-level-spec =

@@ -33,8 +33,10 @@ returns-3 c =
 returns-4 : tie.Need-returns-4
 unfolding upTo
 returns-4 c =
+    let after-number = c .before .before .before .before in
+    let after-number-at = after-number .before .before in
     sym (element-beyond _ _ _ _ (omega arith) _ _
-    (sym (c .before .before .before .before .before .before .number-at .ensures) ∙ c .before .before .before .before .number .given .1)
+    (sym (after-number-at .number-at .ensures) ∙ after-number .number .given .1)
     (c .before .before .if2 .left) (c .before .if3 .left) (omega arith))
 
 sub-t12 : tie.Need-sub-t12
@@ -46,8 +48,10 @@ enum-told c = search needs
 returns-5 : tie.Need-returns-5
 unfolding upTo
 returns-5 c =
+    let after-number = c .before .before .before .before in
+    let after-number-at = after-number .before .before in
     sym (element-go _ _ _ _ (omega arith) _ _
-    (sym (c .before .before .before .before .before .before .number-at .ensures) ∙ c .before .before .before .before .number .given .1)
+    (sym (after-number-at .number-at .ensures) ∙ after-number .number .given .1)
     (c .before .before .if2 .left) (c .before .if3 .left) (omega arith))
 
 returns-6 : tie.Need-returns-6

@@ -20,14 +20,14 @@ long-field-head-requires c κs = search needs
 returns-2 : tie.Need-returns-2
 returns-2 c = search needs
 
-pair-at-requires : tie.Need-pair-at-requires
-pair-at-requires c κs = search needs
+two-bytes-at-requires : tie.Need-two-bytes-at-requires
+two-bytes-at-requires c κs = search needs
 
 add-next : tie.Need-add-next
 add-next c = search needs
 
 returns-3 : tie.Need-returns-3
-returns-3 c = sym (two-closed _ _ _ _ _ (omega arith) (c .before .pair-at .ensures) (c .if3 .taken))
+returns-3 c = sym (two-closed _ _ _ _ _ (omega arith) (c .before .two-bytes-at .ensures) (c .if3 .taken))
 
 long-field-head-requires-2 : tie.Need-long-field-head-requires-2
 long-field-head-requires-2 c κs = search needs
@@ -37,7 +37,7 @@ returns-4 c = search needs
 
 returns-5 : tie.Need-returns-5
 returns-5 c =
-    sym (two-limit _ _ _ _ _ (omega arith) (c .before .before .before .pair-at .ensures) (c .before .before .if3 .left) (c .before .if4 .left) (c .if5 .taken))
+    sym (two-limit _ _ _ _ _ (omega arith) (c .before .before .before .two-bytes-at .ensures) (c .before .before .if3 .left) (c .before .if4 .left) (c .if5 .taken))
 
 sub-handle : tie.Need-sub-handle
 sub-handle c = search needs
@@ -51,7 +51,7 @@ width-head-requires c κs = search needs
 returns-6 : tie.Need-returns-6
 returns-6 c =
     c .width-head .ensures
-    ∙ sym (two-wide _ _ _ _ _ (omega arith) (c .before .before .before .before .before .pair-at .ensures) (c .before .before .before .before .if3 .left) (c .before .before .before .if4 .left) (c .before .before .if5 .left))
+    ∙ sym (two-wide _ _ _ _ _ (omega arith) (c .before .before .before .before .before .two-bytes-at .ensures) (c .before .before .before .before .if3 .left) (c .before .before .before .if4 .left) (c .before .before .if5 .left))
 
 add-body : tie.Need-add-body
 add-body c = search needs
@@ -61,14 +61,14 @@ sub-if7 c = search needs
 
 returns-7 : tie.Need-returns-7
 returns-7 c =
-    sym (two-past _ _ _ _ _ (omega arith) (c .before .before .before .before .before .pair-at .ensures) (c .before .before .before .before .if3 .left) (c .before .before .before .if4 .left) (c .before .before .if5 .left) (c .before .if6 .left) (omega arith))
+    sym (two-past _ _ _ _ _ (omega arith) (c .before .before .before .before .before .two-bytes-at .ensures) (c .before .before .before .before .if3 .left) (c .before .before .before .if4 .left) (c .before .before .if5 .left) (c .before .if6 .left) (omega arith))
 
 add-behind : tie.Need-add-behind
 add-behind c = search needs
 
 returns-8 : tie.Need-returns-8
 returns-8 c =
-    sym (two-go _ _ _ _ _ (omega arith) (c .before .before .before .before .before .pair-at .ensures) (c .before .before .before .before .if3 .left) (c .before .before .before .if4 .left) (c .before .before .if5 .left) (c .before .if6 .left) (omega arith))
+    sym (two-go _ _ _ _ _ (omega arith) (c .before .before .before .before .before .two-bytes-at .ensures) (c .before .before .before .before .if3 .left) (c .before .before .before .if4 .left) (c .before .before .if5 .left) (c .before .if6 .left) (omega arith))
 
 pub field-head-spec : {M : Type 1} → statement M
 field-head-spec =
@@ -78,7 +78,7 @@ field-head-spec =
     sub-if2
     long-field-head-requires
     returns-2
-    pair-at-requires
+    two-bytes-at-requires
     add-next
     returns-3
     long-field-head-requires-2

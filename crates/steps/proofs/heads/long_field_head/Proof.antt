@@ -45,9 +45,11 @@ enum-told c = search needs
 returns-4 : tie.Need-returns-4
 unfolding upTo
 returns-4 c =
+    let after-number = c .before .before .before .before in
+    let after-number-at = after-number .before .before in
     c .width-head .ensures
     ∙ sym (field-wide _ _ (omega arith) _ _
-    (sym (c .before .before .before .before .before .before .number-at .ensures) ∙ c .before .before .before .before .number .given .1) _
+    (sym (after-number-at .number-at .ensures) ∙ after-number .number .given .1) _
     (c .before .before .if2 .left) (c .before .if3 .left))
 
 returns-5 : tie.Need-returns-5

@@ -8,7 +8,10 @@ use Rattle.steps.proofs.kinds.put_field.Statement.{statement}
 use Rattle.steps.proofs.kinds.put_field.Tie as tie
 
 -- where the label is at hand, it is that of the kind
-labelled : (c : tie.At-match-came) → let a = c .before .before .before .before .before .before .before .args in Labelled (a .kind) (a .c .now) (c .match .c) (c .match .label)
+labelled : (c : tie.At-match-came) →
+    let at-start = c .before .before .before .before .before .before .before in
+    let a = at-start .args in
+    Labelled (a .kind) (a .tally .now) (c .match .tally) (c .match .label)
 labelled c = ⊎-elim (λ w. labelled-leaf _ _ _ _ _ (w .1 .given .1) (w .4) (w .3)) (λ w. labelled-deep _ _ _ _ _ _ (w .1 .given .1) (w .6) (w .4 .ensures .1) (w .4 .ensures .0) (w .5)) (c .match .came)
 
 enum-told : tie.Need-enum-told
@@ -21,13 +24,13 @@ same-length : tie.Need-same-length
 same-length c = search needs
 
 returns : tie.Need-returns
-returns c = (λ o. flat-object _ _ _ _ _ _ _ _ _ (c .before .before .before .before .before .enum-told .given .1) (c .before .before .object-field .ensures o _ _), refl)
+returns c = record { out = λ o. flat-object _ _ _ _ _ _ _ _ _ (c .before .before .before .before .before .enum-told .given .1) (c .before .before .object-field .ensures o _ _); kept = refl }
 
 enum-told-2 : tie.Need-enum-told-2
 enum-told-2 c = search needs
 
 returns-2 : tie.Need-returns-2
-returns-2 c = (λ o. flat-nothing _ _ _ _ _ _ _ _ (c .enum-told2 .given .1), refl)
+returns-2 c = record { out = λ o. flat-nothing _ _ _ _ _ _ _ _ (c .enum-told2 .given .1); kept = refl }
 
 enum-known-kind : tie.Need-enum-known-kind
 enum-known-kind c = search needs
@@ -42,13 +45,15 @@ enum-told-3 : tie.Need-enum-told-3
 enum-told-3 c = search needs
 
 returns-3 : tie.Need-returns-3
-returns-3 c = (λ o. flat-array _ _ _ _ _ _ _ _ _ _ (c .enum-told3 .given .1), refl)
+returns-3 c = record { out = λ o. flat-array _ _ _ _ _ _ _ _ _ _ (c .enum-told3 .given .1); kept = refl }
 
 put-leaf-requires : tie.Need-put-leaf-requires
 put-leaf-requires c κs =
-    let a = c .before .before .before .before .before .before .before .before .before .before .before .before .args in
-    let p = c .before .before .before .before .before .before .before .before .before .before .before .before .pre in
-    (p .0, p .1, p .2, p .3, labelled-lies _ _ _ _ (pools (a .names .now) (a .pool .now)) (labelled (c .before .before .before .before .before)) (p .4))
+    let chosen = c .before .before .before .before .before in
+    let at-start = chosen .before .before .before .before .before .before .before in
+    let a = at-start .args in
+    let p = at-start .pre in
+    (p .0, p .1, labelled-lies _ _ _ _ (pools (a .names .now) (a .pool .now)) (labelled chosen) (p .2))
 
 same-length-2 : tie.Need-same-length-2
 same-length-2 c = search needs
@@ -61,8 +66,10 @@ same-length-4 c = search needs
 
 returns-4 : tie.Need-returns-4
 returns-4 c =
-    let p = c .before .before .before .before .before .before .put-leaf .ensures in
-    (λ o. flat-labelled _ _ _ _ _ _ _ _ _ _ _ _ _ _ (labelled (c .before .before .before .before .before .before .before .before .before .before .before .before)) (p .0 o), p .1)
+    let put = c .before .before .before .before .before .before in
+    let chosen = put .before .before .before .before .before .before in
+    let p = put .put-leaf .ensures in
+    record { out = λ o. flat-labelled _ _ _ _ _ _ _ _ _ _ _ _ _ _ (labelled chosen) (p .out o); kept = p .kept }
 
 pub put-field-spec : {M : Type 1} → statement M
 put-field-spec =

@@ -19,33 +19,42 @@ tag-length-requires c κs = search needs
 
 add-n-2 : tie.Need-add-n-2
 add-n-2 c =
-    let a = c .before .before .before .before .before .before .before .before .before .args in
-    omega (arith, c .tag-length .ensures, tag-short (pools (a .names .now) (a .pool .now)) (a .handle) (a .tag) (c .before .before .before .before .before .before .before .before .before .pre .4))
+    let at-start = c .before .before .before .before .before .before .before .before .before in
+    let a = at-start .args in
+    omega (arith, c .tag-length .ensures, tag-short (pools (a .names .now) (a .pool .now)) (a .handle) (a .tag) (at-start .pre .2))
 
 count-requires : tie.Need-count-requires
 count-requires c κs = search needs
 
 returns : tie.Need-returns
 returns c =
-    let a = c .before .before .before .before .before .before .before .before .before .before .before .before .args in
-    let p = c .before .before .before .before .before .before .before .before .before .before .before .before .pre in
-    let r = c .before .before .before .before .path-room .ensures in
-    let m = c .before .before .before .tag-length .ensures in
-    (λ o. leaf-over (pools (a .names .now) (a .pool .now)) (a .handle) (a .tag) (a .path .now) (a .plen) _ (p .4) (r .1) (p .3) (ap (λ (k : ℕ). a .plen + 1 + k) m) _ _ _ o _ _ _ _ _ (c .count .ensures .1) (omega (arith, r, c .before .before .if1 .taken)) (c .count .ensures .0), refl)
+    let measured = c .before .before .before in
+    let at-start = measured .before .before .before .before .before .before .before .before .before in
+    let a = at-start .args in
+    let p = at-start .pre in
+    let r = measured .before .path-room .ensures in
+    let m = measured .tag-length .ensures in
+    let over = leaf-over (pools (a .names .now) (a .pool .now)) (a .handle) (a .tag) (a .path .now) (a .plen) _ (p .2) (r .1) (p .1) (ap (λ (k : ℕ). a .plen + 1 + k) m) _ _ _ in
+    record {
+      out = λ o. over o _ _ _ _ _ (c .count .ensures .1) (omega (arith, r, c .before .before .if1 .taken)) (c .count .ensures .0);
+      kept = refl;
+    }
 
-element-copy-out-text : tie.Need-element-copy-out-text
-element-copy-out-text c = search needs
+element-copy-out-path-start : tie.Need-element-copy-out-path-start
+element-copy-out-path-start c = search needs
 
 store-path-requires : tie.Need-store-path-requires
 store-path-requires c κs =
-    let a = c .before .before .before .before .before .before .before .before .before .before .before .before .before .args in
-    let r = c .before .before .before .before .before .path-room .ensures in
-    (r .1, ap (λ (k : ℕ). a .plen + 1 + k) (c .before .before .before .before .tag-length .ensures), omega (arith, r, c .before .before .before .if1 .left), c .before .before .before .before .before .before .before .before .before .before .before .before .before .pre .4)
+    let measured = c .before .before .before .before in
+    let at-start = measured .before .before .before .before .before .before .before .before .before in
+    let r = measured .before .path-room .ensures in
+    (r .1, ap (λ (k : ℕ). at-start .args .plen + 1 + k) (measured .tag-length .ensures), omega (arith, r, c .before .before .before .if1 .left), at-start .pre .2)
 
 put-rest-requires : tie.Need-put-rest-requires
 put-rest-requires c κs =
-    let p = c .before .before .before .before .before .before .before .before .before .before .before .before .before .before .before .before .before .before .before .pre in
-    (p .0, p .1, p .2, omega (arith, c .before .before .before .before .before .before .before .before .before .before .before .path-room .ensures, c .before .before .before .before .before .before .before .before .before .if1 .left))
+    let fitting = c .before .before .before .before .before .before .before .before .before in
+    let at-start = fitting .before .before .before .before .before .before .before .before .before .before in
+    (at-start .pre .0, omega (arith, fitting .before .before .path-room .ensures, fitting .if1 .left))
 
 same-length : tie.Need-same-length
 same-length c = search needs
@@ -58,13 +67,22 @@ same-length-3 c = search needs
 
 returns-2 : tie.Need-returns-2
 returns-2 c =
-    let a = c .before .before .before .before .before .before .before .before .before .before .before .before .before .before .before .before .before .before .before .before .before .before .before .before .args in
-    let p = c .before .before .before .before .before .before .before .before .before .before .before .before .before .before .before .before .before .before .before .before .before .before .before .before .pre in
-    let r = c .before .before .before .before .before .before .before .before .before .before .before .before .before .before .before .before .path-room .ensures in
-    let m = c .before .before .before .before .before .before .before .before .before .before .before .before .before .before .before .tag-length .ensures in
-    let s = c .before .before .before .before .before .before .before .before .before .before .store-path .ensures in
-    let t = c .before .before .before .before .put-rest .ensures in
-    (λ o. leaf-put (pools (a .names .now) (a .pool .now)) (a .handle) (a .tag) (a .path .now) (a .plen) _ (p .4) (r .1) (p .3) (ap (λ (k : ℕ). a .plen + 1 + k) m) _ _ _ o _ _ _ _ _ (t .1 .0) _ _ _ (omega (arith, r, c .before .before .before .before .before .before .before .before .before .before .before .before .before .before .if1 .left)) (t .0) (t .1 .1 .0) (s .0) (t .1 .1 .1), s .1)
+    let put = c .before .before .before .before in
+    let stored = put .before .before .before .before .before .before in
+    let fitting = stored .before .before .before .before in
+    let measured = fitting .before in
+    let at-start = measured .before .before .before .before .before .before .before .before .before in
+    let a = at-start .args in
+    let p = at-start .pre in
+    let r = measured .before .path-room .ensures in
+    let m = measured .tag-length .ensures in
+    let s = stored .store-path .ensures in
+    let t = put .put-rest .ensures in
+    let written = leaf-put (pools (a .names .now) (a .pool .now)) (a .handle) (a .tag) (a .path .now) (a .plen) _ (p .2) (r .1) (p .1) (ap (λ (k : ℕ). a .plen + 1 + k) m) _ _ _ in
+    record {
+      out = λ o. written o _ _ _ _ _ (t .1 .0) _ _ _ (omega (arith, r, fitting .if1 .left)) (t .0) (t .1 .1 .0) (s .0) (t .1 .1 .1);
+      kept = s .1;
+    }
 
 pub put-leaf-spec : {M : Type 1} → statement M
 put-leaf-spec =
@@ -76,7 +94,7 @@ put-leaf-spec =
     add-n-2
     count-requires
     returns
-    element-copy-out-text
+    element-copy-out-path-start
     store-path-requires
     put-rest-requires
     same-length

@@ -12,20 +12,20 @@ add-size c = search needs
 element-copy-out-at : tie.Need-element-copy-out-at
 element-copy-out-at c = search needs
 
-element-copy-out-text : tie.Need-element-copy-out-text
-element-copy-out-text c = search needs
+element-copy-out-path-start : tie.Need-element-copy-out-path-start
+element-copy-out-path-start c = search needs
 
-element-copy-out-load : tie.Need-element-copy-out-load
-element-copy-out-load c = search needs
+element-copy-out-payload-start : tie.Need-element-copy-out-payload-start
+element-copy-out-payload-start c = search needs
 
-cast-store-record : tie.Need-cast-store-record
-cast-store-record c = search needs
+cast-store-leaf : tie.Need-cast-store-leaf
+cast-store-leaf c = search needs
 
-cast-store-record-2 : tie.Need-cast-store-record-2
-cast-store-record-2 c = search needs
+cast-store-leaf-2 : tie.Need-cast-store-leaf-2
+cast-store-leaf-2 c = search needs
 
-store-record-requires : tie.Need-store-record-requires
-store-record-requires c κs = search needs
+store-leaf-requires : tie.Need-store-leaf-requires
+store-leaf-requires c κs = search needs
 
 store-payload-requires : tie.Need-store-payload-requires
 store-payload-requires c κs = search needs
@@ -35,6 +35,9 @@ cast-reserve c = search needs
 
 cast-reserve-2 : tie.Need-cast-reserve-2
 cast-reserve-2 c = search needs
+
+cast-reserve-3 : tie.Need-cast-reserve-3
+cast-reserve-3 c = search needs
 
 reserve-requires : tie.Need-reserve-requires
 reserve-requires c κs = search needs
@@ -46,7 +49,10 @@ same-length-2 : tie.Need-same-length-2
 same-length-2 c = search needs
 
 returns : tie.Need-returns
-returns c = (c .reserve .ensures .0, (c .reserve .ensures .1, (c .before .before .before .before .before .before .before .before .store-record .ensures, c .before .before .before .before .store-payload .ensures)))
+returns c =
+    let loaded = c .before .before .before .before in
+    let recorded = loaded .before .before .before .before in
+    (c .reserve .ensures .0, (c .reserve .ensures .1, (recorded .store-leaf .ensures, loaded .store-payload .ensures)))
 
 pub put-rest-spec : {M : Type 1} → statement M
 put-rest-spec =
@@ -55,14 +61,15 @@ put-rest-spec =
     sub-width
     add-size
     element-copy-out-at
-    element-copy-out-text
-    element-copy-out-load
-    cast-store-record
-    cast-store-record-2
-    store-record-requires
+    element-copy-out-path-start
+    element-copy-out-payload-start
+    cast-store-leaf
+    cast-store-leaf-2
+    store-leaf-requires
     store-payload-requires
     cast-reserve
     cast-reserve-2
+    cast-reserve-3
     reserve-requires
     same-length
     same-length-2

@@ -6,7 +6,7 @@ use Prim.Native.Nat.{_+_, _≤_, _<_}
 use native.Mathlib.Nat.{sub-zero}
 use lib.ListN.{length}
 use Rattle.bits.proofs.RunLaws.{store-out}
-use Rattle.steps.proofs.StoreLaws.{fitting, past}
+use Rattle.outputs.proofs.FitLaws.{fitting, past}
 use Rattle.steps.proofs.PathLaws.{take-kept}
 use Rattle.steps.proofs.LeafLaws.{path-length, path-copied}
 use Rattle.steps.specs.Paths.{pools}
@@ -29,7 +29,8 @@ returns c =
 
 write-tag-requires : tie.Need-write-tag-requires
 write-tag-requires c κs =
-    let p = c .before .before .before .before .before .before .pre in
+    let at-start = c .before .before .before .before .before .before in
+    let p = at-start .pre in
     (p .3, omega (arith, p .1))
 
 sub-copy-run : tie.Need-sub-copy-run
@@ -42,17 +43,22 @@ part-copy-run-end : tie.Need-part-copy-run-end
 part-copy-run-end c = search needs
 
 copy-run-requires : tie.Need-copy-run-requires
-copy-run-requires c κs = omega (arith, room (c .before .before .before .before .before .before))
+copy-run-requires c κs =
+    let else-1 = c .before .before .before .before .before .before in
+    omega (arith, room (else-1))
 
 same-length : tie.Need-same-length
 same-length c = search needs
 
 returns-2 : tie.Need-returns-2
 returns-2 c =
-    let a = c .before .before .before .before .before .before .before .before .before .before .before .before .before .before .args in
-    let p = c .before .before .before .before .before .before .before .before .before .before .before .before .before .before .pre in
-    let w = c .before .before .before .before .before .before .before .write-tag .ensures in
-    (path-copied (pools (a .names .now) (a .pool .now)) (a .handle) (a .tag) (a .path .now) (a .plen) (a .n) (p .3) (p .0) (omega (arith, p .1)) (p .1) _ _ _ _ _ (sub-zero _) (room (c .before .before .before .before .before .before .before .before .before)) w (c .before .before .copy-run .ensures), take-kept _ _ _ _ w (omega (arith, p .0, p .1)))
+    let after-write-tag = c .before .before .before .before .before .before .before in
+    let else-1 = after-write-tag .before .before in
+    let at-start = else-1 .before .before .before .before .before in
+    let a = at-start .args in
+    let p = at-start .pre in
+    let w = after-write-tag .write-tag .ensures in
+    (path-copied (pools (a .names .now) (a .pool .now)) (a .handle) (a .tag) (a .path .now) (a .plen) (a .n) (p .3) (p .0) (omega (arith, p .1)) (p .1) _ _ _ _ _ (sub-zero _) (room (else-1)) w (c .before .before .copy-run .ensures), take-kept _ _ _ _ w (omega (arith, p .0, p .1)))
 
 pub store-path-spec : {M : Type 1} → statement M
 store-path-spec =

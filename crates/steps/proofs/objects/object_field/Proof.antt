@@ -9,7 +9,7 @@ use Rattle.steps.proofs.objects.object_field.Statement.{statement}
 use Rattle.steps.proofs.objects.object_field.Tie as tie
 
 returns : tie.Need-returns
-returns c o text load = object-empty _ _ _ o (c .before .before .before .args .index) _ _ (omega arith) (c .before .before .before .args .first) (c .if1 .taken) refl
+returns c o paths payloads = object-empty _ _ _ o (c .before .before .before .args .index) _ _ (omega arith) (c .before .before .before .args .first) (c .if1 .taken) refl
 
 sub-count : tie.Need-sub-count
 sub-count c = search needs
@@ -21,8 +21,9 @@ count-requires : tie.Need-count-requires
 count-requires c κs = search needs
 
 returns-2 : tie.Need-returns-2
-returns-2 c o text load =
-    object-later _ _ _ o (c .before .before .before .before .before .before .args .index) _ _ (omega arith) (c .before .before .before .if1 .left) (c .before .before .before .before .before .before .args .first) (not-true _ (c .before .before .if2 .taken))
+returns-2 c o paths payloads =
+    let at-start = c .before .before .before .before .before .before in
+    object-later _ _ _ o (at-start .args .index) _ _ (omega arith) (c .before .before .before .if1 .left) (at-start .args .first) (not-true _ (c .before .before .if2 .taken))
     (by-count _ _ _ _ _ _ _ _ (c .count .ensures) (count-nested _ _ _ _ _))
 
 number-at-requires : tie.Need-number-at-requires
@@ -38,12 +39,18 @@ same-length : tie.Need-same-length
 same-length c = search needs
 
 returns-3 : tie.Need-returns-3
-returns-3 c o text load =
-    object-pair _ _ _ o (c .before .before .before .before .before .before .before .before .before .before .before .before .before .before .args .index) _ _ (omega arith) (c .before .before .before .before .before .before .before .before .before .before .before .if1 .left) (c .before .before .before .before .before .before .before .before .before .before .before .before .before .before .args .first)
-    (not-false _ (c .before .before .before .before .before .before .before .before .before .before .if2 .left)) _ _
-    (sym (c .before .before .before .before .before .before .before .before .before .number-at .ensures)
-    ∙ c .before .before .before .before .before .before .before .number .given .1)
-    (c .before .before .before .before .before .if3 .taken) (c .before .before .put-pair .ensures text load)
+returns-3 c o paths payloads =
+    let then-3 = c .before .before .before .before .before in
+    let after-number = then-3 .before .before in
+    let after-number-at = after-number .before .before in
+    let else-2 = after-number-at .before in
+    let else-1 = else-2 .before in
+    let at-start = else-1 .before .before .before in
+    object-pair _ _ _ o (at-start .args .index) _ _ (omega arith) (else-1 .if1 .left) (at-start .args .first)
+    (not-false _ (else-2 .if2 .left)) _ _
+    (sym (after-number-at .number-at .ensures)
+    ∙ after-number .number .given .1)
+    (then-3 .if3 .taken) (c .before .before .put-pair .ensures paths payloads)
 
 count-requires-2 : tie.Need-count-requires-2
 count-requires-2 c κs = search needs
@@ -55,18 +62,27 @@ count-requires-3 : tie.Need-count-requires-3
 count-requires-3 c κs = search needs
 
 returns-4 : tie.Need-returns-4
-returns-4 c o text load =
-    object-longer _ _ _ o (c .before .before .before .before .before .before .before .before .before .before .before .args .index) _ _ (omega arith) (c .before .before .before .before .before .before .before .before .if1 .left) (c .before .before .before .before .before .before .before .before .before .before .before .args .first)
-    (not-false _ (c .before .before .before .before .before .before .before .if2 .left)) _ _
-    (sym (c .before .before .before .before .before .before .number-at .ensures) ∙ c .before .before .before .before .number .given .1)
+returns-4 c o paths payloads =
+    let after-number = c .before .before .before .before in
+    let after-number-at = after-number .before .before in
+    let else-2 = after-number-at .before in
+    let else-1 = else-2 .before in
+    let at-start = else-1 .before .before .before in
+    object-longer _ _ _ o (at-start .args .index) _ _ (omega arith) (else-1 .if1 .left) (at-start .args .first)
+    (not-false _ (else-2 .if2 .left)) _ _
+    (sym (after-number-at .number-at .ensures) ∙ after-number .number .given .1)
     (c .before .before .if3 .left)
     (by-count _ _ _ _ _ _ _ _ (c .count2 .ensures) (count-error _ _ _ _))
 
 returns-5 : tie.Need-returns-5
-returns-5 c o text load =
-    object-failed _ _ _ o (c .before .before .before .before .before .before .before .before .before .args .index) _ _ (omega arith) (c .before .before .before .before .before .before .if1 .left) (c .before .before .before .before .before .before .before .before .before .args .first)
-    (not-false _ (c .before .before .before .before .before .if2 .left))
-    (sym (c .before .before .before .before .number-at .ensures) ∙ c .before .before .enum-told .given .1)
+returns-5 c o paths payloads =
+    let after-number-at = c .before .before .before .before in
+    let else-2 = after-number-at .before in
+    let else-1 = else-2 .before in
+    let at-start = else-1 .before .before .before in
+    object-failed _ _ _ o (at-start .args .index) _ _ (omega arith) (else-1 .if1 .left) (at-start .args .first)
+    (not-false _ (else-2 .if2 .left))
+    (sym (after-number-at .number-at .ensures) ∙ c .before .before .enum-told .given .1)
     (by-count _ _ _ _ _ _ _ _ (c .count3 .ensures) (count-error _ _ _ _))
 
 pub object-field-spec : {M : Type 1} → statement M

@@ -13,6 +13,9 @@ store-pair-requires c κs = search needs
 count-requires : tie.Need-count-requires
 count-requires c κs = search needs
 
+cast-count : tie.Need-cast-count
+cast-count c = search needs
+
 count-requires-2 : tie.Need-count-requires-2
 count-requires-2 c κs = search needs
 
@@ -20,10 +23,10 @@ same-length : tie.Need-same-length
 same-length c = search needs
 
 returns : tie.Need-returns
-returns c text load =
+returns c paths payloads =
     let counted = c .before .before .count .ensures in
-    pair-counted _ _ text load (counted .1) _ _ _ _ (c .before .before .before .before .before .before .store-pair .ensures) (counted .0)
-    (c .count2 .ensures .0)
+    let stored = c .before .before .before .before .before .before in
+    pair-counted _ _ paths payloads (counted .1) _ _ _ _ (stored .store-pair .ensures) (counted .0) (c .count2 .ensures .0)
 
 pub put-pair-spec : {M : Type 1} → statement M
-put-pair-spec = tie.close (tie.spec element-copy-out-at store-pair-requires count-requires count-requires-2 same-length returns)
+put-pair-spec = tie.close (tie.spec element-copy-out-at store-pair-requires count-requires cast-count count-requires-2 same-length returns)

@@ -29,21 +29,27 @@ count-requires c κs = search needs
 returns : tie.Need-returns
 unfolding dot
 returns c =
-    let a = c .before .before .before .before .before .before .before .before .args in
-    let l = label-length (pools (a .names .now) (a .pool .now)) (a .handle) (a .label) (c .before .before .before .before .before .before .before .before .pre .1) in
-    let r = c .before .before .before .before .path-room .ensures in
+    let after-path-room = c .before .before .before .before in
+    let at-start = after-path-room .before .before .before .before in
+    let a = at-start .args in
+    let l = label-length (pools (a .names .now) (a .pool .now)) (a .handle) (a .label) (at-start .pre .1) in
+    let r = after-path-room .path-room .ensures in
     let m = c .before .before .before .label-length .ensures in
     grew-over _ _ _ (46 ∷ labelBytes (pools (a .names .now) (a .pool .now)) (a .handle) (a .label)) _ (c .count .ensures .1) (c .count .ensures .0) (omega (arith, r)) (omega arith) (omega (arith, l, r, m, c .before .before .if1 .taken))
 
 write-tag-requires : tie.Need-write-tag-requires
-write-tag-requires c κs = (c .before .before .before .before .before .before .before .pre .1, omega (arith, c .before .before .before .path-room .ensures, c .before .before .label-length .ensures, c .before .if1 .left))
+write-tag-requires c κs =
+    let at-start = c .before .before .before .before .before .before .before in
+    (at-start .pre .1, omega (arith, c .before .before .before .path-room .ensures, c .before .before .label-length .ensures, c .before .if1 .left))
 
 returns-2 : tie.Need-returns-2
 unfolding dot
 returns-2 c =
-    let a = c .before .before .before .before .before .before .before .before .args in
-    let l = label-length (pools (a .names .now) (a .pool .now)) (a .handle) (a .label) (c .before .before .before .before .before .before .before .before .pre .1) in
-    let r = c .before .before .before .before .path-room .ensures in
+    let after-path-room = c .before .before .before .before in
+    let at-start = after-path-room .before .before .before .before in
+    let a = at-start .args in
+    let l = label-length (pools (a .names .now) (a .pool .now)) (a .handle) (a .label) (at-start .pre .1) in
+    let r = after-path-room .path-room .ensures in
     let m = c .before .before .before .label-length .ensures in
     grew-more _ _ _ (46 ∷ labelBytes (pools (a .names .now) (a .pool .now)) (a .handle) (a .label)) _ _ (omega (arith, r)) (omega (arith, l, m)) (omega (arith, r, c .before .before .if1 .left)) (c .write-tag .ensures)
 

@@ -32,7 +32,8 @@ label-part-requires c κs = search needs
 
 copy-run-requires : tie.Need-copy-run-requires
 copy-run-requires c κs =
-    let n = named-length _ (c .before .before .before .before .before .before .args .handle) _ _ (c .before .before .before .before .before .before .pre .0) (declared-named _ _ _ (c .before .before .enum-told2 .given .1)) (c .before .label-part .ensures) in
+    let at-start = c .before .before .before .before .before .before in
+    let n = named-length _ (at-start .args .handle) _ _ (at-start .pre .0) (declared-named _ _ _ (c .before .before .enum-told2 .given .1)) (c .before .label-part .ensures) in
     omega (arith, n, c .copy-run-arg .given .0 .1)
 
 enum-told-3 : tie.Need-enum-told-3
@@ -43,20 +44,26 @@ label-part-requires-2 c κs = search needs
 
 copy-run-requires-2 : tie.Need-copy-run-requires-2
 copy-run-requires-2 c κs =
-    let n = named-length _ (c .before .before .before .before .before .before .args .handle) _ _ (c .before .before .before .before .before .before .pre .0) (schema-named _ _ _ (c .before .before .enum-told3 .given .1)) (c .before .label-part2 .ensures) in
+    let at-start = c .before .before .before .before .before .before in
+    let n = named-length _ (at-start .args .handle) _ _ (at-start .pre .0) (schema-named _ _ _ (c .before .before .enum-told3 .given .1)) (c .before .label-part2 .ensures) in
     omega (arith, n, c .copy-run-arg2 .given .0 .1)
 
 returns : tie.Need-returns
 returns c =
+    let at-start = c .before .before .before .before .before .before in
     let p = c .before .before .enum-told .given .1 in
     let n = c .before .write-decimal-arg .given .0 .1 in
-    (plain-put _ _ _ _ _ _ p (omega (arith, n, plain-length _ (c .before .before .before .before .before .before .args .handle) p)) (c .write-decimal .ensures .1), simp length-set at n)
+    (plain-put _ _ _ _ _ _ p (omega (arith, n, plain-length _ (at-start .args .handle) p)) (c .write-decimal .ensures .1), simp length-set at n)
 
 returns-2 : tie.Need-returns-2
-returns-2 c = (named-put _ _ _ _ (c .before .before .before .before .before .before .before .pre .0) (declared-named _ _ _ (c .before .before .before .enum-told2 .given .1)) (c .before .before .label-part .ensures) _ _ _ (c .copy-run .ensures), c .before .copy-run-arg .given .0 .1)
+returns-2 c =
+    let at-start = c .before .before .before .before .before .before .before in
+    (named-put _ _ _ _ (at-start .pre .0) (declared-named _ _ _ (c .before .before .before .enum-told2 .given .1)) (c .before .before .label-part .ensures) _ _ _ (c .copy-run .ensures), c .before .copy-run-arg .given .0 .1)
 
 returns-3 : tie.Need-returns-3
-returns-3 c = (named-put _ _ _ _ (c .before .before .before .before .before .before .before .pre .0) (schema-named _ _ _ (c .before .before .before .enum-told3 .given .1)) (c .before .before .label-part2 .ensures) _ _ _ (c .copy-run2 .ensures), c .before .copy-run-arg2 .given .0 .1)
+returns-3 c =
+    let at-start = c .before .before .before .before .before .before .before in
+    (named-put _ _ _ _ (at-start .pre .0) (schema-named _ _ _ (c .before .before .before .enum-told3 .given .1)) (c .before .before .label-part2 .ensures) _ _ _ (c .copy-run2 .ensures), c .before .copy-run-arg2 .given .0 .1)
 
 pub write-label-spec : {M : Type 1} → statement M
 write-label-spec =

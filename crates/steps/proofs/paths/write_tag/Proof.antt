@@ -18,9 +18,10 @@ add-write-label c = search needs
 
 write-label-requires : tie.Need-write-label-requires
 write-label-requires c κs =
-    let a = c .before .before .before .before .before .before .args in
+    let at-start = c .before .before .before .before .before .before in
+    let a = at-start .args in
     let n = ap (tagLength (a .handle)) (c .before .before .tag .given .1) in
-    (subst (TagLies (pools (a .names .now) (a .pool .now))) (c .before .before .tag .given .1) (c .before .before .before .before .before .before .pre .0), omega (arith, n))
+    (subst (TagLies (pools (a .names .now) (a .pool .now))) (c .before .before .tag .given .1) (at-start .pre .0), omega (arith, n))
 
 enum-told : tie.Need-enum-told
 enum-told c = search needs
@@ -35,8 +36,9 @@ write-raw-requires c κs =
 
 returns : tie.Need-returns
 returns c =
+    let at-start = c .before .before .before .before .before .before .before in
     let n = c .write-label .ensures .1 in
-    let m = ap (tagLength (c .before .before .before .before .before .before .before .args .handle)) (c .before .before .before .tag .given .1) in
+    let m = ap (tagLength (at-start .args .handle)) (c .before .before .before .tag .given .1) in
     tag-put _ _ _ _ _ _ _ (c .before .before .before .tag .given .1) (omega (arith, n)) (c .write-label .ensures .0)
 
 returns-2 : tie.Need-returns-2

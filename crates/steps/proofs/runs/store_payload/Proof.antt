@@ -7,7 +7,8 @@ use mathlib.Core.Path.{refl, sym}
 use Rattle.bits.specs.Bits.{num, field}
 use Rattle.bits.specs.Runs.{bytesFor}
 use Rattle.bits.proofs.RunLaws.{length-bytesOf, store-out}
-use Rattle.steps.proofs.StoreLaws.{fitting, past, part-store}
+use Rattle.outputs.proofs.FitLaws.{fitting, past}
+use Rattle.steps.proofs.StoreLaws.{part-store}
 use Rattle.steps.proofs.runs.store_payload.Statement.{statement}
 use Rattle.steps.proofs.runs.store_payload.Tie as tie
 
@@ -47,9 +48,11 @@ same-length c = search needs
 
 returns-2 : tie.Need-returns-2
 returns-2 c =
-    let a = c .before .before .before .before .before .before .before .before .args in
+    let else-1 = c .before .before .before .before in
+    let at-start = else-1 .before .before .before .before in
+    let a = at-start .args in
     let n = length-bytesOf (bytesFor (a .end - a .«from»)) (field (num (a .bytes .now)) (a .«from») (a .end - a .«from»)) in
-    part-store _ _ _ _ _ refl (omega (arith, room (c .before .before .before .before), n)) (c .before .before .copy-field .ensures)
+    part-store _ _ _ _ _ refl (omega (arith, room (else-1), n)) (c .before .before .copy-field .ensures)
 
 pub store-payload-spec : {M : Type 1} → statement M
 store-payload-spec =

@@ -1,4 +1,4 @@
--- What the contracts promise: they determine the answers and the buffers, and a refusal leaves every buffer as it was lent.
+-- The contracts determine the answers and the buffers: an answer is read back off what the contract says of it. A refusal leaves every buffer as it was lent.
 use mathlib.Core.Path.{_≡_, refl, sym, ap, _∙_}
 use mathlib.Core.List.{List}
 use Prim.Native.Nat.{ℕ}
@@ -6,7 +6,7 @@ use lib.Dec.{eqb}
 use Rattle.bits.specs.Choice.{if_then_else_}
 use Rattle.framing.specs.Counters.{Counters}
 use Rattle.framing.specs.Sinks as F
-use Rattle.framing.specs.Sinks.{Walk, object, verdictOf}
+use Rattle.framing.specs.Sinks.{Walker, object, verdictOf}
 use Rattle.framing.specs.Refusing.{Room, Answer, refused, accepted}
 use Rattle.outputs.specs.Answers.{Call, Lent, final}
 use Rattle.outputs.proofs.Passes.{determined, refusal-keeps, pairs-determined, pairs-refusal-keeps}
@@ -51,20 +51,20 @@ verdict-back verdict.Clean = refl
 verdict-back verdict.Partial = refl
 
 -- the verdict that a walk's counters get
-judged : Walk → (bits : ℕ) → Counters → Verdict
+judged : Walker → (bits : ℕ) → Counters → Verdict
 judged k bits c = verdictWith (verdictOf k bits c)
 
-judged-back : (k : Walk) (bits : ℕ) (c : Counters) (v : Verdict) → verdictIs v ≡ verdictOf k bits c → judged k bits c ≡ v
+judged-back : (k : Walker) (bits : ℕ) (c : Counters) (v : Verdict) → verdictIs v ≡ verdictOf k bits c → judged k bits c ≡ v
 unfolding judged
 judged-back k bits c v e = sym (ap verdictWith e) ∙ verdict-back v
 
-structWith : Walk → (bits : ℕ) → Answer Room → StructArray
+structWith : Walker → (bits : ℕ) → Answer Room → StructArray
 structWith k bits (accepted c n) = structs.Decoded (statsWith c) (judged k bits c) (extentWith n)
 structWith k bits (refused number n) =
     if eqb number 1 then structs.TooLong else
     (if eqb number 2 then structs.BrokenTables else (if eqb number 5 then structs.PathTooLong else structs.Short (extentWith n)))
 
-struct-back : (k : Walk) (bits : ℕ) (r : StructArray) → Judged k bits r → structWith k bits (answerOf r) ≡ r
+struct-back : (k : Walker) (bits : ℕ) (r : StructArray) → Judged k bits r → structWith k bits (answerOf r) ≡ r
 unfolding structWith statsWith extentWith
 struct-back k bits (structs.Decoded s v e) j = ap (λ (x : Verdict). structs.Decoded s x e) (judged-back k bits (countersOf s) v j)
 struct-back k bits structs.TooLong j = refl

@@ -1,10 +1,10 @@
--- `steps::pair_at` meets its contract: the bits lie in the bytes that are loaded.
+-- `steps::two_bytes_at` meets its contract: the bits lie in the bytes that are loaded.
 use borrow.Author.Needs.{needs}
 use native.Mathlib.Omega.{arith}
 use Rattle.bits.proofs.FieldLaws.{bound}
 use Rattle.steps.proofs.HeadLaws.{pair-bits}
-use Rattle.steps.proofs.heads.pair_at.Statement.{statement}
-use Rattle.steps.proofs.heads.pair_at.Tie as tie
+use Rattle.steps.proofs.heads.two_bytes_at.Statement.{statement}
+use Rattle.steps.proofs.heads.two_bytes_at.Tie as tie
 
 add-last : tie.Need-add-last
 add-last c = search needs
@@ -27,5 +27,5 @@ shr-result c = search needs
 returns : tie.Need-returns
 returns c = pair-bits _ _ _ _ (c .before .load16 .ensures) (c .load8 .ensures)
 
-pub pair-at-spec : {M : Type 1} → statement M
-pair-at-spec = tie.close (tie.spec add-last load16-requires load8-requires mul-three add-three shr-result returns)
+pub two-bytes-at-spec : {M : Type 1} → statement M
+two-bytes-at-spec = tie.close (tie.spec add-last load16-requires load8-requires mul-three add-three shr-result returns)

@@ -1,0 +1,88 @@
+-- Each exit is one of the cases that the passes may come to.
+use borrow.Author.Needs.{needs}
+use borrow.Author.Tests.{not-true, not-false}
+use mathlib.Core.Path.{sym, ap, _∙_}
+use Rattle.steps.specs.Tally.{played}
+use Rattle.array.specs.Passing.{over, short, written}
+use Rattle.array.proofs.PassLaws.{starts-fresh}
+use Rattle.array.proofs.twice.two_passes.Statement.{statement}
+use Rattle.array.proofs.twice.two_passes.Tie as tie
+
+level-spans-requires : tie.Need-level-spans-requires
+level-spans-requires c κs = search needs
+
+measure-requires : tie.Need-measure-requires
+measure-requires c κs =
+    let spanned = c .before .before in
+    let at-start = spanned .before .before .before .before .before .before .before .before .before in
+    (at-start .pre, spanned .level-spans .ensures)
+
+array-read-if1 : tie.Need-array-read-if1
+array-read-if1 c = search needs
+
+returns : tie.Need-returns
+returns c = over _ (c .before .measure .ensures) (c .if1 .taken)
+
+extent-of-requires : tie.Need-extent-of-requires
+extent-of-requires c κs = search needs
+
+has-room-requires : tie.Need-has-room-requires
+has-room-requires c κs = search needs
+
+returns-2 : tie.Need-returns-2
+returns-2 c =
+    let found = c .before .before in
+    let measured = found .before .before .before in
+    short (record { tally = _; is = measured .measure .ensures; fine = found .before .before .if1 .left; extent = found .extent-of .ensures })
+    (sym (c .before .has-room .ensures) ∙ not-true _ (c .if2 .taken))
+
+pass-requires : tie.Need-pass-requires
+pass-requires c κs =
+    let spanned = c .before .before .before .before .before .before .before .before .before .before .before .before .before .before in
+    let at-start = spanned .before .before .before .before .before .before .before .before .before in
+    (at-start .pre, spanned .level-spans .ensures)
+
+stats-of-requires : tie.Need-stats-of-requires
+stats-of-requires c κs = search needs
+
+verdict-requires : tie.Need-verdict-requires
+verdict-requires c κs = search needs
+
+same-length : tie.Need-same-length
+same-length c = search needs
+
+same-length-2 : tie.Need-same-length-2
+same-length-2 c = search needs
+
+same-length-3 : tie.Need-same-length-3
+same-length-3 c = search needs
+
+returns-3 : tie.Need-returns-3
+returns-3 c =
+    let wrote = c .before .before .before .before .before .before .before .before .before in
+    let fits = wrote .before .before .before .before .before .before .before in
+    let found = fits .before .before in
+    let measured = found .before .before .before in
+    written _
+    (record { tally = _; is = measured .measure .ensures; fine = found .before .before .if1 .left; extent = found .extent-of .ensures })
+    (sym (fits .before .has-room .ensures) ∙ not-false _ (fits .if2 .left)) (wrote .pass .ensures ∙ ap (played _) (starts-fresh _ _ _)) (c .before .stats-of .ensures)
+    (c .verdict .ensures)
+
+pub two-passes-spec : {M : Type 1} → statement M
+two-passes-spec =
+    tie.close
+    (tie.spec
+    level-spans-requires
+    measure-requires
+    array-read-if1
+    returns
+    extent-of-requires
+    has-room-requires
+    returns-2
+    pass-requires
+    stats-of-requires
+    verdict-requires
+    same-length
+    same-length-2
+    same-length-3
+    returns-3)
