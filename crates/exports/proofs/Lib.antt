@@ -1,3 +1,3 @@
 pub mod ResultLaws
 pub mod MovementLaws
-pub mod Promises
+pub mod PackedPositions

@@ -14,7 +14,8 @@ use Rattle.bits.specs.Packed.{packed}
 use Rattle.bits.specs.declared.Packed.{Packed}
 use Rattle.bits.specs.declared.Packed.the-variants as Num
 use Rattle.bits.proofs.PackedLaws.{goes-on-within, overflows-within}
-use Rattle.bitio.specs.Cursors.{bitsOf, longestWindow, good, window, badCursor, atCursor, asking, opened}
+use Rattle.bits.specs.Sizes.{longestWindow}
+use Rattle.bitio.specs.Cursors.{bitsOf, good, window, badCursor, atCursor, asking, opened}
 use borrow.Author.Tests.{ltb-false}
 use Rattle.bitio.specs.Reads.{seen, asBit, readBit, readBits, widestRead}
 use Rattle.bitio.specs.Numbers.{packedAnswer, readIntPacked, serializedTop, serializedAt, readSerializedInt, log2}
@@ -34,13 +35,13 @@ use Rattle.bitio.specs.declared.SerializedRead.the-variants as Ser
 use Rattle.bitio.proofs.CursorLaws.{good-le}
 use Rattle.geometry.specs.Vectors.{checked, vectorOf, vectorBehind, quantizedAt}
 use Rattle.geometry.specs.Rotations.{rotationOf, rotationAt}
-use Rattle.geometry.specs.Movements.{afterBit, afterVector, afterRotation, afterPacked, afterSpin, afterNumber, afterFlags, afterPose, afterExtras, widthOf, scaleOf, velocityScale, flagsAt, poseAt, spinAt, flaggedAt, extrasAt, movementAt, inReader, readMovement}
+use Rattle.geometry.specs.Movements.{afterBit, afterVector, afterRotation, afterPacked, afterSpin, afterOptional, afterFlags, afterPose, afterExtras, widthOf, scaleOf, velocityScale, flagsAt, poseAt, spinAt, flaggedAt, extrasAt, movementAt, inReader, readMovement}
 use Rattle.geometry.specs.declared.Refusal as Geo
 use Rattle.geometry.specs.declared.Refusal.the-variants as G
 use Rattle.geometry.specs.declared.Vector.{Vector}
 use Rattle.geometry.specs.declared.Rotation.{Rotation}
 use Rattle.geometry.specs.declared.Spin.{Spin}
-use Rattle.geometry.specs.declared.Number.{Number}
+use Rattle.geometry.specs.declared.OptionalNumber.{OptionalNumber}
 use Rattle.geometry.specs.declared.RotatorQuantization.{RotatorQuantization}
 use Rattle.geometry.specs.declared.VectorQuantization.{VectorQuantization}
 use Rattle.geometry.specs.declared.VectorRead.{VectorRead}
@@ -58,8 +59,8 @@ use Rattle.geometry.specs.declared.movements.PoseRead.{PoseRead}
 use Rattle.geometry.specs.declared.movements.PoseRead.the-variants as Po
 use Rattle.geometry.specs.declared.movements.SpinRead.{SpinRead}
 use Rattle.geometry.specs.declared.movements.SpinRead.the-variants as S
-use Rattle.geometry.specs.declared.movements.NumberRead.{NumberRead}
-use Rattle.geometry.specs.declared.movements.NumberRead.the-variants as N
+use Rattle.geometry.specs.declared.movements.OptionalNumberRead.{OptionalNumberRead}
+use Rattle.geometry.specs.declared.movements.OptionalNumberRead.the-variants as N
 use Rattle.geometry.specs.declared.movements.ExtrasRead.{ExtrasRead}
 use Rattle.geometry.specs.declared.movements.ExtrasRead.the-variants as X
 use Rattle.bitio.specs.declared.Opened.{Opened}
@@ -263,7 +264,7 @@ module _ (m : ℕ) where
   OnSpin (S.Value f p) = Unit
   OnSpin (S.Refused r) = FitsIn r
 
-  abbrev OnNumber : NumberRead → Type 0
+  abbrev OnNumber : OptionalNumberRead → Type 0
   OnNumber (N.Value f p) = Unit
   OnNumber (N.Refused r) = FitsIn r
 
@@ -304,8 +305,8 @@ module _ (m : ℕ) where
     then-spin (S.Value x p) next h k = k x p
     then-spin (S.Refused r) next h k = stops r h
 
-    then-number : (v : NumberRead) (next : Number → ℕ → A) → OnNumber v → ((x : Number) (p : ℕ) → Q (next x p)) → Q (afterNumber refused v next)
-    unfolding afterNumber
+    then-number : (v : OptionalNumberRead) (next : OptionalNumber → ℕ → A) → OnNumber v → ((x : OptionalNumber) (p : ℕ) → Q (next x p)) → Q (afterOptional refused v next)
+    unfolding afterOptional
     then-number (N.Value x p) next h k = k x p
     then-number (N.Refused r) next h k = stops r h
 

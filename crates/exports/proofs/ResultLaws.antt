@@ -2,19 +2,28 @@
 -- that the call's contract cites.
 use mathlib.Core.Path.{_≡_, refl, sym, ap, _∙_, subst}
 use mathlib.Core.List.{List}
+use mathlib.Core.Option.{Option, none, some}
 use Prim.Native.Nat.{ℕ, _%_, _^_}
 use Rattle.bits.specs.Refusals.{Numbered}
+use Rattle.bitio.specs.Refusals.{sayingOf}
 use Rattle.bitio.specs.declared.Cursor.{Cursor}
+use Rattle.bitio.specs.declared.said.Saying as B
+use Rattle.schema.specs.Refusals.{sayingOf as fillSaying}
+use Rattle.schema.specs.declared.said.Saying as S
 use Rattle.framing.specs.Counters.{Counters}
-use Rattle.framing.specs.Sinks.{Walk, verdictOf}
+use Rattle.framing.specs.Sinks.{Walker, verdictOf}
+use Rattle.framing.specs.Refusing.{Room, Answer, refused, accepted}
 use Rattle.outputs.specs.Answers.{Call, Lent}
-use Rattle.array.specs.Refusals.{countersOf, answerOf, pairsOf, sumsOf}
+use Rattle.array.specs.Refusals.{countersOf, answerOf, pairsOf, sumsOf, refusedRoom, refusedPairs, refusedSum}
+use Rattle.array.specs.declared.said.Saying as W
+use Rattle.array.specs.declared.said.PairSaying.{PairSaying}
 use Rattle.array.specs.Calls as A
 use Rattle.array.specs.Calls.{verdictIs, Judged, PairsJudged, Decodes, DecodesPairs}
 use Rattle.array.specs.Merges.{merge}
 use Rattle.array.specs.declared.ArrayDecodeStats.{ArrayDecodeStats}
 use Rattle.array.specs.declared.Verdict.{Verdict}
 use Rattle.array.specs.declared.Merged.{Merged}
+use Rattle.array.specs.declared.Merged.the-variants as merged
 use Rattle.array.specs.declared.StructArray.{StructArray}
 use Rattle.array.specs.declared.StructArray.the-variants as structs
 use Rattle.array.specs.declared.ObjectArray.{ObjectArray}
@@ -22,7 +31,9 @@ use Rattle.array.specs.declared.ObjectArray.the-variants as objects
 use Rattle.fastarray.specs.Answers as F
 use Rattle.fastarray.specs.declared.ChecksumMode.{ChecksumMode}
 use Rattle.fastarray.specs.declared.FastArray.{FastArray}
-use Rattle.exports.specs.WalkResults.{countersIn, verdictNumber, walkResult, walkOf, Walks, objectsResult, objectsOf, WalksPairs, Judges, mergeResult, bodyResult, DecodesBody}
+use Rattle.fastarray.specs.Refusals.{sayingOf as bodySaying}
+use Rattle.fastarray.specs.declared.said.Saying as P
+use Rattle.exports.specs.WalkResults.{countersIn, countersOut, noCounters, verdictNumber, walkResult, notWalked, walkOf, Walks, objectsResult, noPairs, objectsOf, WalksPairs, Judges, mergeResult, notFilled, refusedBody, noBody, bodyResult, DecodesBody}
 use Rattle.exports.specs.ReadResults.{cursorOf, as64, refusedAt, refusedRead}
 use Rattle.exports.specs.declared.VrfCounters.{VrfCounters}
 use Rattle.exports.specs.declared.VrfWalk.{VrfWalk}
@@ -37,14 +48,61 @@ use Rattle.exports.specs.declared.VrfRead.{VrfRead}
 pub by-form : {A B : Type 0} (f : A → B) {a k : A} {r : B} → a ≡ k → r ≡ f k → r ≡ f a
 by-form f e h = h ∙ sym (ap f e)
 
--- a refusal's form: its numbers, and its position taken in 64 bits
-pub refused-form : {R : Type 0} (said : R → Numbered) (stands : R → ℕ) {r k : R} {a : VrfRead} {p : ℕ} → r ≡ k
-    → a ≡ refusedAt (said k .number) (said k .first) (said k .second) (said k .third) p → p ≡ stands k % 2 ^ 64
-    → a ≡ refusedRead (said r) (stands r)
+-- ---- what a refusal says
+
+-- of a read, with its position taken in 64 bits
+pub as-said : (n : Numbered) (q : ℕ) {s : B.Saying} {p : ℕ} {a : VrfRead} → s ≡ sayingOf n → p ≡ q % 2 ^ 64
+    → a ≡ refusedAt (s .number) (s .first) (s .second) (s .third) p → a ≡ refusedRead n q
 unfolding as64
-refused-form said stands {r} {k} e h s =
-    h ∙ ap (λ (x : ℕ). refusedAt (said k .number) (said k .first) (said k .second) (said k .third) x) s
-    ∙ sym (ap (λ (x : _). refusedRead (said x) (stands x)) e)
+as-said n q e f h = h ∙ (λ i. refusedAt (e i .number) (e i .first) (e i .second) (e i .third) (f i))
+
+pub walk-said : (a : Answer Room) {s : W.Saying} {k : VrfCounters} → s ≡ refusedRoom a → k ≡ noCounters
+    → record { refusal = s .number; leaves = s .leaves; «path_bytes» = s .«path_bytes»; «payload_bytes» = s .«payload_bytes»; counters = k; verdict = 0 }
+    ≡ notWalked a
+walk-said (refused n need) e f =
+    λ i. record {
+      refusal = e i .number;
+      leaves = e i .leaves;
+      «path_bytes» = e i .«path_bytes»;
+      «payload_bytes» = e i .«payload_bytes»;
+      counters = f i;
+      verdict = 0;
+    }
+walk-said (accepted c need) e f =
+    λ i. record {
+      refusal = e i .number;
+      leaves = e i .leaves;
+      «path_bytes» = e i .«path_bytes»;
+      «payload_bytes» = e i .«payload_bytes»;
+      counters = f i;
+      verdict = 0;
+    }
+
+pub pairs-said : (a : Answer ℕ) {s : PairSaying} {k : VrfCounters} → s ≡ refusedPairs a → k ≡ noCounters
+    → record { refusal = s .number; pairs = s .pairs; counters = k; verdict = 0 } ≡ noPairs a
+pairs-said (refused n need) e f = λ i. record { refusal = e i .number; pairs = e i .pairs; counters = f i; verdict = 0 }
+pairs-said (accepted c need) e f = λ i. record { refusal = e i .number; pairs = e i .pairs; counters = f i; verdict = 0 }
+
+module _ {a : Merged} {s : ArrayDecodeStats} {n : ℕ} {k : VrfCounters} (number : n ≡ refusedSum (sumsOf a)) (counts : k ≡ countersOut (countersOf s)) where
+  pub sum-said : a ≡ merged.Sum s → record { refusal = n; counters = k } ≡ mergeResult (sumsOf a)
+  sum-said e =
+      let z = number ∙ ap (λ (m : Merged). refusedSum (sumsOf m)) e in
+      by-form (λ (m : Merged). mergeResult (sumsOf m)) e (λ i. record { refusal = z i; counters = counts i })
+
+  pub overflow-said : a ≡ merged.Overflow s → record { refusal = n; counters = k } ≡ mergeResult (sumsOf a)
+  overflow-said e =
+      let z = number ∙ ap (λ (m : Merged). refusedSum (sumsOf m)) e in
+      by-form (λ (m : Merged). mergeResult (sumsOf m)) e (λ i. record { refusal = z i; counters = counts i })
+
+pub fill-said : (a : Option Numbered) {s : S.Saying} → s ≡ fillSaying a
+    → record { refusal = s .number; rows = s .rows; names = s .names; levels = 0 } ≡ notFilled a
+fill-said none e = λ i. record { refusal = e i .number; rows = e i .rows; names = e i .names; levels = 0 }
+fill-said (some n) e = λ i. record { refusal = e i .number; rows = e i .rows; names = e i .names; levels = 0 }
+
+pub body-said : (a : Option Numbered) {s : P.Saying} → s ≡ bodySaying a
+    → refusedBody (s .number) (s .deletes) (s .items) (s .fields) ≡ noBody a
+body-said none e = λ i. refusedBody (e i .number) (e i .deletes) (e i .items) (e i .fields)
+body-said (some n) e = λ i. refusedBody (e i .number) (e i .deletes) (e i .items) (e i .fields)
 
 -- a read at the cursor that C handed in
 pub read-as : {A B : Type 0} (f : ℕ → A → B) (g : Cursor → A) {c : Cursor} {k : VrfCursor} {a : A} {r : B} → c ≡ cursorOf k
@@ -53,7 +111,7 @@ read-as f g {c} e h s = s ∙ ap (f (c .pos)) h ∙ ap (λ (x : Cursor). f (x .p
 
 -- ---- walks
 
-walk-says : (k : Walk) (bits : ℕ) (a : StructArray) → Judged k bits a → walkOf a ≡ walkResult k bits (answerOf a)
+walk-says : (k : Walker) (bits : ℕ) (a : StructArray) → Judged k bits a → walkOf a ≡ walkResult k bits (answerOf a)
 walk-says k bits (structs.Decoded s v e) j =
     λ i. record {
       refusal = 0;

@@ -10,8 +10,8 @@ use Rattle.geometry.specs.declared.Vector.{Vector}
 use Rattle.geometry.specs.declared.Rotation.{Rotation}
 use Rattle.geometry.specs.declared.Spin.{Spin}
 use Rattle.geometry.specs.declared.Spin.the-variants as spin
-use Rattle.geometry.specs.declared.Number.{Number}
-use Rattle.geometry.specs.declared.Number.the-variants as number
+use Rattle.geometry.specs.declared.OptionalNumber.{OptionalNumber}
+use Rattle.geometry.specs.declared.OptionalNumber.the-variants as number
 use Rattle.geometry.specs.declared.Movement.{Movement}
 use Rattle.geometry.specs.declared.RotatorQuantization.{RotatorQuantization}
 use Rattle.geometry.specs.declared.RotatorQuantization.the-variants.{ByteComponents, ShortComponents}
@@ -57,7 +57,7 @@ spinOf (spin.Present v) = record { present = true; velocity = xyzOf v }
 abbrev pub absentNumber : VrfNumber
 absentNumber = record { present = false; value = 0 }
 
-abbrev pub presentOf : Number → VrfNumber
+abbrev pub presentOf : OptionalNumber → VrfNumber
 presentOf number.Absent = absentNumber
 presentOf (number.Present n) = record { present = true; value = n }
 

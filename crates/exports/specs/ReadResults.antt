@@ -25,7 +25,7 @@ abbrev pub refusedAt : (number first second third position : ℕ) → VrfRead
 refusedAt n a b c p = record { refusal = n; first = a; second = b; third = c; value = 0; position = p }
 
 -- a position in 64 bits, after any refusal; none is past them: a refused read stands inside its window (for a packed number, which stands 40
--- bits on, proofs/Promises.packed-position)
+-- bits on, proofs/PackedPositions.packed-position)
 unfoldable pub as64 : ℕ → ℕ
 as64 p = p % 2 ^ 64
 

@@ -13,7 +13,7 @@ use Rattle.schema.specs.Refusals.{filledNumbered}
 use Rattle.schema.specs.declared.Filled.{Filled}
 use Rattle.schema.specs.declared.Filled.the-variants as Fill
 use Rattle.framing.specs.Counters.{Counters, counted}
-use Rattle.framing.specs.Sinks.{Walk, object, Verdict, clean, partial, verdictOf}
+use Rattle.framing.specs.Sinks.{Walker, object, Verdict, clean, partial, verdictOf}
 use Rattle.framing.specs.Refusing.{Room, Answer, refused, accepted}
 use Rattle.outputs.specs.Answers.{Call, Lent, answer, final, pairAnswer, finalPairs}
 use Rattle.array.specs.Calls.{verdictIs}
@@ -62,7 +62,7 @@ verdictNumber partial = 1
 
 -- the number of the verdict on such counters, of whichever walk and however many bits
 abbrev pub Judges : Counters → (number : ℕ) → Type 0
-Judges c n = (k : Walk) (bits : ℕ) → n ≡ verdictNumber (verdictOf k bits c)
+Judges c n = (k : Walker) (bits : ℕ) → n ≡ verdictNumber (verdictOf k bits c)
 
 -- ---- struct and exact walks
 
@@ -75,7 +75,7 @@ acceptedWalk c v l p y =
     record { refusal = 0; leaves = l; «path_bytes» = p; «payload_bytes» = y; counters = countersOut c; verdict = verdictNumber v }
 
 -- the struct for an answer of such a walk
-abbrev pub walkResult : Walk → (bits : ℕ) → Answer Room → VrfWalk
+abbrev pub walkResult : Walker → (bits : ℕ) → Answer Room → VrfWalk
 walkResult k bits (refused n need) = refusedWalk n (need .leaves) (need .pathBytes) (need .payloadBytes)
 walkResult k bits (accepted c need) = acceptedWalk c (verdictOf k bits c) (need .leaves) (need .pathBytes) (need .payloadBytes)
 

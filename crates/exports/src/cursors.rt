@@ -10,6 +10,9 @@ use bitio::Cursor;
 use bitio::PackedRead;
 use bitio::Refusal;
 use bitio::SerializedRead;
+use bitio::said::Saying;
+use bitio::said::said;
+use bitio::said::stands_after;
 
 pub fn cursor_of(c: VrfCursor) -> Cursor
     ensures { λ r. ⌜ r ≡ cursorOf c ⌝ }
@@ -34,41 +37,27 @@ fn read_value(value: u64, position: u64) -> VrfRead
     }
 }
 
-pub fn read_refused(refusal: u32, first: u64, second: u64, third: u64, position: u64) -> VrfRead
-    ensures { λ r. ⌜ r ≡ refusedAt refusal first second third position ⌝ }
+// What a refusal says, with the cursor at `position`.
+pub fn read_refused(told: Saying, position: u64) -> VrfRead
+    ensures { λ r. ⌜ r ≡ refusedAt (told .number) (told .first) (told .second) (told .third) position ⌝ }
 {
     VrfRead {
-        refusal,
-        first,
-        second,
-        third,
+        refusal: told.number,
+        first: told.first,
+        second: told.second,
+        third: told.third,
         value: 0,
         position,
     }
 }
 
-// What a refusal says, and where the cursor that stood at `at` stands after it. The 40 bits of a packed number lie in its window,
-// so that no sum wraps here.
-pub fn refused(r: Refusal, at: u64) -> VrfRead
-    ensures { λ a. ⌜ a ≡ refusedRead (numbered r) (standsAfter at r) ⌝ }
+// What a refusal says, and where the cursor that stood at `at` stands after it.
+fn refused(why: Refusal, at: u64) -> VrfRead
+    ensures { λ r. ⌜ r ≡ refusedRead (numbered why) (standsAfter at why) ⌝ }
 {
-    match r {
-        Refusal::TooLong => read_refused(1, 0, 0, 0, at),
-        Refusal::TooFew(position, length, asked) => {
-            read_refused(7, position, length, asked, position)
-        }
-        Refusal::GoesOn(start) => {
-            let stop = std::num::wrapping_add_u64(start, 40);
-            read_refused(8, start, 0, 0, stop)
-        }
-        Refusal::Overflows(start) => {
-            let stop = std::num::wrapping_add_u64(start, 40);
-            read_refused(9, start, 0, 0, stop)
-        }
-        Refusal::NoMaximum => read_refused(10, 0, 0, 0, at),
-        Refusal::TooMany => read_refused(13, 0, 0, 0, at),
-        Refusal::Past(asked, available) => read_refused(14, asked, available, 0, at),
-    }
+    let told = said(why);
+    let position = stands_after(why, at);
+    read_refused(told, position)
 }
 
 pub fn bits_of(a: BitsRead, at: u64) -> VrfRead

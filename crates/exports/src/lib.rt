@@ -173,6 +173,8 @@ pub struct VrfMovement {
 
 // ---- walks
 
+// A root of 4294967295 means no schema, a declared row that starts there, with length 0, no declared name; a kept tail's leaf
+// has it as its handle.
 #[no_mangle]
 pub extern "C" fn vrf_struct_array<'a>(
     bytes: &[u8],
@@ -182,12 +184,16 @@ pub extern "C" fn vrf_struct_array<'a>(
     root: u32,
     names: &'a [u8],
     declared: &[u32],
-    pool: &'a [u8],
+    declared_names: &'a [u8],
     leaves: &mut [u32],
     paths: &mut [u8],
     payloads: &mut [u8],
 ) -> VrfWalk
-    ensures { λ r. ⌜ Walks (structCall (now (bytes .entry)) bits (tables (now (rows .entry)) (now (names .entry)) (now (declared .entry)) (now (pool .entry))) levels root) (lent (now (leaves .entry)) (now (paths .entry)) (now (payloads .entry))) r (lent (now (leaves .exit)) (now (paths .exit)) (now (payloads .exit))) ⌝ }
+    ensures { λ r. ⌜ Walks
+        (structCall (now (bytes .entry)) bits
+        (tables (now (rows .entry)) (now (names .entry)) (now (declared .entry)) (now («declared_names» .entry))) levels root)
+        (lent (now (leaves .entry)) (now (paths .entry)) (now (payloads .entry))) r
+        (lent (now (leaves .exit)) (now (paths .exit)) (now (payloads .exit))) ⌝ }
 {
     let answer = array::decode_struct_array(
         bytes,
@@ -197,7 +203,7 @@ pub extern "C" fn vrf_struct_array<'a>(
         root,
         names,
         declared,
-        pool,
+        declared_names,
         leaves,
         paths,
         payloads,
@@ -210,18 +216,20 @@ pub extern "C" fn vrf_struct_array_exact(
     bytes: &[u8],
     bits: u32,
     declared: &[u32],
-    pool: &[u8],
+    declared_names: &[u8],
     leaves: &mut [u32],
     paths: &mut [u8],
     payloads: &mut [u8],
 ) -> VrfWalk
-    ensures { λ r. ⌜ Walks (exactCall (now (bytes .entry)) bits (now (declared .entry)) (now (pool .entry))) (lent (now (leaves .entry)) (now (paths .entry)) (now (payloads .entry))) r (lent (now (leaves .exit)) (now (paths .exit)) (now (payloads .exit))) ⌝ }
+    ensures { λ r. ⌜ Walks (exactCall (now (bytes .entry)) bits (now (declared .entry)) (now («declared_names» .entry)))
+        (lent (now (leaves .entry)) (now (paths .entry)) (now (payloads .entry))) r
+        (lent (now (leaves .exit)) (now (paths .exit)) (now (payloads .exit))) ⌝ }
 {
     let answer = array::decode_struct_array_exact(
         bytes,
         bits,
         declared,
-        pool,
+        declared_names,
         leaves,
         paths,
         payloads,
@@ -278,7 +286,9 @@ pub extern "C" fn vrf_fast_array(
     items: &mut [u32],
     fields: &mut [u32],
 ) -> VrfFastArray
-    ensures { λ r. ⌜ DecodesBody (F.call (now (payload .entry)) bits (modeOf checksum)) (F.lent (now (deleted .entry)) (now (items .entry)) (now (fields .entry))) r (F.lent (now (deleted .exit)) (now (items .exit)) (now (fields .exit))) ⌝ }
+    ensures { λ r. ⌜ DecodesBody (F.call (now (payload .entry)) bits (modeOf checksum))
+        (F.lent (now (deleted .entry)) (now (items .entry)) (now (fields .entry))) r
+        (F.lent (now (deleted .exit)) (now (items .exit)) (now (fields .exit))) ⌝ }
 {
     let mode = walks::mode_of(checksum);
     let answer = fastarray::decode_fast_array_delta(payload, bits, mode, deleted, items, fields);

@@ -14,7 +14,7 @@ use crate::VrfXyz;
 use crate::cursors;
 use geometry::Movement;
 use geometry::MovementRead;
-use geometry::Number;
+use geometry::OptionalNumber;
 use geometry::Refusal;
 use geometry::Rotation;
 use geometry::RotationRead;
@@ -23,6 +23,8 @@ use geometry::Spin;
 use geometry::Vector;
 use geometry::VectorQuantization;
 use geometry::VectorRead;
+use geometry::said::said;
+use geometry::said::stands_after;
 
 // ---- parts
 
@@ -100,12 +102,12 @@ fn absent_number() -> VrfNumber
     }
 }
 
-fn number_of(a: Number) -> VrfNumber
+fn number_of(a: OptionalNumber) -> VrfNumber
     ensures { λ r. ⌜ r ≡ presentOf a ⌝ }
 {
     match a {
-        Number::Absent => absent_number(),
-        Number::Present(value) => VrfNumber {
+        OptionalNumber::Absent => absent_number(),
+        OptionalNumber::Present(value) => VrfNumber {
             present: true,
             value,
         },
@@ -115,15 +117,12 @@ fn number_of(a: Number) -> VrfNumber
 // ---- refusals
 
 // What a refusal says, and where the cursor that stood at `at` stands after it.
-fn refused(r: Refusal, at: u64) -> VrfRead
-    ensures { λ a. ⌜ a ≡ refusedRead (numbered r) (standsAfter at r) ⌝ }
+fn refused(why: Refusal, at: u64) -> VrfRead
+    ensures { λ r. ⌜ r ≡ refusedRead (numbered why) (standsAfter at why) ⌝ }
 {
-    match r {
-        Refusal::Unread(part) => cursors::refused(part, at),
-        Refusal::NoScale => cursors::read_refused(11, 0, 0, 0, at),
-        Refusal::NotFinite(position) => cursors::read_refused(12, 0, 0, 0, position),
-        Refusal::NoSuchWidth => cursors::read_refused(13, 0, 0, 0, at),
-    }
+    let told = said(why);
+    let position = stands_after(why, at);
+    cursors::read_refused(told, position)
 }
 
 // ---- answers
@@ -144,15 +143,15 @@ pub fn vector_of(a: VectorRead, at: u64) -> VrfVector
             }
         }
         VectorRead::Refused(r) => {
-            let said = refused(r, at);
+            let unread = refused(r, at);
             let value = no_xyz();
             VrfVector {
-                refusal: said.refusal,
-                first: said.first,
-                second: said.second,
-                third: said.third,
+                refusal: unread.refusal,
+                first: unread.first,
+                second: unread.second,
+                third: unread.third,
                 value,
-                position: said.position,
+                position: unread.position,
             }
         }
     }
@@ -174,15 +173,15 @@ pub fn rotation_of(a: RotationRead, at: u64) -> VrfRotation
             }
         }
         RotationRead::Refused(r) => {
-            let said = refused(r, at);
+            let unread = refused(r, at);
             let value = no_angles();
             VrfRotation {
-                refusal: said.refusal,
-                first: said.first,
-                second: said.second,
-                third: said.third,
+                refusal: unread.refusal,
+                first: unread.first,
+                second: unread.second,
+                third: unread.third,
                 value,
-                position: said.position,
+                position: unread.position,
             }
         }
     }
@@ -240,8 +239,8 @@ fn moved(m: Movement, used: u64) -> VrfMovement
     }
 }
 
-fn unmoved(said: VrfRead) -> VrfMovement
-    ensures { λ r. ⌜ r ≡ unmovedResult said ⌝ }
+fn unmoved(unread: VrfRead) -> VrfMovement
+    ensures { λ r. ⌜ r ≡ unmovedResult unread ⌝ }
 {
     let location = no_xyz();
     let rotation = no_angles();
@@ -250,10 +249,10 @@ fn unmoved(said: VrfRead) -> VrfMovement
     let frame = absent_number();
     let handle = absent_number();
     VrfMovement {
-        refusal: said.refusal,
-        first: said.first,
-        second: said.second,
-        third: said.third,
+        refusal: unread.refusal,
+        first: unread.first,
+        second: unread.second,
+        third: unread.third,
         location,
         rotation,
         linear,
@@ -262,7 +261,7 @@ fn unmoved(said: VrfRead) -> VrfMovement
         physics: false,
         frame,
         handle,
-        position: said.position,
+        position: unread.position,
     }
 }
 
@@ -273,8 +272,8 @@ pub fn movement_of(a: MovementRead) -> VrfMovement
     match a {
         MovementRead::Value(m, used) => moved(m, used),
         MovementRead::Refused(r) => {
-            let said = refused(r, 0);
-            unmoved(said)
+            let unread = refused(r, 0);
+            unmoved(unread)
         }
     }
 }

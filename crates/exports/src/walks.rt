@@ -1,8 +1,10 @@
 // Answers of the walks, the merge, the schema and the fast array as structs for C.
 ghost use mathlib.Core.Path.{_≡_};
 ghost use Rattle.array.specs.Calls.{verdictIs};
-ghost use Rattle.array.specs.Refusals.{countersOf, sumsOf};
-ghost use Rattle.exports.specs.WalkResults.{countersIn, countersOut, noCounters, verdictNumber, refusedWalk, walkOf, refusedObjects, objectsOf, mergeResult, schemaResult, modeOf, refusedBody, bodyResult};
+ghost use Rattle.schema.specs.Refusals.{filledNumbered};
+ghost use Rattle.array.specs.Refusals.{countersOf, answerOf, pairsOf, sumsOf};
+ghost use Rattle.fastarray.specs.Refusals.{numbered};
+ghost use Rattle.exports.specs.WalkResults.{countersIn, countersOut, noCounters, verdictNumber, notWalked, walkOf, noPairs, objectsOf, mergeResult, notFilled, schemaResult, modeOf, noBody, bodyResult};
 use crate::VrfCounters;
 use crate::VrfFastArray;
 use crate::VrfMerge;
@@ -76,15 +78,17 @@ pub fn verdict_number(v: Verdict) -> u32
 
 // ---- walks
 
-fn refused_walk(refusal: u32, leaves: u32, paths: u32, payloads: u32) -> VrfWalk
-    ensures { λ r. ⌜ r ≡ refusedWalk refusal leaves paths payloads ⌝ }
+// What a refused walk says.
+fn not_walked(a: StructArray) -> VrfWalk
+    ensures { λ r. ⌜ r ≡ notWalked (answerOf a) ⌝ }
 {
+    let told = array::said::said(a);
     let counters = no_counters();
     VrfWalk {
-        refusal,
-        leaves,
-        path_bytes: paths,
-        payload_bytes: payloads,
+        refusal: told.number,
+        leaves: told.leaves,
+        path_bytes: told.path_bytes,
+        payload_bytes: told.payload_bytes,
         counters,
         verdict: 0,
     }
@@ -106,22 +110,22 @@ pub fn walk_of(a: StructArray) -> VrfWalk
                 verdict,
             }
         }
-        StructArray::TooLong => refused_walk(1, 0, 0, 0),
-        StructArray::BrokenTables => refused_walk(2, 0, 0, 0),
-        StructArray::PathTooLong => refused_walk(5, 0, 0, 0),
-        StructArray::Short(need) => {
-            refused_walk(3, need.leaves, need.path_bytes, need.payload_bytes)
-        }
+        StructArray::TooLong => not_walked(a),
+        StructArray::BrokenTables => not_walked(a),
+        StructArray::PathTooLong => not_walked(a),
+        StructArray::Short(_) => not_walked(a),
     }
 }
 
-fn refused_objects(refusal: u32, pairs: u32) -> VrfObjects
-    ensures { λ r. ⌜ r ≡ refusedObjects refusal pairs ⌝ }
+// What a refused object walk says.
+fn no_pairs(a: ObjectArray) -> VrfObjects
+    ensures { λ r. ⌜ r ≡ noPairs (pairsOf a) ⌝ }
 {
+    let told = array::said::pairs_said(a);
     let counters = no_counters();
     VrfObjects {
-        refusal,
-        pairs,
+        refusal: told.number,
+        pairs: told.pairs,
         counters,
         verdict: 0,
     }
@@ -141,33 +145,41 @@ pub fn objects_of(a: ObjectArray) -> VrfObjects
                 verdict,
             }
         }
-        ObjectArray::TooLong => refused_objects(1, 0),
-        ObjectArray::Short(need) => refused_objects(3, need),
+        ObjectArray::TooLong => no_pairs(a),
+        ObjectArray::Short(_) => no_pairs(a),
     }
 }
 
 pub fn merge_of(a: Merged) -> VrfMerge
     ensures { λ r. ⌜ r ≡ mergeResult (sumsOf a) ⌝ }
 {
+    let refusal = array::said::merge_number(a);
     match a {
         Merged::Sum(stats) => {
             let counters = counters_of(stats);
-            VrfMerge {
-                refusal: 0,
-                counters,
-            }
+            VrfMerge { refusal, counters }
         }
         Merged::Overflow(stats) => {
             let counters = counters_of(stats);
-            VrfMerge {
-                refusal: 4,
-                counters,
-            }
+            VrfMerge { refusal, counters }
         }
     }
 }
 
 // ---- the schema, and the fast array
+
+// What the schema's call says of buffers that are too short.
+fn not_filled(a: Filled) -> VrfSchema
+    ensures { λ r. ⌜ r ≡ notFilled (filledNumbered a) ⌝ }
+{
+    let told = schema::said::said(a);
+    VrfSchema {
+        refusal: told.number,
+        rows: told.rows,
+        names: told.names,
+        levels: 0,
+    }
+}
 
 pub fn schema_of(a: Filled) -> VrfSchema
     ensures { λ r. ⌜ r ≡ schemaResult a ⌝ }
@@ -179,12 +191,7 @@ pub fn schema_of(a: Filled) -> VrfSchema
             names: NAME_BYTES,
             levels: LEVELS,
         },
-        Filled::Short(rows, names) => VrfSchema {
-            refusal: 3,
-            rows,
-            names,
-            levels: 0,
-        },
+        Filled::Short(_, _) => not_filled(a),
     }
 }
 
@@ -198,14 +205,16 @@ pub fn mode_of(checksum: u32) -> ChecksumMode
     }
 }
 
-fn refused_body(refusal: u32, deletes: u32, items: u32, fields: u32) -> VrfFastArray
-    ensures { λ r. ⌜ r ≡ refusedBody refusal deletes items fields ⌝ }
+// What a refused body says.
+fn no_body(a: FastArray) -> VrfFastArray
+    ensures { λ r. ⌜ r ≡ noBody (numbered a) ⌝ }
 {
+    let told = fastarray::said::said(a);
     VrfFastArray {
-        refusal,
-        deletes,
-        items,
-        fields,
+        refusal: told.number,
+        deletes: told.deletes,
+        items: told.items,
+        fields: told.fields,
         key: 0,
         base: 0,
         used: 0,
@@ -225,8 +234,8 @@ pub fn fast_array_of(a: FastArray) -> VrfFastArray
             base: delta.base,
             used: delta.used,
         },
-        FastArray::TooLong => refused_body(1, 0, 0, 0),
-        FastArray::NotFastArray => refused_body(6, 0, 0, 0),
-        FastArray::Short(deletes, items, fields) => refused_body(3, deletes, items, fields),
+        FastArray::TooLong => no_body(a),
+        FastArray::NotFastArray => no_body(a),
+        FastArray::Short(_, _, _) => no_body(a),
     }
 }

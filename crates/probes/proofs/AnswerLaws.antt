@@ -2,23 +2,20 @@
 -- that the call's contract cites.
 use mathlib.Core.Path.{_≡_, sym, ap, _∙_}
 use Prim.Native.Nat.{ℕ, _%_, _^_}
-use Rattle.bitio.specs.Refusals.{numbered, standsAfter}
+use Rattle.bitio.specs.Refusals.{numbered, sayingOf, standsAfter}
 use Rattle.bitio.specs.declared.Cursor.{Cursor}
 use Rattle.bitio.specs.declared.Refusal.{Refusal}
+use Rattle.bitio.specs.declared.said.Saying.{Saying}
 use Rattle.probes.specs.Answers.{cursorOf, refusedAt, refusalGiven}
 use Rattle.probes.specs.declared.VrfProbeCursor.{VrfProbeCursor}
-use Rattle.probes.specs.declared.VrfProbe.{VrfProbe}
 
 pub by-form : {A B : Type 0} (f : A → B) {a k : A} {r : B} → a ≡ k → r ≡ f k → r ≡ f a
 by-form f e h = h ∙ sym (ap f e)
 
--- a refusal's form: its numbers, and its position taken in 64 bits
-pub refused-form : (at : ℕ) {r k : Refusal} {a : VrfProbe} {p : ℕ} → r ≡ k
-    → a ≡ refusedAt (numbered k .number) (numbered k .first) (numbered k .second) (numbered k .third) p → p ≡ standsAfter at k % 2 ^ 64
-    → a ≡ refusalGiven at r
-refused-form at {r} {k} e h s =
-    h ∙ ap (λ (x : ℕ). refusedAt (numbered k .number) (numbered k .first) (numbered k .second) (numbered k .third) x) s
-    ∙ sym (ap (refusalGiven at) e)
+-- a refusal: what it says, and where it leaves the cursor
+pub as-said : (at : ℕ) (why : Refusal) {s : Saying} {p : ℕ} → s ≡ sayingOf (numbered why) → p ≡ standsAfter at why % 2 ^ 64
+    → refusedAt (s .number) (s .first) (s .second) (s .third) p ≡ refusalGiven at why
+as-said at why e f = λ i. refusedAt (e i .number) (e i .first) (e i .second) (e i .third) (f i)
 
 -- a call at the cursor that was handed in
 pub read-as : {A B : Type 0} (f : ℕ → A → B) (g : Cursor → A) {c : Cursor} {k : VrfProbeCursor} {a : A} {r : B} → c ≡ cursorOf k

@@ -3,7 +3,6 @@
 use Prim.Native.Nat.{ℕ, _%_, _^_}
 use mathlib.Core.Bool.{Bool, false}
 use lib.IntN.{ℤ, pos}
-use Rattle.bits.specs.Refusals.{Numbered}
 use Rattle.bitio.specs.Refusals.{numbered, standsAfter}
 use Rattle.bitio.specs.declared.Cursor.{Cursor}
 use Rattle.bitio.specs.declared.Refusal.{Refusal}

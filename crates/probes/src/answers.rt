@@ -1,7 +1,6 @@
 // Answers of the bit reader as the one struct that tests are given.
 ghost use mathlib.Core.Path.{_≡_};
-ghost use Rattle.bitio.specs.Refusals.{numbered, standsAfter};
-ghost use Rattle.probes.specs.Answers.{cursorOf, valueGiven, readerGiven, refusedAt, refusalGiven, openedGives, measuredGives, endedGives, skippedGives, subGives, bitGives, u8Gives, u16Gives, u32Gives, i32Gives, u64Gives};
+ghost use Rattle.probes.specs.Answers.{cursorOf, valueGiven, readerGiven, refusalGiven, openedGives, measuredGives, endedGives, skippedGives, subGives, bitGives, u8Gives, u16Gives, u32Gives, i32Gives, u64Gives};
 use crate::VrfProbe;
 use crate::VrfProbeCursor;
 use bitio::BitRead;
@@ -17,6 +16,8 @@ use bitio::U8Read;
 use bitio::U16Read;
 use bitio::U32Read;
 use bitio::U64Read;
+use bitio::said::said;
+use bitio::said::stands_after;
 
 pub fn cursor_of(c: VrfProbeCursor) -> Cursor
     ensures { λ r. ⌜ r ≡ cursorOf c ⌝ }
@@ -69,14 +70,17 @@ pub fn reader_given(c: Cursor, position: u64) -> VrfProbe
     }
 }
 
-fn refused_at(refusal: u32, first: u64, second: u64, third: u64, position: u64) -> VrfProbe
-    ensures { λ r. ⌜ r ≡ refusedAt refusal first second third position ⌝ }
+// What a refusal says, and where the cursor that stood at `at` stands after it.
+fn refused(why: Refusal, at: u64) -> VrfProbe
+    ensures { λ r. ⌜ r ≡ refusalGiven at why ⌝ }
 {
+    let told = said(why);
+    let position = stands_after(why, at);
     VrfProbe {
-        refusal,
-        first,
-        second,
-        third,
+        refusal: told.number,
+        first: told.first,
+        second: told.second,
+        third: told.third,
         value: 0,
         signed: 0,
         truth: false,
@@ -86,30 +90,6 @@ fn refused_at(refusal: u32, first: u64, second: u64, third: u64, position: u64) 
             pos: 0,
             len: 0,
         },
-    }
-}
-
-// What a refusal says, and where the cursor that stood at `at` stands after it. No call here reads a packed number; the 40 bits of one
-// would lie in its window, so that no sum wraps.
-fn refused(r: Refusal, at: u64) -> VrfProbe
-    ensures { λ a. ⌜ a ≡ refusalGiven at r ⌝ }
-{
-    match r {
-        Refusal::TooLong => refused_at(1, 0, 0, 0, at),
-        Refusal::TooFew(position, length, asked) => {
-            refused_at(7, position, length, asked, position)
-        }
-        Refusal::GoesOn(start) => {
-            let stop = std::num::wrapping_add_u64(start, 40);
-            refused_at(8, start, 0, 0, stop)
-        }
-        Refusal::Overflows(start) => {
-            let stop = std::num::wrapping_add_u64(start, 40);
-            refused_at(9, start, 0, 0, stop)
-        }
-        Refusal::NoMaximum => refused_at(10, 0, 0, 0, at),
-        Refusal::TooMany => refused_at(13, 0, 0, 0, at),
-        Refusal::Past(asked, available) => refused_at(14, asked, available, 0, at),
     }
 }
 

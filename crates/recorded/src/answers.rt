@@ -7,6 +7,13 @@ ghost use Rattle.recorded.specs.Says.{Says};
 use crate::fields;
 use crate::say;
 use bitio::Refusal;
+use bitio::said::Saying;
+use bitio::said::said;
+use bitio::said::stands_after;
+use words::wide;
+
+// Document 01's number for outputs that are too short: what a call has to answer that is lent less than the recorded one fills.
+pub const SHORT: u64 = 3;
 
 pub struct Answer {
     pub number: u64,
@@ -50,7 +57,7 @@ pub enum Outcome {
 }
 
 // The outcome of a case whose difference, if there is one, is printed.
-pub fn said(same: bool) -> Outcome {
+pub fn outcome_of(same: bool) -> Outcome {
     if same {
         Outcome::Same
     } else {
@@ -75,26 +82,22 @@ pub fn accepted(value: u64, cursor: u64) -> Answer {
     answer_of(0, value, 0, 0, cursor)
 }
 
-// What a refusal says, and where the cursor that stood at `at` stands after it (bitio's specs/Refusals).
-pub fn refused(r: Refusal, at: u64) -> Answer
-    ensures says { λ a. ⌜ Says a (numbered r) ⌝ }
-    ensures stands { λ a. ⌜ a .cursor ≡ standsAfter at r % 2 ^ 64 ⌝ }
+// What a refusal says, with the cursor at a place.
+pub fn told(s: Saying, cursor: u64) -> Answer
+    ensures says { λ a. ⌜ Says a (refusal (s .number) (s .first) (s .second) (s .third)) ⌝ }
+    ensures stands { λ a. ⌜ a .cursor ≡ cursor ⌝ }
 {
-    match r {
-        Refusal::TooLong => answer_of(1, 0, 0, 0, at),
-        Refusal::TooFew(position, length, asked) => answer_of(7, position, length, asked, position),
-        Refusal::GoesOn(start) => {
-            let stop = std::num::wrapping_add_u64(start, 40);
-            answer_of(8, start, 0, 0, stop)
-        }
-        Refusal::Overflows(start) => {
-            let stop = std::num::wrapping_add_u64(start, 40);
-            answer_of(9, start, 0, 0, stop)
-        }
-        Refusal::NoMaximum => answer_of(10, 0, 0, 0, at),
-        Refusal::TooMany => answer_of(13, 0, 0, 0, at),
-        Refusal::Past(asked, available) => answer_of(14, asked, available, 0, at),
-    }
+    answer_of(wide(s.number), s.first, s.second, s.third, cursor)
+}
+
+// What a refusal says, and where the cursor that stood at `at` stands after it (bitio's specs/Refusals).
+pub fn refused(why: Refusal, at: u64) -> Answer
+    ensures says { λ a. ⌜ Says a (numbered why) ⌝ }
+    ensures stands { λ a. ⌜ a .cursor ≡ standsAfter at why % 2 ^ 64 ⌝ }
+{
+    let s = said(why);
+    let cursor = stands_after(why, at);
+    told(s, cursor)
 }
 
 pub fn recorded(s: &[u8], at: usize) -> Expected {

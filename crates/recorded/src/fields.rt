@@ -15,8 +15,8 @@ pub struct ShortField {
     pub next: usize,
 }
 
-// The place after a part that doesn't fit.
-fn past() -> usize {
+// The place after a part that doesn't fit: an empty run stands there.
+pub fn past() -> usize {
     0xffff_ffff_ffff_ffff
 }
 

@@ -59,7 +59,7 @@ fn reason(f: Fault) {
             error::text(b"its parts do not fill it exactly");
         }
         Fault::Number => {
-            error::text(b"a number in it is larger than its kind allows");
+            error::text(b"a number in it is none that its kind takes");
         }
         Fault::List => {
             error::text(

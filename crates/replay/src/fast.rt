@@ -4,11 +4,13 @@ ghost use lib.ListN.{length};
 use crate::ids;
 use fastarray::ChecksumMode;
 use fastarray::FastArray;
+use fastarray::said::said;
 use recorded::answers;
 use recorded::answers::Answer;
 use recorded::answers::Fault;
 use recorded::answers::Outcome;
-use recorded::answers::said;
+use recorded::answers::SHORT;
+use recorded::answers::outcome_of;
 use recorded::fields;
 use recorded::lists;
 use recorded::patterns;
@@ -88,9 +90,20 @@ fn recorded_body(s: &[u8], at: usize) -> Recorded {
 // What the body has to answer where a buffer is short: the refusal for its needs.
 fn expected_of(a: Answer, short: bool) -> Answer {
     if short {
-        return answers::answer_of(3, a.first, a.second, a.third, 0);
+        return answers::answer_of(SHORT, a.first, a.second, a.third, 0);
     }
     a
+}
+
+fn refused(r: FastArray) -> Answer {
+    let s = said(r);
+    answers::answer_of(
+        wide(s.number),
+        wide(s.deletes),
+        wide(s.items),
+        wide(s.fields),
+        0,
+    )
 }
 
 // Of a body the deletes, items and fields and, as the cursor, the bits used.
@@ -103,9 +116,7 @@ fn answer_of(r: FastArray) -> Answer {
             let used = wide(delta.used);
             answers::answer_of(0, d, i, f, used)
         }
-        FastArray::TooLong => answers::answer_of(1, 0, 0, 0, 0),
-        FastArray::NotFastArray => answers::answer_of(6, 0, 0, 0, 0),
-        FastArray::Short(d, i, f) => answers::answer_of(3, wide(d), wide(i), wide(f), 0),
+        _ => refused(r),
     }
 }
 
@@ -118,9 +129,7 @@ fn same_keys(list: &[u8], r: FastArray) -> bool {
             ids::signed(key) == ids::signed_at(list, 0)
                 && ids::signed(base) == ids::signed_at(list, 4)
         }
-        FastArray::TooLong => true,
-        FastArray::NotFastArray => true,
-        FastArray::Short(_, _, _) => true,
+        _ => true,
     }
 }
 
@@ -300,11 +309,12 @@ fn replay_in(
     let field_list = fields::part(s, want.fields, want.end);
     let needs = rooms::room_of(id_list.len() / 4, item_list.len() / 4, field_list.len() / 4);
     if rooms::has_room(needs, deleted.len(), items.len(), records.len()) {
-        return said(is_same(s, call, want, needs, deleted, items, records));
+        return outcome_of(is_same(s, call, want, needs, deleted, items, records));
     }
-    said(is_same_unlent(s, call, want, deleted, items, records))
+    outcome_of(is_same_unlent(s, call, want, deleted, items, records))
 }
 
+// The mode that a flag of 0 or 1 says.
 fn mode_of(flag: u64) -> ChecksumMode {
     if flag == 0 {
         ChecksumMode::Absent
@@ -321,6 +331,9 @@ pub fn replay(s: &[u8], at: usize, records: &mut [u32]) -> Outcome {
     let want = recorded_body(s, fields::after_run(s, bytes));
     if want.end != s.len() {
         return Outcome::Damaged(Fault::Layout);
+    }
+    if 1 < flag.value {
+        return Outcome::Damaged(Fault::Number);
     }
     let call = Call {
         bits: bit_count.value,

@@ -6,6 +6,8 @@ ghost use Rattle.recorded.specs.Says.{Says};
 use geometry::Refusal;
 use geometry::Vector;
 use geometry::VectorRead;
+use geometry::said::said;
+use geometry::said::stands_after;
 use recorded::answers;
 use recorded::answers::Answer;
 pub use words::double_bits;
@@ -15,16 +17,13 @@ pub fn single_bits(x: f32) -> u64 {
 }
 
 // What a refusal says, and where the cursor that stood at `at` stands after it (geometry's specs/Refusals).
-pub fn refused(r: Refusal, at: u64) -> Answer
-    ensures says { λ a. ⌜ Says a (numbered r) ⌝ }
-    ensures stands { λ a. ⌜ a .cursor ≡ standsAfter at r % 2 ^ 64 ⌝ }
+pub fn refused(why: Refusal, at: u64) -> Answer
+    ensures says { λ a. ⌜ Says a (numbered why) ⌝ }
+    ensures stands { λ a. ⌜ a .cursor ≡ standsAfter at why % 2 ^ 64 ⌝ }
 {
-    match r {
-        Refusal::Unread(part) => answers::refused(part, at),
-        Refusal::NoScale => answers::answer_of(11, 0, 0, 0, at),
-        Refusal::NotFinite(position) => answers::answer_of(12, 0, 0, 0, position),
-        Refusal::NoSuchWidth => answers::answer_of(13, 0, 0, 0, at),
-    }
+    let s = said(why);
+    let cursor = stands_after(why, at);
+    answers::told(s, cursor)
 }
 
 fn vector_answer(v: Vector, next: u64) -> Answer {

@@ -37,7 +37,7 @@
 //
 // Of a fast-array body the answer's values are the deletes, items and fields, and its cursor the bits used; the lists are,
 // in u32, the two keys, the deleted ids, the items and the fields, and none where it is refused. What is recorded of a walk
-// (tables, walk, counts) the crate `walked` says.
+// (tables, walk, counts) the crate `walked` says. Mode, twelve and whole are 0 or 1; another number there is a fault of the case.
 //
 // Each output of a walk or a fast-array body holds a pattern before the call, and is lent exactly as large as needed, then a
 // bit longer; a further call for each output that needs something lacks one number or byte there, and has to give 3 with the
@@ -60,7 +60,13 @@ mod tables;
 mod vector;
 
 ghost use mathlib.Core.Path.{_≡_};
+ghost use Prim.Native.Nat.{_+_, _*_, _/_};
 ghost use lib.ListN.{length};
+ghost use Rattle.bits.specs.Sizes.{longestWindow};
+ghost use Rattle.framing.specs.Records.{leafWords};
+use bits::sizes::LONGEST_WINDOW;
+use framing::Walk;
+use outputs::records::LEAF_WORDS;
 use recorded::answers::Fault;
 use recorded::answers::Outcome;
 use recorded::copied;
@@ -72,9 +78,7 @@ use recorded::say;
 use recorded::serialized;
 use source::Started;
 use source::Taken;
-use walked::exact_walk;
-use walked::object_walk;
-use walked::struct_walk;
+use walked::trials;
 
 // How far the replay has come.
 struct Progress {
@@ -99,10 +103,14 @@ enum Step {
 // Outputs, made once and lent to each case: numbers of 32,768 leaves, path bytes, payload bytes, and seven more of each
 // (recorded::rooms). A copy's target is lent of the path bytes, a fast array's fields of the numbers.
 
-fn number_room() -> [u32; 163847]
-    ensures { λ r. ⌜ 163847 ≡ length r ⌝ }
+const MOST_LEAVES: usize = (LONGEST_WINDOW as usize) / 16;
+
+const NUMBER_ROOM: usize = LEAF_WORDS * MOST_LEAVES + 7;
+
+fn number_room() -> [u32; NUMBER_ROOM]
+    ensures { λ r. ⌜ leafWords * (longestWindow / 16) + 7 ≡ length r ⌝ }
 {
-    [0; 163847]
+    [0; NUMBER_ROOM]
 }
 
 fn path_room() -> [u8; 262151]
@@ -135,9 +143,9 @@ fn replay_case(s: &[u8], numbers: &mut [u32], paths: &mut [u8], payloads: &mut [
         b'R' => rotation::replay(s, at),
         b'M' => movement::replay(s, at),
         b'F' => fast::replay(s, at, numbers),
-        b'S' => struct_walk::replay(s, at, numbers, paths, payloads),
-        b'X' => exact_walk::replay(s, at, numbers, paths, payloads),
-        b'O' => object_walk::replay(s, at, numbers, paths, payloads),
+        b'S' => trials::replay(Walk::Struct, s, at, numbers, paths, payloads),
+        b'X' => trials::replay(Walk::Exact, s, at, numbers, paths, payloads),
+        b'O' => trials::replay(Walk::Object, s, at, numbers, paths, payloads),
         _ => Outcome::Damaged(Fault::Kind),
     }
 }

@@ -2,7 +2,7 @@
 use crate::geometric;
 use geometry::Movement;
 use geometry::MovementRead;
-use geometry::Number;
+use geometry::OptionalNumber;
 use geometry::RotatorQuantization;
 use geometry::Spin;
 use geometry::Vector;
@@ -26,17 +26,17 @@ fn one_if(b: bool) -> u64 {
     if b { 1 } else { 0 }
 }
 
-fn is_there(n: Number) -> u64 {
+fn is_there(n: OptionalNumber) -> u64 {
     match n {
-        Number::Absent => 0,
-        Number::Present(_) => 1,
+        OptionalNumber::Absent => 0,
+        OptionalNumber::Present(_) => 1,
     }
 }
 
-fn value_of(n: Number) -> u64 {
+fn value_of(n: OptionalNumber) -> u64 {
     match n {
-        Number::Absent => 0,
-        Number::Present(x) => x as u64,
+        OptionalNumber::Absent => 0,
+        OptionalNumber::Present(x) => x as u64,
     }
 }
 

@@ -30,7 +30,7 @@ fn answer(
         declared_list,
         declared_names,
     );
-    if accepted { 0 } else { 2 }
+    words::wide(schema::said::tables_number(accepted))
 }
 
 fn say_answer(number: u64) {

@@ -104,8 +104,8 @@ fn say_rows(rows: &[u32], names: &[u8], level: u32) {
 
 // The twelve levels: what each is called as KIND, and the handles that have a name.
 pub fn list() {
-    let mut rows = [0u32; 170];
-    let mut names = [0u8; 187];
+    let mut rows = [0u32; schema::twelve::ROW_NUMBERS];
+    let mut names = [0u8; schema::twelve::NAME_BYTES];
     schema::twelve::fill_schema(&mut rows, &mut names);
     let mut level = 0;
     while level < LEVELS {

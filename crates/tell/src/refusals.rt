@@ -1,109 +1,126 @@
-// Refusals in words, on standard error: the number, and what it means (docs/REFUSALS.md says what to do about each).
-use array::Extent;
+// Refusals in words, on standard error: the number, what docs/REFUSALS.md says that it means (and what to do about it), and its
+// values.
+use array::ObjectArray;
+use array::StructArray;
+use fastarray::FastArray;
 use words::error;
 use words::wide;
 
-pub fn too_long() {
-    error::text(b"refusal 1: more than 524288 bits, which no window has\n");
+// What a number means: the table of docs/REFUSALS.md, word for word.
+fn meaning(number: u32) {
+    match number {
+        1 => error::text(b"a bit count over 524,288"),
+        2 => error::text(
+            b"a schema or declared table breaks its layout or a size, or the root isn't one of its levels",
+        ),
+        3 => error::text(b"a lent buffer is too short"),
+        4 => error::text(b"a sum of two counters is over 2^64 - 1"),
+        5 => error::text(b"a path of over 1,024 bytes"),
+        6 => error::text(
+            b"the bits aren't a fast-array body, or the bytes aren't as many as the bits take",
+        ),
+        7 => error::text(b"a read asks more bits than the window has left"),
+        8 => error::text(b"a packed number's fifth byte says that another follows"),
+        9 => error::text(b"a packed number's fifth byte holds more than 15"),
+        10 => error::text(b"a serialized integer is asked with maximum 0"),
+        11 => error::text(b"a vector is asked with scale 0"),
+        12 => error::text(b"a vector's component is a NaN or infinite"),
+        13 => error::text(
+            b"more than 64 bits are asked in one read, or a rotation's width is neither 8 nor 16",
+        ),
+        14 => error::text(
+            b"a window reaches past its bytes, a cursor past its window or bytes, or a copy's target is too short",
+        ),
+        _ => error::text(b"a number that no refusal has"),
+    }
 }
 
-pub fn broken_tables() {
-    error::text(b"refusal 2: the schema's tables break their layout\n");
+fn refusal(number: u32) {
+    error::text(b"refusal ");
+    error::number(wide(number));
+    error::text(b": ");
+    meaning(number);
 }
 
-pub fn path_too_long() {
-    error::text(b"refusal 5: a path would pass 1024 bytes\n");
+// A need, and what there is for it.
+fn need(before: &[u8], needed: u32, what: &[u8]) {
+    error::text(before);
+    error::number(wide(needed));
+    error::text(what);
 }
 
-pub fn not_fast_array() {
-    error::text(
-        b"refusal 6: these bits are no fast-array body, which takes all bits of its window, or the file has too few bytes for them\n",
-    );
-}
-
-// What a walk needs, beside what `walk` has room for.
-pub fn short_walk(needs: Extent) {
-    error::text(b"refusal 3: the window needs more room than there is: ");
-    error::number(wide(needs.leaves));
-    error::text(b" leaves (of 32768), ");
-    error::number(wide(needs.path_bytes));
-    error::text(b" path bytes (of 1048576), ");
-    error::number(wide(needs.payload_bytes));
-    error::text(b" payload bytes (of 65536)\n");
-}
-
-pub fn short_pairs(needs: u32) {
-    error::text(b"refusal 3: the window needs more room than there is: ");
-    error::number(wide(needs));
-    error::text(b" pairs (of 32768)\n");
-}
-
-pub fn short_body(deletes: u32, items: u32, fields: u32) {
-    error::text(b"refusal 3: the body needs more room than there is: ");
-    error::number(wide(deletes));
-    error::text(b" deleted ids (of 16384), ");
-    error::number(wide(items));
-    error::text(b" items (of 16384), ");
-    error::number(wide(fields));
-    error::text(b" fields (of 32768)\n");
-}
-
-fn at_bit(words: &[u8], at: u64) {
-    error::text(words);
-    error::number(at);
-    error::text(b"\n");
-}
-
-fn too_few(at: u64, length: u64, asked: u64) {
-    error::text(b"refusal 7: the window ends early: at bit ");
-    error::number(at);
-    error::text(b" of ");
-    error::number(length);
-    error::text(b" the next part takes ");
-    error::number(asked);
-    error::text(b" bits\n");
-}
-
-fn past(asked: u64, available: u64) {
-    error::text(b"refusal 14: the window reaches past the file: ");
-    error::number(asked);
-    error::text(b" bits of ");
-    error::number(available);
-    error::text(b"\n");
-}
-
-// A part that can't be read.
-fn unread(r: bitio::Refusal) {
+// Why a struct or exact walk gives nothing; what it needs, beside what `vrf` has room for.
+pub fn unwalked(r: StructArray) {
+    let told = array::said::said(r);
+    refusal(told.number);
     match r {
-        bitio::Refusal::TooLong => too_long(),
-        bitio::Refusal::TooFew(at, length, asked) => too_few(at, length, asked),
-        bitio::Refusal::GoesOn(at) => at_bit(
-            b"refusal 8: more than five bytes in the packed number at bit ",
-            at,
-        ),
-        bitio::Refusal::Overflows(at) => at_bit(
-            b"refusal 9: more than 32 bits in the packed number at bit ",
-            at,
-        ),
-        bitio::Refusal::NoMaximum => error::text(
-            b"refusal 10: a serialized integer with maximum 0\n",
-        ),
-        bitio::Refusal::TooMany => error::text(b"refusal 13: more than 64 bits in one read\n"),
-        bitio::Refusal::Past(asked, available) => past(asked, available),
+        StructArray::Short(_) => {
+            need(b": needed ", told.leaves, b" leaves (of 32768)");
+            need(b", ", told.path_bytes, b" path bytes (of 1048576)");
+            need(b", ", told.payload_bytes, b" payload bytes (of 65536)");
+        }
+        _ => {}
+    }
+    error::text(b"\n");
+}
+
+// The same of an object walk.
+pub fn unpaired(r: ObjectArray) {
+    let told = array::said::pairs_said(r);
+    refusal(told.number);
+    match r {
+        ObjectArray::Short(_) => {
+            need(b": needed ", told.pairs, b" pairs (of 32768)");
+        }
+        _ => {}
+    }
+    error::text(b"\n");
+}
+
+// The same of a fast-array body.
+pub fn no_body(r: FastArray) {
+    let told = fastarray::said::said(r);
+    refusal(told.number);
+    match r {
+        FastArray::Short(_, _, _) => {
+            need(b": needed ", told.deletes, b" deleted ids (of 16384)");
+            need(b", ", told.items, b" items (of 16384)");
+            need(b", ", told.fields, b" fields (of 32768)");
+        }
+        _ => {}
+    }
+    error::text(b"\n");
+}
+
+fn value(before: &[u8], x: u64) {
+    error::text(before);
+    error::number(x);
+}
+
+// The values of a refused read, as its number names them; `stop` is where the reading stopped.
+fn values(number: u32, first: u64, second: u64, third: u64, stop: u64) {
+    match number {
+        7 => {
+            value(b": ", third);
+            value(b" bits at bit ", first);
+            value(b" of ", second);
+        }
+        8 => value(b": the number at bit ", first),
+        9 => value(b": the number at bit ", first),
+        12 => value(b": the vector that ends at bit ", stop),
+        14 => {
+            value(b": ", first);
+            value(b" bits of ", second);
+        }
+        _ => {}
     }
 }
 
 // Why a movement record can't be read.
-pub fn unmoved(r: geometry::Refusal) {
-    match r {
-        geometry::Refusal::Unread(part) => unread(part),
-        geometry::Refusal::NoScale => error::text(b"refusal 11: a vector with scale 0\n"),
-        geometry::Refusal::NotFinite(at) => at_bit(
-            b"refusal 12: a component is infinite or no number, in the vector that ends at bit ",
-            at,
-        ),
-        geometry::Refusal::NoSuchWidth => error::text(
-            b"refusal 13: a rotation's width is neither 8 nor 16\n",
-        ),
-    }
+pub fn unmoved(why: geometry::Refusal) {
+    let told = geometry::said::said(why);
+    let stop = geometry::said::stands_after(why, 0);
+    refusal(told.number);
+    values(told.number, told.first, told.second, told.third, stop);
+    error::text(b"\n");
 }

@@ -1,7 +1,9 @@
 // The command line. A word that is missing, or longer than a path, counts as an empty one, which nothing here is called.
 ghost use Prim.Native.Nat.{_≤_};
-use crate::walk::Way;
+use crate::file;
+use bits::sizes::LONGEST_WINDOW;
 use fastarray::ChecksumMode;
+use framing::Walk;
 use geometry::RotatorQuantization;
 use geometry::VectorQuantization;
 use tell::levels;
@@ -9,9 +11,8 @@ use tell::say;
 
 // What is to be made of a window.
 pub enum Job {
-    // A walk that gives leaves.
-    Leaves(Way),
-    Objects,
+    // A walk, and the level at which a struct walk starts.
+    Array(Walk, u32),
     FastArray(ChecksumMode),
     Movement(VectorQuantization, RotatorQuantization),
 }
@@ -48,17 +49,17 @@ fn walk_asked() -> Asked {
     let n = os::arg(2, &mut word);
     let kind = &word[..n];
     if say::equal(kind, b"none") {
-        return Asked::Window(Job::Leaves(Way::Levels(schema::ABSENT)));
+        return Asked::Window(Job::Array(Walk::Struct, schema::ABSENT));
     }
     if say::equal(kind, b"exact") {
-        return Asked::Window(Job::Leaves(Way::Exact));
+        return Asked::Window(Job::Array(Walk::Exact, schema::ABSENT));
     }
     if say::equal(kind, b"objects") {
-        return Asked::Window(Job::Objects);
+        return Asked::Window(Job::Array(Walk::Object, schema::ABSENT));
     }
     let level = levels::level_of(kind);
     if level < schema::twelve::LEVELS {
-        return Asked::Window(Job::Leaves(Way::Levels(level)));
+        return Asked::Window(Job::Array(Walk::Struct, level));
     }
     Asked::Usage
 }
@@ -143,8 +144,7 @@ pub fn file_place(job: Job) -> usize
     ensures { λ r. ⌜ r ≤ 4 ⌝ }
 {
     match job {
-        Job::Leaves(_) => 3,
-        Job::Objects => 3,
+        Job::Array(_, _) => 3,
         Job::FastArray(_) => 3,
         Job::Movement(_, _) => 4,
     }
@@ -201,8 +201,8 @@ pub fn count_at(at: usize) -> Count {
 }
 
 fn bits_of(n: usize) -> u32 {
-    if 65536 < n {
-        return 524288;
+    if file::ROOM < n {
+        return LONGEST_WINDOW;
     }
     (8 * n) as u32
 }

@@ -164,8 +164,6 @@ pub fn body(mode: ChecksumMode, bytes: &[u8], bits: u32) {
     let r = fastarray::decode_fast_array_delta(payload, bits, mode, ids, items, fields);
     match r {
         FastArray::Decoded(delta) => say_body(delta, payload, bits, ids, items, fields),
-        FastArray::TooLong => refusals::too_long(),
-        FastArray::NotFastArray => refusals::not_fast_array(),
-        FastArray::Short(deletes, changes, count) => refusals::short_body(deletes, changes, count),
+        _ => refusals::no_body(r),
     }
 }

@@ -1,15 +1,20 @@
 // The file with the window. What is wrong with it is said on standard error.
 ghost use mathlib.Core.Path.{_≡_};
+ghost use Prim.Native.Nat.{_/_};
 ghost use lib.ListN.{length};
+ghost use Rattle.bits.specs.Sizes.{longestWindow};
+use bits::sizes::LONGEST_WINDOW;
 use words::error;
 use words::input;
 use words::input::Input;
 
-// No window is longer.
-pub fn room() -> [u8; 65536]
-    ensures { λ r. ⌜ 65536 ≡ length r ⌝ }
+// The bytes of the longest window.
+pub const ROOM: usize = (LONGEST_WINDOW as usize) / 8;
+
+pub fn room() -> [u8; ROOM]
+    ensures { λ r. ⌜ longestWindow / 8 ≡ length r ⌝ }
 {
-    [0; 65536]
+    [0; ROOM]
 }
 
 fn complain(path: &[u8], why: &[u8]) {

@@ -32,8 +32,7 @@ fn usage() {
 
 fn run(job: Job, bytes: &[u8], bits: u32) {
     match job {
-        Job::Leaves(way) => walk::leaves(way, bytes, bits),
-        Job::Objects => walk::objects(bytes, bits),
+        Job::Array(walk, root) => walk::array(walk, root, bytes, bits),
         Job::FastArray(mode) => fast::body(mode, bytes, bits),
         Job::Movement(scale, width) => movement::record(scale, width, bytes, bits),
     }

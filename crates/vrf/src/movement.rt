@@ -1,15 +1,15 @@
 // A movement record: each number with its name, floats as pattern and value.
 use geometry::Movement;
 use geometry::MovementRead;
-use geometry::Number;
+use geometry::OptionalNumber;
 use geometry::Rotation;
 use geometry::RotatorQuantization;
 use geometry::Spin;
 use geometry::Vector;
 use geometry::VectorQuantization;
-use tell::decimal;
 use tell::refusals;
 use tell::say;
+use tell::say_floats;
 
 fn say_flag(name: &[u8], set: bool) {
     say::left(name, 24);
@@ -20,40 +20,40 @@ fn say_flag(name: &[u8], set: bool) {
     }
 }
 
-fn say_number(name: &[u8], n: Number) {
+fn say_number(name: &[u8], n: OptionalNumber) {
     say::left(name, 24);
     match n {
-        Number::Absent => say::text(b"absent"),
-        Number::Present(x) => say::number(say::wide(x)),
+        OptionalNumber::Absent => say::text(b"absent"),
+        OptionalNumber::Present(x) => say::number(say::wide(x)),
     }
     say::text(b"\n");
 }
 
 fn say_location(v: Vector) {
-    decimal::double(b"location x", v.x);
-    decimal::double(b"location y", v.y);
-    decimal::double(b"location z", v.z);
+    say_floats::double(b"location x", v.x);
+    say_floats::double(b"location y", v.y);
+    say_floats::double(b"location z", v.z);
 }
 
 fn say_rotation(v: Rotation) {
-    decimal::single(b"pitch", v.pitch);
-    decimal::single(b"yaw", v.yaw);
-    decimal::single(b"roll", v.roll);
+    say_floats::single(b"pitch", v.pitch);
+    say_floats::single(b"yaw", v.yaw);
+    say_floats::single(b"roll", v.roll);
 }
 
 fn say_linear(v: Vector) {
-    decimal::double(b"linear velocity x", v.x);
-    decimal::double(b"linear velocity y", v.y);
-    decimal::double(b"linear velocity z", v.z);
+    say_floats::double(b"linear velocity x", v.x);
+    say_floats::double(b"linear velocity y", v.y);
+    say_floats::double(b"linear velocity z", v.z);
 }
 
 fn say_angular(spin: Spin) {
     match spin {
         Spin::Absent => say::text(b"angular velocity        absent\n"),
         Spin::Present(v) => {
-            decimal::double(b"angular velocity x", v.x);
-            decimal::double(b"angular velocity y", v.y);
-            decimal::double(b"angular velocity z", v.z);
+            say_floats::double(b"angular velocity x", v.x);
+            say_floats::double(b"angular velocity y", v.y);
+            say_floats::double(b"angular velocity z", v.z);
         }
     }
 }

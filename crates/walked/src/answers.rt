@@ -4,6 +4,10 @@ use array::Extent;
 use array::ObjectArray;
 use array::StructArray;
 use array::Verdict;
+use array::said::pairs_said;
+use array::said::said;
+use framing::Walk;
+use recorded::answers::SHORT;
 use recorded::fields;
 use recorded::say;
 use words::wide;
@@ -22,8 +26,8 @@ pub struct Answer {
 // What is recorded of a walk.
 pub struct Recorded {
     pub answer: Answer,
-    // Whether its outputs stand in the case.
-    pub whole: bool,
+    // Whether its outputs stand in the case: 1 or 0, and no other number is one that the case may have.
+    pub whole: u64,
     // The runs of the records, the path bytes and the payload bytes.
     pub records: usize,
     pub paths: usize,
@@ -68,9 +72,9 @@ pub fn answer_of(
     }
 }
 
-fn with_extent(number: u64, counts: [u64; 8], e: Extent) -> Answer {
+fn walked(counts: [u64; 8], e: Extent) -> Answer {
     answer_of(
-        number,
+        0,
         counts,
         wide(e.leaves),
         wide(e.path_bytes),
@@ -78,25 +82,34 @@ fn with_extent(number: u64, counts: [u64; 8], e: Extent) -> Answer {
     )
 }
 
-fn refused(number: u64) -> Answer {
-    answer_of(number, [0; 8], 0, 0, 0)
+fn refused(r: StructArray) -> Answer {
+    let s = said(r);
+    answer_of(
+        wide(s.number),
+        [0; 8],
+        wide(s.leaves),
+        wide(s.path_bytes),
+        wide(s.payload_bytes),
+    )
+}
+
+fn refused_pairs(r: ObjectArray) -> Answer {
+    let s = pairs_said(r);
+    answer_of(wide(s.number), [0; 8], wide(s.pairs), 0, 0)
 }
 
 // What a walk that gives this has to answer where an output is short: the refusal for its needs.
 pub fn expected(a: Answer, short: bool) -> Answer {
     if short {
-        return answer_of(3, [0; 8], a.records, a.path_bytes, a.payload_bytes);
+        return answer_of(SHORT, [0; 8], a.records, a.path_bytes, a.payload_bytes);
     }
     a
 }
 
 pub fn of_structs(r: StructArray) -> Answer {
     match r {
-        StructArray::Decoded(stats, v, extent) => with_extent(0, counts_of(stats, v), extent),
-        StructArray::TooLong => refused(1),
-        StructArray::BrokenTables => refused(2),
-        StructArray::PathTooLong => refused(5),
-        StructArray::Short(extent) => with_extent(3, [0; 8], extent),
+        StructArray::Decoded(stats, v, extent) => walked(counts_of(stats, v), extent),
+        _ => refused(r),
     }
 }
 
@@ -105,8 +118,7 @@ pub fn of_objects(r: ObjectArray) -> Answer {
         ObjectArray::Decoded(stats, v, pairs) => {
             answer_of(0, counts_of(stats, v), wide(pairs), 0, 0)
         }
-        ObjectArray::TooLong => refused(1),
-        ObjectArray::Short(pairs) => answer_of(3, [0; 8], wide(pairs), 0, 0),
+        _ => refused_pairs(r),
     }
 }
 
@@ -130,7 +142,7 @@ fn recorded_counts(s: &[u8], at: usize) -> Counted {
 }
 
 // What is recorded of a struct or exact walk.
-pub fn recorded_leaves(s: &[u8], at: usize) -> Recorded {
+fn recorded_leaves(s: &[u8], at: usize) -> Recorded {
     let counted = recorded_counts(s, at);
     let leaves = fields::number(s, counted.next);
     let path_bytes = fields::number(s, leaves.next);
@@ -139,8 +151,7 @@ pub fn recorded_leaves(s: &[u8], at: usize) -> Recorded {
     let records = whole.next;
     let paths = fields::after_run(s, records);
     let payloads = fields::after_run(s, paths);
-    let held = whole.value != 0;
-    let end = if held {
+    let end = if whole.value == 1 {
         fields::after_run(s, payloads)
     } else {
         records
@@ -155,7 +166,7 @@ pub fn recorded_leaves(s: &[u8], at: usize) -> Recorded {
     );
     Recorded {
         answer,
-        whole: held,
+        whole: whole.value,
         records,
         paths,
         payloads,
@@ -164,7 +175,7 @@ pub fn recorded_leaves(s: &[u8], at: usize) -> Recorded {
 }
 
 // What is recorded of an object walk. Its only output is the pairs: at the end no run stands.
-pub fn recorded_pairs(s: &[u8], at: usize) -> Recorded {
+fn recorded_pairs(s: &[u8], at: usize) -> Recorded {
     let counted = recorded_counts(s, at);
     let pairs = fields::number(s, counted.next);
     let records = pairs.next;
@@ -173,11 +184,20 @@ pub fn recorded_pairs(s: &[u8], at: usize) -> Recorded {
     let answer = answer_of(0, counts, pairs.value, 0, 0);
     Recorded {
         answer,
-        whole: true,
+        whole: 1,
         records,
         paths: end,
         payloads: end,
         end,
+    }
+}
+
+// What is recorded of such a walk.
+pub fn recorded_walk(walk: Walk, s: &[u8], at: usize) -> Recorded {
+    match walk {
+        Walk::Struct => recorded_leaves(s, at),
+        Walk::Exact => recorded_leaves(s, at),
+        Walk::Object => recorded_pairs(s, at),
     }
 }
 

@@ -6,13 +6,12 @@
 //     counts = the seven counters, in the order of ArrayDecodeStats, then 1 for a partial walk, 0 for a clean one
 //     walk   = counts, leaves, path bytes, payload bytes, whole, and where whole is 1: list run run
 //
-// Behind the counts of a walk stands what it needs of each output, then what it writes: the records of the leaves, five u32
-// each, the path bytes and the payload bytes. Where whole is 0, they don't stand there; such a walk, and one whose outputs are
-// larger than what the caller lends, is lent nothing, and has to be refused for its needs. An object walk writes pairs alone,
-// two u32 each.
+// Behind the counts of a walk stands what it needs of each output, then what it writes: the records of the leaves (as the crate
+// `outputs` lays them out), the path bytes and the payload bytes. Where whole is 0, they don't stand there; such a walk, and one
+// whose outputs are larger than what the caller lends, is lent nothing, and has to be refused for its needs. An object walk
+// writes the records of pairs alone.
 
 pub mod answers;
-pub mod exact_walk;
-pub mod object_walk;
-pub mod struct_walk;
+pub mod calls;
 pub mod trials;
+pub mod walks;

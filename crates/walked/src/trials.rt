@@ -2,44 +2,19 @@
 use crate::answers;
 use crate::answers::Answer;
 use crate::answers::Recorded;
-use crate::exact_walk;
-use crate::exact_walk::ExactCall;
-use crate::object_walk;
-use crate::object_walk::ObjectCall;
-use crate::struct_walk;
-use crate::struct_walk::StructCall;
+use crate::calls;
+use crate::calls::Call;
+use crate::walks;
+use framing::Walk;
 use recorded::answers::Fault;
 use recorded::answers::Outcome;
-use recorded::answers::said;
+use recorded::answers::outcome_of;
 use recorded::fields;
 use recorded::lists;
 use recorded::patterns;
 use recorded::rooms;
 use recorded::rooms::Room;
 use recorded::say;
-
-pub enum Call {
-    Struct(StructCall),
-    Exact(ExactCall),
-    Object(ObjectCall),
-}
-
-fn walk(s: &[u8], call: Call, leaves: &mut [u32], paths: &mut [u8], payloads: &mut [u8]) -> Answer {
-    match call {
-        Call::Struct(c) => {
-            let r = struct_walk::walk(s, c, leaves, paths, payloads);
-            answers::of_structs(r)
-        }
-        Call::Exact(c) => {
-            let r = exact_walk::walk(s, c, leaves, paths, payloads);
-            answers::of_structs(r)
-        }
-        Call::Object(c) => {
-            let r = object_walk::walk(s, c, leaves);
-            answers::of_objects(r)
-        }
-    }
-}
 
 fn differs(s: &[u8], expected: Answer, got: Answer, room: Room, why: &[u8]) -> bool {
     say::case(s);
@@ -101,7 +76,7 @@ fn gives(
     patterns::fill_words(leaves);
     patterns::fill_bytes(paths);
     patterns::fill_bytes(payloads);
-    let got = walk(s, call, leaves, paths, payloads);
+    let got = walks::answer(s, call, leaves, paths, payloads);
     judge(s, want, short, got, leaves, paths, payloads)
 }
 
@@ -177,20 +152,25 @@ fn is_same_unlent(
     gives_in(s, call, want, true, nothing, leaves, paths, payloads)
 }
 
-// The case, with the fault of its tables, and the fronts of these as outputs.
+// The case of such a walk, whose parts stand at byte `at` of it, with the fronts of these as outputs.
 pub fn replay(
+    walk: Walk,
     s: &[u8],
-    call: Call,
-    fault: Fault,
-    want: Recorded,
+    at: usize,
     leaves: &mut [u32],
     paths: &mut [u8],
     payloads: &mut [u8],
 ) -> Outcome {
+    let call = calls::call_at(walk, s, at);
+    let fault = calls::call_fault(s, call);
+    let want = answers::recorded_walk(walk, s, fields::after_run(s, call.bytes));
     let list = fields::run(s, want.records);
     let names = fields::run(s, want.paths);
     let values = fields::run(s, want.payloads);
     let needs = rooms::room_of(list.len() / 4, names.len(), values.len());
+    if 1 < want.whole {
+        return Outcome::Damaged(Fault::Number);
+    }
     if want.end != s.len() || list.len() % 4 != 0 {
         return Outcome::Damaged(Fault::Layout);
     }
@@ -201,8 +181,8 @@ pub fn replay(
         }
     }
     let held = rooms::has_room(needs, leaves.len(), paths.len(), payloads.len());
-    if want.whole && held {
-        return said(is_same(s, call, want, needs, leaves, paths, payloads));
+    if want.whole == 1 && held {
+        return outcome_of(is_same(s, call, want, needs, leaves, paths, payloads));
     }
-    said(is_same_unlent(s, call, want, leaves, paths, payloads))
+    outcome_of(is_same_unlent(s, call, want, leaves, paths, payloads))
 }

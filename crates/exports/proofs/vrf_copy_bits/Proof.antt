@@ -22,9 +22,12 @@ same-length c = search needs
 
 returns : tie.Need-returns
 returns c =
-    let a = c .before .before .before .before .before .before .before .before .args in
-    let e = c .before .before .before .before .before .cursor-of .ensures in
-    let d = c .before .before .before .copy-bits-to .ensures in (
+    let at-copy-bits-to = c .before .before .before in
+    let at-cursor-of = at-copy-bits-to .before .before in
+    let given = at-cursor-of .before .before .before .args in
+    let a = given in
+    let e = at-cursor-of .cursor-of .ensures in
+    let d = at-copy-bits-to .copy-bits-to .ensures in (
       read-as copyResult (λ (x : Cursor). copyAnswer (a .bytes .now) x (a .count) (a .target .now)) e (d .0) (c .copy-of .ensures),
       d .1 ∙ ap (λ (x : Cursor). copyTarget (a .bytes .now) x (a .count) (a .target .now)) e,
     )

@@ -23,7 +23,11 @@ same-length-3 : tie.Need-same-length-3
 same-length-3 c = search needs
 
 returns : tie.Need-returns
-returns c = body-as _ _ _ (c .before .before .before .before .before .before .before .before .before .before .mode-of .ensures) (c .before .before .before .before .before .before .decode-fast-array-delta .ensures) (c .fast-array-of .ensures)
+returns c =
+    let earlier = c .before .before .before .before .before in
+    let at-decode-fast-array-delta = earlier .before in
+    let at-mode-of = at-decode-fast-array-delta .before .before .before .before in
+    body-as _ _ _ (at-mode-of .mode-of .ensures) (at-decode-fast-array-delta .decode-fast-array-delta .ensures) (c .fast-array-of .ensures)
 
 pub vrf-fast-array-spec : {M : Type 1} → statement M
 vrf-fast-array-spec =

@@ -20,7 +20,10 @@ same-length-3 : tie.Need-same-length-3
 same-length-3 c = search needs
 
 returns : tie.Need-returns
-returns c = walks-as _ _ (c .before .before .before .before .before .before .before .decode-struct-array .ensures) (c .walk-of .ensures)
+returns c =
+    let earlier = c .before .before .before .before .before in
+    let at-decode-struct-array = earlier .before .before in
+    walks-as _ _ (at-decode-struct-array .decode-struct-array .ensures) (c .walk-of .ensures)
 
 pub vrf-struct-array-spec : {M : Type 1} → statement M
 vrf-struct-array-spec =

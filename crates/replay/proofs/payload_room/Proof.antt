@@ -1,3 +1,4 @@
+-- `replay::payload_room` meets its contract: an array made of one value has the length it is made with (`length-filled` counts nothing).
 use Prim.Native.Nat.{ℕ}
 use Rattle.bits.proofs.RunLaws.{length-filled}
 use Rattle.replay.proofs.payload_room.Statement.{statement}

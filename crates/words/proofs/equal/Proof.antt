@@ -1,3 +1,4 @@
+-- `words::equal` is safe and ends: both slices have as many bytes, and i rises to that.
 use mathlib.Core.Path.{_≡_}
 use Prim.Native.Nat.{_≤_, _-_}
 use lib.ListN.{length}

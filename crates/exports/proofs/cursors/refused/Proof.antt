@@ -1,104 +1,24 @@
--- `exports::cursors::refused` meets its contract: each arm has the numbers of its form, and a cursor that stays fits in 64 bits as it is.
+-- `exports::cursors::refused` meets its contract: it has what the bit reader says of the refusal, at the place that it says.
 use borrow.Author.Needs.{needs}
-use native.Mathlib.Omega.{arith}
-use Rattle.exports.proofs.ResultLaws.{refused-form}
 use Rattle.bitio.specs.Refusals.{numbered, standsAfter}
+use Rattle.exports.proofs.ResultLaws.{as-said}
 use Rattle.exports.proofs.cursors.refused.Statement.{statement}
 use Rattle.exports.proofs.cursors.refused.Tie as tie
 
-enum-told : tie.Need-enum-told
-enum-told c = search needs
+said-requires : tie.Need-said-requires
+said-requires c κs = search needs
+
+stands-after-requires : tie.Need-stands-after-requires
+stands-after-requires c κs = search needs
 
 read-refused-requires : tie.Need-read-refused-requires
 read-refused-requires c κs = search needs
 
-enum-known-r : tie.Need-enum-known-r
-enum-known-r c = search needs
-
-read-refused-requires-2 : tie.Need-read-refused-requires-2
-read-refused-requires-2 c κs = search needs
-
-enum-known-r-2 : tie.Need-enum-known-r-2
-enum-known-r-2 c = search needs
-
-wrapping-add-u64-requires : tie.Need-wrapping-add-u64-requires
-wrapping-add-u64-requires c κs = search needs
-
-read-refused-requires-3 : tie.Need-read-refused-requires-3
-read-refused-requires-3 c κs = search needs
-
-enum-known-r-3 : tie.Need-enum-known-r-3
-enum-known-r-3 c = search needs
-
-wrapping-add-u64-requires-2 : tie.Need-wrapping-add-u64-requires-2
-wrapping-add-u64-requires-2 c κs = search needs
-
-read-refused-requires-4 : tie.Need-read-refused-requires-4
-read-refused-requires-4 c κs = search needs
-
-enum-told-2 : tie.Need-enum-told-2
-enum-told-2 c = search needs
-
-read-refused-requires-5 : tie.Need-read-refused-requires-5
-read-refused-requires-5 c κs = search needs
-
-enum-told-3 : tie.Need-enum-told-3
-enum-told-3 c = search needs
-
-read-refused-requires-6 : tie.Need-read-refused-requires-6
-read-refused-requires-6 c κs = search needs
-
-enum-known-r-4 : tie.Need-enum-known-r-4
-enum-known-r-4 c = search needs
-
-read-refused-requires-7 : tie.Need-read-refused-requires-7
-read-refused-requires-7 c κs = search needs
-
 returns : tie.Need-returns
-returns c = refused-form numbered (standsAfter (c .before .before .before .args .at)) (c .before .enum-told .given .1) (c .read-refused .ensures) (omega arith)
-
-returns-2 : tie.Need-returns-2
-returns-2 c = refused-form numbered (standsAfter (c .before .before .before .before .args .at)) (c .before .before .r .given .1) (c .read-refused2 .ensures) (omega arith)
-
-returns-3 : tie.Need-returns-3
-returns-3 c = refused-form numbered (standsAfter (c .before .before .before .before .before .args .at)) (c .before .before .before .r2 .given .1) (c .read-refused3 .ensures) (omega arith)
-
-returns-4 : tie.Need-returns-4
-returns-4 c = refused-form numbered (standsAfter (c .before .before .before .before .before .args .at)) (c .before .before .before .r3 .given .1) (c .read-refused4 .ensures) (omega arith)
-
-returns-5 : tie.Need-returns-5
-returns-5 c = refused-form numbered (standsAfter (c .before .before .before .args .at)) (c .before .enum-told2 .given .1) (c .read-refused5 .ensures) (omega arith)
-
-returns-6 : tie.Need-returns-6
-returns-6 c = refused-form numbered (standsAfter (c .before .before .before .args .at)) (c .before .enum-told3 .given .1) (c .read-refused6 .ensures) (omega arith)
-
-returns-7 : tie.Need-returns-7
-returns-7 c = refused-form numbered (standsAfter (c .before .before .before .before .args .at)) (c .before .before .r4 .given .1) (c .read-refused7 .ensures) (omega arith)
+returns c =
+    let args = c .before .before .before .args in
+    as-said (numbered (args .why)) (standsAfter (args .at) (args .why)) (c .before .before .said .ensures) (c .before .stands-after .ensures) (c .read-refused .ensures)
 
 pub refused-spec : {M : Type 1} → statement M
 refused-spec =
-    tie.close
-    (tie.spec
-    enum-told
-    read-refused-requires
-    enum-known-r
-    read-refused-requires-2
-    enum-known-r-2
-    wrapping-add-u64-requires
-    read-refused-requires-3
-    enum-known-r-3
-    wrapping-add-u64-requires-2
-    read-refused-requires-4
-    enum-told-2
-    read-refused-requires-5
-    enum-told-3
-    read-refused-requires-6
-    enum-known-r-4
-    read-refused-requires-7
-    returns
-    returns-2
-    returns-3
-    returns-4
-    returns-5
-    returns-6
-    returns-7)
+    tie.close (tie.spec said-requires stands-after-requires read-refused-requires returns)

@@ -23,11 +23,15 @@ number-of-requires-2 c κs = search needs
 
 returns : tie.Need-returns
 returns c =
-    let m = c .before .before .before .before .before .before .args .m in
-    let used = c .before .before .before .before .before .before .args .used in
-    let l = c .before .before .before .before .before .xyz-of .ensures in
-    let r = c .before .before .before .before .angles-of .ensures in
-    let v = c .before .before .before .xyz-of2 .ensures in
+    let at-xyz-of2 = c .before .before .before in
+    let at-angles-of = at-xyz-of2 .before in
+    let at-xyz-of = at-angles-of .before in
+    let given = at-xyz-of .before .args in
+    let m = given .m in
+    let used = given .used in
+    let l = at-xyz-of .xyz-of .ensures in
+    let r = at-angles-of .angles-of .ensures in
+    let v = at-xyz-of2 .xyz-of2 .ensures in
     let a = c .before .before .spin-of .ensures in
     let f = c .before .number-of .ensures in
     let h = c .number-of2 .ensures in

@@ -24,7 +24,8 @@ absent-number-requires-2 c κs = search needs
 
 returns : tie.Need-returns
 returns c =
-    let said = c .before .before .before .before .before .before .args .said in
+    let at-start = c .before .before .before .before .before .before in
+    let unread = at-start .args .unread in
     let l = c .before .before .before .before .before .no-xyz .ensures in
     let r = c .before .before .before .before .no-angles .ensures in
     let v = c .before .before .before .no-xyz2 .ensures in
@@ -32,10 +33,10 @@ returns c =
     let f = c .before .absent-number .ensures in
     let h = c .absent-number2 .ensures in
     λ i. record {
-      refusal = said .refusal;
-      first = said .first;
-      second = said .second;
-      third = said .third;
+      refusal = unread .refusal;
+      first = unread .first;
+      second = unread .second;
+      third = unread .third;
       location = l i;
       rotation = r i;
       linear = v i;
@@ -44,7 +45,7 @@ returns c =
       physics = false;
       frame = f i;
       handle = h i;
-      position = said .position;
+      position = unread .position;
     }
 
 pub unmoved-spec : {M : Type 1} → statement M

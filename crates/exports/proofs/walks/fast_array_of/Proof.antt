@@ -1,9 +1,9 @@
 -- `exports::walks::fast_array_of` meets its contract: each arm builds the struct of its form, and a key that is an i32 stays itself in 32 bits.
 use borrow.Author.Needs.{needs}
-use mir.Syntax.{w32}
 use mir.Facts.{toZ-ofZ}
-use Rattle.exports.proofs.ResultLaws.{by-form}
+use mir.Syntax.{w32}
 use Rattle.exports.specs.WalkResults.{bodyResult}
+use Rattle.exports.proofs.ResultLaws.{by-form}
 use Rattle.exports.proofs.walks.fast_array_of.Statement.{statement}
 use Rattle.exports.proofs.walks.fast_array_of.Tie as tie
 
@@ -13,20 +13,20 @@ enum-known-a c = search needs
 enum-told : tie.Need-enum-told
 enum-told c = search needs
 
-refused-body-requires : tie.Need-refused-body-requires
-refused-body-requires c κs = search needs
+no-body-requires : tie.Need-no-body-requires
+no-body-requires c κs = search needs
 
 enum-told-2 : tie.Need-enum-told-2
 enum-told-2 c = search needs
 
-refused-body-requires-2 : tie.Need-refused-body-requires-2
-refused-body-requires-2 c κs = search needs
+no-body-requires-2 : tie.Need-no-body-requires-2
+no-body-requires-2 c κs = search needs
 
-enum-known-a-2 : tie.Need-enum-known-a-2
-enum-known-a-2 c = search needs
+enum-told-3 : tie.Need-enum-told-3
+enum-told-3 c = search needs
 
-refused-body-requires-3 : tie.Need-refused-body-requires-3
-refused-body-requires-3 c κs = search needs
+no-body-requires-3 : tie.Need-no-body-requires-3
+no-body-requires-3 c κs = search needs
 
 returns : tie.Need-returns
 returns c =
@@ -37,13 +37,13 @@ returns c =
     (λ i. record { refusal = 0; deletes = d .deletes; items = d .changes; fields = d .fields; key = k i; base = b i; used = d .used })
 
 returns-2 : tie.Need-returns-2
-returns-2 c = by-form bodyResult (c .before .enum-told .given .1) (c .refused-body .ensures)
+returns-2 c = search needs
 
 returns-3 : tie.Need-returns-3
-returns-3 c = by-form bodyResult (c .before .enum-told2 .given .1) (c .refused-body2 .ensures)
+returns-3 c = search needs
 
 returns-4 : tie.Need-returns-4
-returns-4 c = by-form bodyResult (c .before .before .a2 .given .1) (c .refused-body3 .ensures)
+returns-4 c = search needs
 
 pub fast-array-of-spec : {M : Type 1} → statement M
 fast-array-of-spec =
@@ -51,11 +51,11 @@ fast-array-of-spec =
     (tie.spec
     enum-known-a
     enum-told
-    refused-body-requires
+    no-body-requires
     enum-told-2
-    refused-body-requires-2
-    enum-known-a-2
-    refused-body-requires-3
+    no-body-requires-2
+    enum-told-3
+    no-body-requires-3
     returns
     returns-2
     returns-3

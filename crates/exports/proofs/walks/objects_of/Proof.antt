@@ -1,7 +1,7 @@
 -- `exports::walks::objects_of` meets its contract: each arm builds the struct of its form.
 use borrow.Author.Needs.{needs}
-use Rattle.exports.proofs.ResultLaws.{by-form}
 use Rattle.exports.specs.WalkResults.{objectsOf}
+use Rattle.exports.proofs.ResultLaws.{by-form}
 use Rattle.exports.proofs.walks.objects_of.Statement.{statement}
 use Rattle.exports.proofs.walks.objects_of.Tie as tie
 
@@ -17,14 +17,14 @@ verdict-number-requires c κs = search needs
 enum-told : tie.Need-enum-told
 enum-told c = search needs
 
-refused-objects-requires : tie.Need-refused-objects-requires
-refused-objects-requires c κs = search needs
+no-pairs-requires : tie.Need-no-pairs-requires
+no-pairs-requires c κs = search needs
 
-enum-known-a-2 : tie.Need-enum-known-a-2
-enum-known-a-2 c = search needs
+enum-told-2 : tie.Need-enum-told-2
+enum-told-2 c = search needs
 
-refused-objects-requires-2 : tie.Need-refused-objects-requires-2
-refused-objects-requires-2 c κs = search needs
+no-pairs-requires-2 : tie.Need-no-pairs-requires-2
+no-pairs-requires-2 c κs = search needs
 
 returns : tie.Need-returns
 returns c =
@@ -34,10 +34,10 @@ returns c =
     by-form objectsOf (c .before .before .before .a .given .1) (λ i. record { refusal = 0; pairs = p; counters = k i; verdict = n i })
 
 returns-2 : tie.Need-returns-2
-returns-2 c = by-form objectsOf (c .before .enum-told .given .1) (c .refused-objects .ensures)
+returns-2 c = search needs
 
 returns-3 : tie.Need-returns-3
-returns-3 c = by-form objectsOf (c .before .before .a2 .given .1) (c .refused-objects2 .ensures)
+returns-3 c = search needs
 
 pub objects-of-spec : {M : Type 1} → statement M
 objects-of-spec =
@@ -47,9 +47,9 @@ objects-of-spec =
     counters-of-requires
     verdict-number-requires
     enum-told
-    refused-objects-requires
-    enum-known-a-2
-    refused-objects-requires-2
+    no-pairs-requires
+    enum-told-2
+    no-pairs-requires-2
     returns
     returns-2
     returns-3)

@@ -1,7 +1,7 @@
 -- `exports::walks::walk_of` meets its contract: each arm builds the struct of its form.
 use borrow.Author.Needs.{needs}
-use Rattle.exports.proofs.ResultLaws.{by-form}
 use Rattle.exports.specs.WalkResults.{walkOf}
+use Rattle.exports.proofs.ResultLaws.{by-form}
 use Rattle.exports.proofs.walks.walk_of.Statement.{statement}
 use Rattle.exports.proofs.walks.walk_of.Tie as tie
 
@@ -17,26 +17,26 @@ verdict-number-requires c κs = search needs
 enum-told : tie.Need-enum-told
 enum-told c = search needs
 
-refused-walk-requires : tie.Need-refused-walk-requires
-refused-walk-requires c κs = search needs
+not-walked-requires : tie.Need-not-walked-requires
+not-walked-requires c κs = search needs
 
 enum-told-2 : tie.Need-enum-told-2
 enum-told-2 c = search needs
 
-refused-walk-requires-2 : tie.Need-refused-walk-requires-2
-refused-walk-requires-2 c κs = search needs
+not-walked-requires-2 : tie.Need-not-walked-requires-2
+not-walked-requires-2 c κs = search needs
 
 enum-told-3 : tie.Need-enum-told-3
 enum-told-3 c = search needs
 
-refused-walk-requires-3 : tie.Need-refused-walk-requires-3
-refused-walk-requires-3 c κs = search needs
+not-walked-requires-3 : tie.Need-not-walked-requires-3
+not-walked-requires-3 c κs = search needs
 
-enum-known-a-2 : tie.Need-enum-known-a-2
-enum-known-a-2 c = search needs
+enum-told-4 : tie.Need-enum-told-4
+enum-told-4 c = search needs
 
-refused-walk-requires-4 : tie.Need-refused-walk-requires-4
-refused-walk-requires-4 c κs = search needs
+not-walked-requires-4 : tie.Need-not-walked-requires-4
+not-walked-requires-4 c κs = search needs
 
 returns : tie.Need-returns
 returns c =
@@ -47,16 +47,16 @@ returns c =
     (λ i. record { refusal = 0; leaves = e .leaves; «path_bytes» = e .«path_bytes»; «payload_bytes» = e .«payload_bytes»; counters = k i; verdict = n i })
 
 returns-2 : tie.Need-returns-2
-returns-2 c = by-form walkOf (c .before .enum-told .given .1) (c .refused-walk .ensures)
+returns-2 c = search needs
 
 returns-3 : tie.Need-returns-3
-returns-3 c = by-form walkOf (c .before .enum-told2 .given .1) (c .refused-walk2 .ensures)
+returns-3 c = search needs
 
 returns-4 : tie.Need-returns-4
-returns-4 c = by-form walkOf (c .before .enum-told3 .given .1) (c .refused-walk3 .ensures)
+returns-4 c = search needs
 
 returns-5 : tie.Need-returns-5
-returns-5 c = by-form walkOf (c .before .before .a2 .given .1) (c .refused-walk4 .ensures)
+returns-5 c = search needs
 
 pub walk-of-spec : {M : Type 1} → statement M
 walk-of-spec =
@@ -66,13 +66,13 @@ walk-of-spec =
     counters-of-requires
     verdict-number-requires
     enum-told
-    refused-walk-requires
+    not-walked-requires
     enum-told-2
-    refused-walk-requires-2
+    not-walked-requires-2
     enum-told-3
-    refused-walk-requires-3
-    enum-known-a-2
-    refused-walk-requires-4
+    not-walked-requires-3
+    enum-told-4
+    not-walked-requires-4
     returns
     returns-2
     returns-3

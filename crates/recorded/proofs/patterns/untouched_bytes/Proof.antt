@@ -1,3 +1,4 @@
+-- `recorded::patterns::untouched_bytes` is safe and ends: i rises to the slice's end, and every read stands before it.
 use Prim.Native.Nat.{_≤_, _-_}
 use lib.ListN.{length}
 use borrow.Author.Needs.{needs}

@@ -1,3 +1,4 @@
+-- `replay::ids::fill` is safe and ends: a store keeps the slice's length, and i rises to it.
 use mathlib.Core.Path.{_≡_}
 use Prim.Native.Nat.{_-_}
 use lib.ListN.{length}

@@ -1,3 +1,4 @@
+-- `replay::ids::untouched` is safe and ends: i starts at the first id that may not be written and rises to the slice's end.
 use Prim.Native.Nat.{_≤_, _-_}
 use lib.ListN.{length}
 use borrow.Author.Needs.{needs}

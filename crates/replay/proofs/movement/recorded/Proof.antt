@@ -1,3 +1,4 @@
+-- `replay::movement::recorded` is safe and ends: a record has 19 numbers, and i rises to that.
 use mathlib.Core.Path.{_≡_}
 use Prim.Native.Nat.{_≤_, _-_}
 use lib.ListN.{length}

@@ -1,3 +1,4 @@
+-- `replay::movement::same_record` is safe and ends: both records have 19 numbers, and i rises to that.
 use Prim.Native.Nat.{_≤_, _-_}
 use borrow.Author.Needs.{needs}
 use Rattle.replay.proofs.movement.same_record.Statement.{statement}

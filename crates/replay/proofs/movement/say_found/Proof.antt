@@ -1,3 +1,4 @@
+-- `replay::movement::say_found` is safe and ends: a record has 19 numbers, and i rises to that.
 use Prim.Native.Nat.{_≤_, _-_}
 use borrow.Author.Needs.{needs}
 use Rattle.replay.proofs.movement.say_found.Statement.{statement}

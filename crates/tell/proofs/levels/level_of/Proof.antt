@@ -1,3 +1,4 @@
+-- `tell::levels::level_of` is safe and ends: the level rises to twelve.
 use Prim.Native.Nat.{_≤_, _-_}
 use borrow.Author.Needs.{needs}
 use Rattle.tell.proofs.levels.level_of.Statement.{statement}

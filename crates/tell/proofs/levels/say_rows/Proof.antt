@@ -1,3 +1,4 @@
+-- `tell::levels::say_rows` is safe and ends: i rises to the number of whole rows, which all lie in the table.
 use Prim.Native.Nat.{_≤_, _-_, _/_}
 use lib.ListN.{length}
 use borrow.Author.Needs.{needs}

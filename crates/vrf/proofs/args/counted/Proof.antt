@@ -1,3 +1,4 @@
+-- `vrf::args::counted` is safe and ends: the value is clipped to a u32 at each digit, and i rises to the word's end.
 use Prim.Native.Nat.{_≤_, _-_}
 use lib.ListN.{length}
 use borrow.Author.Needs.{needs}

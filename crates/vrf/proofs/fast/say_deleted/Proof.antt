@@ -1,3 +1,4 @@
+-- `vrf::fast::say_deleted` is safe and ends: i rises to the count, and as many ids are there.
 use Prim.Native.Nat.{_≤_, _-_}
 use lib.ListN.{length}
 use borrow.Author.Needs.{needs}

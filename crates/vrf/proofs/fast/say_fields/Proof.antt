@@ -1,3 +1,4 @@
+-- `vrf::fast::say_fields` is safe and ends: i rises to a number of fields that all lie in the table.
 use Prim.Native.Nat.{_≤_, _-_, _/_}
 use lib.ListN.{length}
 use borrow.Author.Needs.{needs}

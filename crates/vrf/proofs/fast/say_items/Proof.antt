@@ -1,3 +1,4 @@
+-- `vrf::fast::say_items` is safe and ends: i rises to the count, and as many items are there.
 use Prim.Native.Nat.{_≤_, _-_, _/_}
 use lib.ListN.{length}
 use borrow.Author.Needs.{needs}

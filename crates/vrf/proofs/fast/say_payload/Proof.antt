@@ -1,3 +1,4 @@
+-- `vrf::fast::say_payload` is safe and ends: the position rises to an end that is a sum of two u32.
 use Prim.Native.Nat.{_≤_, _-_}
 use borrow.Author.Needs.{needs}
 use Rattle.vrf.proofs.fast.say_payload.Statement.{statement}

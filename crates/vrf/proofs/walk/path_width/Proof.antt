@@ -1,11 +1,13 @@
+-- `vrf::walk::path_width` is safe and ends: i rises to the count, and as many leaves are there.
 use Prim.Native.Nat.{_≤_, _-_, _/_}
 use lib.ListN.{length}
 use borrow.Author.Needs.{needs}
+use Rattle.framing.specs.Records.{leafWords}
 use Rattle.vrf.proofs.walk.path_width.Statement.{statement}
 use Rattle.vrf.proofs.walk.path_width.Tie as tie
 
 abbrev Inv-loop : tie.InvT-loop
-Inv-loop leaves count width₀ i₀ width i = (i ≤ count) × (count ≤ length leaves / 5)
+Inv-loop leaves count width₀ i₀ width i = (i ≤ count) × (count ≤ length leaves / leafWords)
 
 abbrev μ-loop : tie.MeasureT-loop
 μ-loop leaves count width₀ i₀ width i = count - i
@@ -13,14 +15,8 @@ abbrev μ-loop : tie.MeasureT-loop
 loop-holds : tie.Need-loop-holds Inv-loop μ-loop
 loop-holds c = search needs
 
-mul-word-at : tie.Need-mul-word-at Inv-loop μ-loop
-mul-word-at c = search needs
-
-add-word-at : tie.Need-add-word-at Inv-loop μ-loop
-add-word-at c = search needs
-
-word-at-requires : tie.Need-word-at-requires Inv-loop μ-loop
-word-at-requires c κs = search needs
+leaf-at-requires : tie.Need-leaf-at-requires Inv-loop μ-loop
+leaf-at-requires c κs = search needs
 
 index-requires : tie.Need-index-requires Inv-loop μ-loop
 index-requires c κs = search needs
@@ -47,9 +43,7 @@ path-width-spec =
     Inv-loop
     μ-loop
     loop-holds
-    mul-word-at
-    add-word-at
-    word-at-requires
+    leaf-at-requires
     index-requires
     add-i
     loop-less

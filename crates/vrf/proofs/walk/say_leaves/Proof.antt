@@ -1,11 +1,13 @@
+-- `vrf::walk::say_leaves` is safe and ends: i rises to the count, and as many leaves are there.
 use Prim.Native.Nat.{_≤_, _-_, _/_}
 use lib.ListN.{length}
 use borrow.Author.Needs.{needs}
+use Rattle.framing.specs.Records.{leafWords}
 use Rattle.vrf.proofs.walk.say_leaves.Statement.{statement}
 use Rattle.vrf.proofs.walk.say_leaves.Tie as tie
 
 abbrev Inv-loop : tie.InvT-loop
-Inv-loop count leaves paths payloads width i₀ i = (i ≤ count) × (count ≤ length leaves / 5)
+Inv-loop count leaves paths payloads width i₀ i = (i ≤ count) × (count ≤ length leaves / leafWords)
 
 abbrev μ-loop : tie.MeasureT-loop
 μ-loop count leaves paths payloads width i₀ i = count - i
@@ -28,20 +30,8 @@ text-requires c κs = search needs
 loop-holds : tie.Need-loop-holds Inv-loop μ-loop
 loop-holds c = search needs
 
-mul-at : tie.Need-mul-at Inv-loop μ-loop
-mul-at c = search needs
-
-mul-say-leaf : tie.Need-mul-say-leaf Inv-loop μ-loop
-mul-say-leaf c = search needs
-
-sub-say-leaf : tie.Need-sub-say-leaf Inv-loop μ-loop
-sub-say-leaf c = search needs
-
-part-say-leaf-start : tie.Need-part-say-leaf-start Inv-loop μ-loop
-part-say-leaf-start c = search needs
-
-part-say-leaf-end : tie.Need-part-say-leaf-end Inv-loop μ-loop
-part-say-leaf-end c = search needs
+leaf-at-requires : tie.Need-leaf-at-requires Inv-loop μ-loop
+leaf-at-requires c κs = search needs
 
 say-leaf-requires : tie.Need-say-leaf-requires Inv-loop μ-loop
 say-leaf-requires c κs = search needs
@@ -70,11 +60,7 @@ say-leaves-spec =
     slice-aggregate-text
     text-requires
     loop-holds
-    mul-at
-    mul-say-leaf
-    sub-say-leaf
-    part-say-leaf-start
-    part-say-leaf-end
+    leaf-at-requires
     say-leaf-requires
     add-i
     loop-less

@@ -1,11 +1,13 @@
+-- `vrf::walk::say_pairs` is safe and ends: i rises to the count, and as many pairs are there.
 use Prim.Native.Nat.{_≤_, _-_, _/_}
 use lib.ListN.{length}
 use borrow.Author.Needs.{needs}
+use Rattle.framing.specs.Records.{pairWords}
 use Rattle.vrf.proofs.walk.say_pairs.Statement.{statement}
 use Rattle.vrf.proofs.walk.say_pairs.Tie as tie
 
 abbrev Inv-loop : tie.InvT-loop
-Inv-loop count pairs i₀ t5 i = (i ≤ count) × (count ≤ length pairs / 2)
+Inv-loop count pairs i₀ t5 i = (i ≤ count) × (count ≤ length pairs / pairWords)
 
 abbrev μ-loop : tie.MeasureT-loop
 μ-loop count pairs i₀ t5 i = count - i
@@ -19,26 +21,14 @@ text-requires c κs = search needs
 loop-holds : tie.Need-loop-holds Inv-loop μ-loop
 loop-holds c = search needs
 
-mul-word-at : tie.Need-mul-word-at Inv-loop μ-loop
-mul-word-at c = search needs
-
-word-at-requires : tie.Need-word-at-requires Inv-loop μ-loop
-word-at-requires c κs = search needs
+pair-at-requires : tie.Need-pair-at-requires Inv-loop μ-loop
+pair-at-requires c κs = search needs
 
 wide-requires : tie.Need-wide-requires Inv-loop μ-loop
 wide-requires c κs = search needs
 
 right-requires : tie.Need-right-requires Inv-loop μ-loop
 right-requires c κs = search needs
-
-mul-word-at-2 : tie.Need-mul-word-at-2 Inv-loop μ-loop
-mul-word-at-2 c = search needs
-
-add-word-at : tie.Need-add-word-at Inv-loop μ-loop
-add-word-at c = search needs
-
-word-at-requires-2 : tie.Need-word-at-requires-2 Inv-loop μ-loop
-word-at-requires-2 c κs = search needs
 
 wide-requires-2 : tie.Need-wide-requires-2 Inv-loop μ-loop
 wide-requires-2 c κs = search needs
@@ -73,13 +63,9 @@ say-pairs-spec =
     slice-aggregate-text
     text-requires
     loop-holds
-    mul-word-at
-    word-at-requires
+    pair-at-requires
     wide-requires
     right-requires
-    mul-word-at-2
-    add-word-at
-    word-at-requires-2
     wide-requires-2
     right-requires-2
     slice-aggregate-text-2

@@ -1,3 +1,4 @@
+-- `walked::answers::recorded_counts` is safe and ends: there are eight numbers, and i rises to that.
 use mathlib.Core.Path.{_≡_}
 use Prim.Native.Nat.{_≤_, _-_}
 use lib.ListN.{length}

@@ -1,3 +1,4 @@
+-- `walked::answers::same_counts` is safe and ends: both have eight numbers, and i rises to that.
 use Prim.Native.Nat.{_≤_, _-_}
 use borrow.Author.Needs.{needs}
 use Rattle.walked.proofs.answers.same_counts.Statement.{statement}

@@ -1,3 +1,4 @@
+-- `walked::answers::say_counts` is safe and ends: there are eight numbers, and i rises to that.
 use Prim.Native.Nat.{_≤_, _-_}
 use borrow.Author.Needs.{needs}
 use Rattle.walked.proofs.answers.say_counts.Statement.{statement}

@@ -33,7 +33,10 @@ same-length-2 : tie.Need-same-length-2
 same-length-2 c = search needs
 
 returns-2 : tie.Need-returns-2
-returns-2 c = holds-more (c .at-end .result) (ended (c .before .before .filled .given .1) (c .before .before .before .before .before .before .fill .ensures)) (c .at-end .ensures)
+returns-2 c =
+    let earlier = c .before .before .before .before .before in
+    let at-fill = earlier .before in
+    holds-more (c .at-end .result) (ended (c .before .before .filled .given .1) (at-fill .fill .ensures)) (c .at-end .ensures)
 
 same-length-3 : tie.Need-same-length-3
 same-length-3 c = search needs

@@ -8,7 +8,8 @@ use Rattle.bits.specs.Packed.{packed}
 use Rattle.bits.specs.declared.Packed.{Packed}
 use Rattle.bits.specs.declared.Packed.the-variants as Num
 use Rattle.bits.proofs.PackedLaws.{whole-within, cut-within, goes-on-within, overflows-within}
-use Rattle.bitio.specs.Cursors.{longestWindow, good, window}
+use Rattle.bits.specs.Sizes.{longestWindow}
+use Rattle.bitio.specs.Cursors.{good, window}
 use Rattle.bitio.specs.Numbers.{packedAnswer, readIntPacked}
 use Rattle.bitio.specs.Refusals.{standsAfter}
 use Rattle.bitio.specs.declared.Cursor.{Cursor}
