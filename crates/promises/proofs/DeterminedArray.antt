@@ -1,4 +1,5 @@
--- Each public call of array is determined by its contract.
+-- Each public call of array is determined by its contract: the contract fixes the answer's counters, needs and number, and the contents of each
+-- buffer.
 use Prim.Native.Nat.{ℕ}
 use mathlib.Core.Path.{_≡_}
 use mathlib.Core.List.{List}
@@ -6,10 +7,13 @@ use Rattle.schema.specs.Tables.{Tables}
 use Rattle.framing.specs.Counters.{isClean}
 use Rattle.outputs.specs.Answers.{Lent}
 use Rattle.array.specs.Calls.{structCall, exactCall, Judges, Adds, Decodes, DecodesPairs}
-use Rattle.array.specs.Refusals.{countersOf}
-use Rattle.array.proofs.Promises as A
-use Rattle.array.proofs.Promises.{one-struct, one-object, one-merged}
+use Rattle.array.specs.Refusals.{countersOf, answerOf, pairsOf, sumsOf, refusedRoom, refusedPairs, refusedSum}
+use Rattle.array.proofs.OneAnswer as A
+use Rattle.array.proofs.OneAnswer.{one-struct, one-object, one-merged}
 use Rattle.array.specs.declared.ArrayDecodeStats.{ArrayDecodeStats}
+use Rattle.array.specs.declared.Merged.{Merged}
+use Rattle.array.specs.declared.ObjectArray.{ObjectArray}
+use Rattle.array.specs.declared.StructArray.{StructArray}
 use Rattle.promises.specs.Determining.{Determines, DeterminesAll}
 use Rattle.promises.proofs.Determined.{one-equal}
 
@@ -42,3 +46,17 @@ one-verdict stats = A.one-verdict (countersOf stats)
 -- `merge_from` has one answer.
 pub one-merge-from : (left right : ArrayDecodeStats) → Determines (Adds (countersOf left) (countersOf right))
 one-merge-from left right = one-merged (countersOf left) (countersOf right)
+
+-- ---- what a refusal says
+
+-- `said` has one answer.
+pub one-said : (answer : StructArray) → Determines (λ r. r ≡ refusedRoom (answerOf answer))
+one-said answer = one-equal (refusedRoom (answerOf answer))
+
+-- `pairs_said` has one answer.
+pub one-pairs-said : (answer : ObjectArray) → Determines (λ r. r ≡ refusedPairs (pairsOf answer))
+one-pairs-said answer = one-equal (refusedPairs (pairsOf answer))
+
+-- `merge_number` has one answer.
+pub one-merge-number : (answer : Merged) → Determines (λ r. r ≡ refusedSum (sumsOf answer))
+one-merge-number answer = one-equal (refusedSum (sumsOf answer))

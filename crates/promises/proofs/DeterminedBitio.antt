@@ -1,12 +1,14 @@
--- Each public call of bitio is determined by its contract.
-use Prim.Native.Nat.{ℕ}
+-- Each public call of bitio is determined by its contract: the answer, and a copy's target, equal what a definition gives.
+use Prim.Native.Nat.{ℕ, _%_, _^_}
 use mathlib.Core.Path.{_≡_}
 use mathlib.Core.List.{List}
 use Rattle.bitio.specs.Cursors.{opened, wholeOf, positionOf, lengthOf, remainingOf, endOf, skipped, skippedAll, subReader}
 use Rattle.bitio.specs.Reads.{readBit, readBits, readU8, readU16, readU32, readI32, readU64}
 use Rattle.bitio.specs.Numbers.{readIntPacked, readSerializedInt}
 use Rattle.bitio.specs.Copies.{copyAnswer, copyTarget}
+use Rattle.bitio.specs.Refusals.{numbered, sayingOf, standsAfter}
 use Rattle.bitio.specs.declared.Cursor.{Cursor}
+use Rattle.bitio.specs.declared.Refusal.{Refusal}
 use Rattle.promises.specs.Determining.{Determines, DeterminesAll}
 use Rattle.promises.proofs.Determined.{one-equal, both-equal}
 
@@ -92,3 +94,13 @@ one-read-serialized-int bytes c max = one-equal (readSerializedInt bytes c max)
 pub one-copy-bits-to : (bytes : List ℕ) (c : Cursor) (count : ℕ) (dst : List ℕ)
     → DeterminesAll (λ r end. (r ≡ copyAnswer bytes c count dst) × (end ≡ copyTarget bytes c count dst))
 one-copy-bits-to bytes c count dst = both-equal (copyAnswer bytes c count dst) (copyTarget bytes c count dst)
+
+-- ---- what a refusal says
+
+-- `said` has one answer.
+pub one-said : (why : Refusal) → Determines (λ r. r ≡ sayingOf (numbered why))
+one-said why = one-equal (sayingOf (numbered why))
+
+-- `stands_after` has one answer.
+pub one-stands-after : (why : Refusal) (at : ℕ) → Determines (λ r. r ≡ standsAfter at why % 2 ^ 64)
+one-stands-after why at = one-equal (standsAfter at why % 2 ^ 64)

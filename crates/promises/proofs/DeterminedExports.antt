@@ -1,4 +1,4 @@
--- Each call for C is determined by its contract.
+-- Each call for C is determined by its contract: what it gives and leaves is said by the definitions of the call below it.
 use Prim.Native.Nat.{ℕ}
 use mathlib.Core.Path.{_≡_, sym, _∙_}
 use mathlib.Core.List.{List}

@@ -1,11 +1,14 @@
--- Each public call of geometry is determined by its contract.
-use Prim.Native.Nat.{ℕ}
+-- Each public call of geometry is determined by its contract: the answer equals what a definition gives.
+use Prim.Native.Nat.{ℕ, _%_, _^_}
 use mathlib.Core.Path.{_≡_}
 use mathlib.Core.List.{List}
 use Rattle.bitio.specs.declared.Cursor.{Cursor}
+use Rattle.bitio.specs.Refusals.{sayingOf}
+use Rattle.geometry.specs.Refusals.{numbered, standsAfter}
 use Rattle.geometry.specs.Vectors.{readVector, readNormal}
 use Rattle.geometry.specs.Rotations.{readRotation}
 use Rattle.geometry.specs.Movements.{readMovement}
+use Rattle.geometry.specs.declared.Refusal.{Refusal}
 use Rattle.geometry.specs.declared.RotatorQuantization.{RotatorQuantization}
 use Rattle.geometry.specs.declared.VectorQuantization.{VectorQuantization}
 use Rattle.promises.specs.Determining.{Determines}
@@ -27,3 +30,11 @@ one-read-rotation bytes c width = one-equal (readRotation bytes c width)
 pub one-read-rep-movement : (bytes : List ℕ) (count : ℕ) (rotation : RotatorQuantization) (location : VectorQuantization)
     → Determines (λ r. r ≡ readMovement bytes count rotation location)
 one-read-rep-movement bytes count rotation location = one-equal (readMovement bytes count rotation location)
+
+-- `said` has one answer.
+pub one-said : (why : Refusal) → Determines (λ r. r ≡ sayingOf (numbered why))
+one-said why = one-equal (sayingOf (numbered why))
+
+-- `stands_after` has one answer.
+pub one-stands-after : (why : Refusal) (at : ℕ) → Determines (λ r. r ≡ standsAfter at why % 2 ^ 64)
+one-stands-after why at = one-equal (standsAfter at why % 2 ^ 64)

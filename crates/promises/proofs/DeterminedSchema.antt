@@ -1,29 +1,19 @@
--- Each public call of schema is determined by its contract.
+-- Each public call of schema is determined by its contract: what it gives and leaves equals what a definition gives.
 use Prim.Native.Nat.{ℕ}
 use mathlib.Core.Path.{_≡_}
+use mathlib.Core.Bool.{Bool}
 use mathlib.Core.List.{List, []}
-use lib.ListN.{length}
-use Rattle.bits.specs.Runs.{store}
-use Rattle.schema.specs.Decimals.{decimal, placeAfter}
 use Rattle.schema.specs.Labels.{bySchema, byDeclaration, containerLabel, leafLabel, labelLength, labelPart}
 use Rattle.schema.specs.Layout.{laidOut}
+use Rattle.schema.specs.Refusals.{tablesNumbered, filledNumbered, refusalNumber, sayingOf}
 use Rattle.schema.specs.Spans.{spansOf, entryIn, entryAt}
 use Rattle.schema.specs.Tables.{tables, lookUps, rowIn, rowOf, child, schemaName, declaredName}
 use Rattle.schema.specs.TwelveLevels.{publicLevels, fillAnswer, filledRows, filledNames}
+use Rattle.schema.specs.declared.Filled.{Filled}
 use Rattle.schema.specs.declared.Entry.{Entry}
 use Rattle.schema.specs.declared.Label.{Label}
 use Rattle.promises.specs.Determining.{Determines, DeterminesAll}
-use Rattle.promises.proofs.Determined.{one-equal, both-equal, three-equal}
-
--- ---- decimals
-
--- `decimal_length` has one answer.
-pub one-decimal-length : (n : ℕ) → Determines (λ r. r ≡ length (decimal n))
-one-decimal-length n = one-equal (length (decimal n))
-
--- `write_decimal` has one answer and leaves its buffer in one state.
-pub one-write-decimal : (d : List ℕ) (at n : ℕ) → DeterminesAll (λ r end. (r ≡ placeAfter at (length (decimal n))) × (end ≡ store d at (decimal n)))
-one-write-decimal d at n = both-equal (placeAfter at (length (decimal n))) (store d at (decimal n))
+use Rattle.promises.proofs.Determined.{one-equal, three-equal}
 
 -- ---- labels
 
@@ -101,3 +91,13 @@ one-public-levels = one-equal publicLevels
 pub one-fill-schema : (rows names : List ℕ)
     → DeterminesAll (λ r (end : List ℕ × List ℕ). (r ≡ fillAnswer rows names) × (end .0 ≡ filledRows rows names) × (end .1 ≡ filledNames rows names))
 one-fill-schema rows names = three-equal (fillAnswer rows names) (filledRows rows names) (filledNames rows names)
+
+-- ---- what a refusal says
+
+-- `said` has one answer.
+pub one-said : (answer : Filled) → Determines (λ r. r ≡ sayingOf (filledNumbered answer))
+one-said answer = one-equal (sayingOf (filledNumbered answer))
+
+-- `tables_number` has one answer.
+pub one-tables-number : (kept : Bool) → Determines (λ r. r ≡ refusalNumber (tablesNumbered kept))
+one-tables-number kept = one-equal (refusalNumber (tablesNumbered kept))

@@ -1,4 +1,4 @@
--- Fronts of lists: what stands there, and how long the records of some leaves are.
+-- Fronts of lists: what stands there, and how long the records of some leaves are. By induction over the list in front.
 use mathlib.Core.Path.{_≡_, refl, sym, ap, _∙_}
 use mathlib.Core.Bool.{Bool, true, false}
 use mathlib.Core.List.{List, [], _∷_, _++_}

@@ -1,5 +1,5 @@
--- A refusal leaves every lent buffer as it was lent. The theorem on a call is `kept-` and the call's name, with `-` for `_`. The calls for C say 0
--- where they refuse nothing.
+-- A refusal leaves every lent buffer as it was lent: the contract says the buffers by the same choice as the answer. The theorem on a call is
+-- `kept-` and the call's name, with `-` for `_`. The calls for C say 0 where they refuse nothing.
 use Prim.Native.Nat.{ℕ, _+_, _<_}
 use mathlib.Core.Path.{_≡_, refl, sym, ap, _∙_}
 use mathlib.Core.Bool.{Bool, true, false}
@@ -11,12 +11,13 @@ use Rattle.bits.specs.Runs.{store}
 use Rattle.bits.proofs.Never.{never}
 use Rattle.bits.proofs.RunLaws.{store-out}
 use Rattle.bitio.specs.Copies.{copyAnswer, copyTarget}
-use Rattle.bitio.proofs.Promises.{refusalOfCopied, refused-copy}
+use Rattle.bitio.proofs.RefusalOrder.{refusalOfCopied}
+use Rattle.bitio.proofs.CopyLaws.{refused-target}
 use Rattle.bitio.specs.declared.Cursor.{Cursor}
 use Rattle.bitio.specs.declared.Refusal.{Refusal}
 use Rattle.bitio.specs.declared.Copied.{Copied}
 use Rattle.bitio.specs.declared.Copied.the-variants as Copy
-use Rattle.schema.specs.Decimals.{decimal}
+use Rattle.bits.specs.Decimals.{decimal}
 use Rattle.schema.specs.Tables.{Tables}
 use Rattle.schema.specs.TwelveLevels.{enough, fillAnswer, filledRows, filledNames}
 use Rattle.schema.specs.declared.Filled.{Filled}
@@ -26,12 +27,12 @@ use Rattle.outputs.specs.Answers.{Call, Lent, answer, pairAnswer}
 use Rattle.outputs.proofs.Passes.{refusal-keeps, pairs-refusal-keeps}
 use Rattle.array.specs.Calls.{structCall, exactCall, Decodes, DecodesPairs}
 use Rattle.array.specs.Refusals.{answerOf, pairsOf}
-use Rattle.array.proofs.Promises.{refused-buffers, refused-pairs}
+use Rattle.array.proofs.OneAnswer.{refused-buffers, refused-pairs}
 use Rattle.array.specs.declared.StructArray.{StructArray}
 use Rattle.array.specs.declared.ObjectArray.{ObjectArray}
 use Rattle.fastarray.specs.Answers as F
 use Rattle.fastarray.specs.Refusals.{numbered}
-use Rattle.fastarray.proofs.Promises as fast
+use Rattle.fastarray.proofs.RefusalOrder as fast
 use Rattle.fastarray.specs.declared.ChecksumMode.{ChecksumMode}
 use Rattle.fastarray.specs.declared.FastArray.{FastArray}
 use Rattle.fastarray.specs.declared.FastArray.the-variants as body
@@ -97,7 +98,7 @@ kept-copy-bits-to bytes c count dst r end n f g e = go r f e
   where
     go : (r : Copied) → r ≡ copyAnswer bytes c count dst → refusalOfCopied r ≡ some n → end ≡ dst
     go (Copy.Done next) f e = let z : _≡_ {A = ℕ} 0 1 = cc in never z
-    go (Copy.Refused k) f e = g ∙ refused-copy bytes c count dst k (sym f)
+    go (Copy.Refused k) f e = g ∙ refused-target bytes c count dst k (sym f)
 
 -- ---- the schema's two buffers
 
@@ -174,7 +175,7 @@ kept-vrf-copy-bits bytes cursor count target r end f g e = go (copyAnswer bytes 
   where
     go : (a : Copied) → copyAnswer bytes (cursorOf cursor) count target ≡ a → end ≡ target
     go (Copy.Done p) h = absurd (e (ap (λ (v : VrfRead). v .refusal) f ∙ ap (λ (a : Copied). copyResult (cursor .pos) a .refusal) h))
-    go (Copy.Refused k) h = g ∙ refused-copy bytes (cursorOf cursor) count target k h
+    go (Copy.Refused k) h = g ∙ refused-target bytes (cursorOf cursor) count target k h
 
 -- `vrf_schema`, refused, leaves rows and names as lent.
 pub kept-vrf-schema : (rows names : List ℕ) (r : VrfSchema) (end : List ℕ × List ℕ)

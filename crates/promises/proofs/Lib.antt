@@ -1,4 +1,5 @@
 pub mod Determined
+pub mod DeterminedDecimals
 pub mod DeterminedBitio
 pub mod DeterminedSchema
 pub mod DeterminedArray

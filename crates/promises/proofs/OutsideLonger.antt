@@ -4,16 +4,14 @@ use Prim.Native.Nat.{ℕ}
 use mathlib.Core.Path.{_≡_, sym, ap, _∙_}
 use mathlib.Core.List.{List}
 use Rattle.bits.specs.Bits.{field}
-use Rattle.bitio.specs.Cursors.{good, window, atCursor, asking, positionOf, lengthOf, remainingOf, endOf, skipped, skippedAll, asWindow, subReader}
+use Rattle.bitio.specs.Cursors.{window, atCursor, positionOf, lengthOf, remainingOf, endOf, skipped, skippedAll, asWindow, subReader}
 use Rattle.bitio.specs.Reads.{seen, taken, asBit, asU8, asU16, asU32, asI32, readBit, readBits, readU8, readU16, readU32, readI32, readU64}
 use Rattle.bitio.specs.Numbers.{readIntPacked, readSerializedInt}
 use Rattle.bitio.specs.Copies.{pasted, copyAnswer, copyTarget}
 use Rattle.bitio.proofs.CursorLaws.{at-good}
-use Rattle.bitio.proofs.Promises.{same-window}
+use Rattle.bitio.proofs.Outside.{same-window}
 use Rattle.bitio.specs.declared.Cursor.{Cursor}
 use Rattle.bitio.specs.declared.Refusal.{Refusal}
-use Rattle.bitio.specs.declared.Skipped.{Skipped}
-use Rattle.bitio.specs.declared.Copied.{Copied}
 use Rattle.bitio.specs.declared.Measured.the-variants as Measure
 use Rattle.bitio.specs.declared.Ended.the-variants as End
 use Rattle.bitio.specs.declared.Skipped.the-variants as Skip

@@ -1,17 +1,19 @@
--- Bits outside its window alter no answer of a call at a cursor, and no buffer: two lists of as many bytes that agree on the window's bits give
--- the same. The theorem on a call is `outside-` and the call's name, with `-` for `_`.
+-- Bits outside its window alter no answer of a call at a cursor, and no buffer: two lists of as many bytes that agree on the window's bits give the
+-- same, since the definitions see the bytes only as the window's number and its length. The theorem on a call is `outside-` and the call's name,
+-- with `-` for `_`.
 use Prim.Native.Nat.{ℕ, _-_, _*_, _^_, min}
 use mathlib.Core.Path.{_≡_, ap}
 use mathlib.Core.List.{List}
 use lib.Dec.{ltb}
 use lib.ListN.{length}
 use Rattle.bits.specs.Choice.{if_then_else_}
-use Rattle.bitio.specs.Cursors.{window, longestWindow, opened, wholeOf, positionOf, lengthOf, remainingOf, endOf, skipped, skippedAll, asWindow, subReader}
+use Rattle.bits.specs.Sizes.{longestWindow}
+use Rattle.bitio.specs.Cursors.{window, opened, wholeOf, positionOf, lengthOf, remainingOf, endOf, skipped, skippedAll, asWindow, subReader}
 use Rattle.bitio.specs.Reads.{asBit, asU8, asU16, asU32, asI32, readBit, readBits, readU8, readU16, readU32, readI32, readU64}
 use Rattle.bitio.specs.Numbers.{readIntPacked, readSerializedInt}
 use Rattle.bitio.specs.Copies.{copyAnswer, copyTarget}
-use Rattle.bitio.proofs.Promises as bits
-use Rattle.bitio.proofs.Promises.{same-window, outside-alters-nothing, outside-taken}
+use Rattle.bitio.proofs.Outside as bits
+use Rattle.bitio.proofs.Outside.{same-window, outside-alters-nothing, outside-taken}
 use Rattle.bitio.specs.declared.Cursor.{Cursor}
 use Rattle.bitio.specs.declared.Refusal.the-variants.{TooLong, Past}
 use Rattle.bitio.specs.declared.Opened.the-variants as Open

@@ -11,17 +11,18 @@ use native.Mathlib.Nat.{zero-add}
 use Rattle.bits.specs.Bits.{num, field}
 use Rattle.schema.specs.Tables.{Tables}
 use Rattle.framing.specs.Events.{leaves, pairs, Trace}
-use Rattle.framing.specs.Sinks.{Walk, struct, exact, object, walk}
+use Rattle.framing.specs.Sinks.{Walker, struct, exact, object, walk}
 use Rattle.framing.specs.Records.{pairWords, leafRecords, pathBytes, payloadBytes, pairRecords}
 use Rattle.framing.specs.Refusing.{noRoom, needed, within, decided}
 use Rattle.framing.proofs.Demand3.{outside-alters-nothing}
-use Rattle.outputs.specs.Answers.{Lent, laid, roomOf, answer, finalLeaves, finalPaths, finalPayloads, atExit, Answered, pairAnswer, finalPairs, final}
+use Rattle.outputs.specs.Answers.{Lent, laid, roomOf, answer, finalLeaves, finalPaths, finalPayloads, atExit, pairAnswer, finalPairs, final}
 use Rattle.array.specs.Calls.{callOf, structCall, exactCall, Decodes, DecodesPairs}
-use Rattle.array.proofs.Promises.{one-struct, one-object}
+use Rattle.array.proofs.OneAnswer.{one-struct, one-object}
 use Rattle.array.specs.declared.StructArray.{StructArray}
 use Rattle.array.specs.declared.ObjectArray.{ObjectArray}
 use Rattle.fastarray.specs.Answers as F
-use Rattle.fastarray.proofs.Promises as fast
+use Rattle.fastarray.proofs.Outside as fast
+use Rattle.fastarray.proofs.AnswerLaws.{one-answer}
 use Rattle.fastarray.specs.declared.ChecksumMode.{ChecksumMode}
 use Rattle.fastarray.specs.declared.FastArray.{FastArray}
 use Rattle.promises.specs.Outside.{Agree, Hold}
@@ -29,10 +30,10 @@ use Rattle.promises.specs.Outside.{Agree, Hold}
 -- ---- walks
 
 module _ (s t : List ℕ) (n : ℕ) (same : Hold s t n) where
-  one-trace : (k : Walk) → walk k s n ≡ walk k t n
+  one-trace : (k : Walker) → walk k s n ≡ walk k t n
   one-trace k = outside-alters-nothing k s t n (same .first) (same .second) (same .same-bits)
 
-  module _ (k : Walk) (levels : ℕ) (b : Lent) where
+  module _ (k : Walker) (levels : ℕ) (b : Lent) where
     -- The answer's definition is the same.
     pub same-answer : answer (callOf k levels s n) b ≡ answer (callOf k levels t n) b
     unfolding answer
@@ -117,7 +118,7 @@ pub outside-decode-fast-array-delta : (s t : List ℕ) (n : ℕ) (mode : Checksu
     → F.Answered (F.call s n mode) l r x → F.Answered (F.call t n mode) l q y → (r ≡ q) × (x ≡ y)
 outside-decode-fast-array-delta s t n mode same l r q x y f g =
     let e = same-body s t n mode same l in
-    fast.one-answer (F.call s n mode) l r q x y f
+    one-answer (F.call s n mode) l r q x y f
     (record {
       says = g .says ∙ sym (e .0);
       deleted = g .deleted ∙ sym (e .1);

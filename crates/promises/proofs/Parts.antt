@@ -1,4 +1,5 @@
--- The parts of a vector, a normal, a rotation or a movement as bits that are asked for, and reading on behind them.
+-- The parts of a vector, a normal, a rotation or a movement as bits that are asked for, and reading on behind them: at a good cursor a part is
+-- refused exactly if its bits are not there, and else the next stands behind it.
 use Prim.Native.Nat.{ℕ, suc, _+_, _^_, _≤_}
 use mathlib.Core.Path.{_≡_, sym, ap, _∙_, subst}
 use mathlib.Core.Bool.{true}
@@ -23,7 +24,6 @@ use Rattle.bitio.specs.declared.BitsRead.{BitsRead}
 use Rattle.bitio.specs.declared.BitsRead.the-variants as B
 use Rattle.bitio.specs.declared.SerializedRead.the-variants as Ser
 use Rattle.geometry.specs.Parts.{at, afterRead, axisAfter, axisAt, asBits, partAt, threeAt}
-use Rattle.geometry.specs.declared.Refusal.{Refusal}
 use Rattle.geometry.specs.declared.Refusal.the-variants.{Unread}
 use Rattle.geometry.specs.declared.parts.Part.{Part}
 use Rattle.geometry.specs.declared.parts.Three.{Three}

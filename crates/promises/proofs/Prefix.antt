@@ -14,19 +14,19 @@ use Rattle.bits.specs.Bits.{num, field}
 use Rattle.bits.specs.Runs.{filled}
 use Rattle.bits.proofs.FieldLaws.{field-same}
 use Rattle.bits.proofs.Never.{never}
-use Rattle.bitio.specs.Cursors.{longestWindow}
+use Rattle.bits.specs.Sizes.{longestWindow, trailerBits}
 use Rattle.schema.specs.Tables.{Tables}
 use Rattle.framing.specs.Windows.{Window, windowOf}
 use Rattle.framing.specs.Events.{Leaf, leaves, pairs, overs, Trace}
 use Rattle.framing.specs.Counters.{Counters, counters, isClean}
 use Rattle.framing.specs.Sinks as F
-use Rattle.framing.specs.Sinks.{structSink, Walk, struct, exact, object, sinkOf, walk, verdictOf}
-use Rattle.framing.specs.Walk.{trailerBits}
-use Rattle.framing.specs.Records.{leafWords, pairWords, leafRecord, leafRecords, pathBytes, payloadBytes, pairRecords}
+use Rattle.framing.specs.Sinks.{structSink, Walker, struct, exact, object, sinkOf, walk, verdictOf}
+use Rattle.framing.specs.Records.{pathStartAt, handleAt, payloadStartAt, pairWords, leafRecord, leafRecords, pathBytes, payloadBytes, pairRecords}
 use Rattle.framing.specs.Refusing.{Room, within, needed, refused, accepted, decided}
 use Rattle.framing.specs.Demand.{Opens, Excused, nothing-sent, lacks-trailer, CutOf}
 use Rattle.framing.proofs.RecordLaws.{records-append}
 use Rattle.framing.proofs.Demand3.{demand3}
+use Rattle.outputs.specs.Records.{leafNumber}
 use Rattle.outputs.specs.Answers.{Call, Lent, traceOf, answer, finalLeaves, final, pairAnswer, pairTrace, finalPairs, shared, Front, wasAccepted}
 use Rattle.outputs.proofs.Fronts.{CutCall, demand3-buffers, demand3-pairs, opens-filled, opens-paths, opens-payloads}
 use Rattle.array.specs.Calls.{callOf, structCall, exactCall, verdictIs, Decodes, DecodesPairs}
@@ -57,7 +57,7 @@ accepted-tells {Need} bits ok t nothing need enough {k} {n} e = go (ltb longestW
     go false true false false e = let z : _≡_ {A = ℕ} 0 1 = cc in never z
     go false true false true e = (cc, cc)
 
-clean-counters : (k : Walk) (bits : ℕ) (c : Counters) → F.clean ≡ verdictOf k bits c → isClean c ≡ true
+clean-counters : (k : Walker) (bits : ℕ) (c : Counters) → F.clean ≡ verdictOf k bits c → isClean c ≡ true
 unfolding verdictOf
 clean-counters k bits c e = go (isClean c) refl e
   where
@@ -66,7 +66,7 @@ clean-counters k bits c e = go (isClean c) refl e
     go false h e = let z : _≡_ {A = ℕ} 0 1 = cc in never z
 
 -- the counters of an accepted answer with a clean verdict
-judged-clean : (k : Walk) (bits : ℕ) (c d : Counters) (v : Verdict) → verdictIs v ≡ verdictOf k bits c → c ≡ d → v ≡ Clean → isClean d ≡ true
+judged-clean : (k : Walker) (bits : ℕ) (c d : Counters) (v : Verdict) → verdictIs v ≡ verdictOf k bits c → c ≡ d → v ≡ Clean → isClean d ≡ true
 judged-clean k bits c d v j e h = clean-counters k bits d (ap verdictIs (sym h) ∙ j ∙ ap (verdictOf k bits) e)
 
 -- ---- struct and exact walks
@@ -75,7 +75,7 @@ module _ (short long : Call) (cut : CutCall short long) where
   -- demand 3 of their walks
   walks-cut : CutOf (long .how) (windowOf (long .bytes) (long .bits)) (short .bits) (traceOf short) (traceOf long)
   walks-cut =
-      subst (λ (k : Walk). CutOf (long .how) (windowOf (long .bytes) (long .bits)) (short .bits) (walk k (short .bytes) (short .bits)) (traceOf long))
+      subst (λ (k : Walker). CutOf (long .how) (windowOf (long .bytes) (long .bits)) (short .bits) (walk k (short .bytes) (short .bits)) (traceOf long))
       (sym (cut .how))
       (demand3 (long .how) (long .bytes) (short .bytes) (long .bits) (short .bits) (cut .shorter) (cut .inside-long) (cut .inside-short) (cut .bits))
 
@@ -126,7 +126,7 @@ module _ (short long : Call) (cut : CutCall short long) where
 
     -- the number j of a kept tail's record
     tail-number : (t : Leaf) → shared short ++ (t ∷ []) ≡ leaves (traceOf short) → (j : ℕ)
-        → getD (x .leaves) (leafWords * length (shared short) + j) 0
+        → leafNumber (x .leaves) (length (shared short)) j
         ≡ getD (leafRecord (length (pathBytes (shared short))) (length (payloadBytes (shared short))) t ++ drop (length (leafRecords 0 0 (leaves (traceOf short)))) (b .leaves)) j 0
     unfolding finalLeaves leafRecords
     tail-number t h j =
@@ -155,7 +155,7 @@ module _ (short long : Call) (cut : CutCall short long) where
             let n = ap (λ (r : Room). r .leaves) (short-tells .1) in
             let m = length-append (shared short) (t ∷ []) in
             let k = ap length h in
-            tail-off {n = shared-room} (omega (arith, n, m, k)) (tail-number t h 2 ∙ raw) (tail-number t h 0) (tail-number t h 4)
+            tail-off {n = shared-room} (omega (arith, n, m, k)) (tail-number t h handleAt ∙ raw) (tail-number t h pathStartAt) (tail-number t h payloadStartAt)
 
     leaves-begin : Begins short long v w (roomIn e) (roomIn f) x y
     unfolding shared-room
@@ -177,7 +177,7 @@ one-opening : (longer shorter : List ℕ) (n m : ℕ) → FirstBits longer short
 one-opening longer shorter n m first = field-same (num shorter) (num longer) 0 0 m (first .same-bits)
 
 module _ (longer shorter : List ℕ) (n m : ℕ) (first : FirstBits longer shorter n m) where
-  cut-call : (k : Walk) (levels : ℕ) → CutCall (callOf k levels shorter m) (callOf k levels longer n)
+  cut-call : (k : Walker) (levels : ℕ) → CutCall (callOf k levels shorter m) (callOf k levels longer n)
   cut-call k levels =
       record {
         how = refl;

@@ -12,7 +12,7 @@ use Rattle.bitio.specs.Numbers.{readIntPacked, readSerializedInt}
 use Rattle.bitio.specs.Order.{readingRules, copyingRules}
 use Rattle.bitio.specs.Reads.{readBits}
 use Rattle.bitio.specs.Refusals as bitio
-use Rattle.bitio.proofs.Promises.{refusalOfBits, refusalOfCopied}
+use Rattle.bitio.proofs.RefusalOrder.{refusalOfBits, refusalOfCopied}
 use Rattle.bits.proofs.ChoiceLaws.{by-cases}
 use Rattle.bitio.specs.declared.Refusal as bit
 use Rattle.bitio.specs.declared.Refusal.the-variants.{TooLong, TooFew, GoesOn, Overflows, NoMaximum, TooMany, Past}
@@ -35,7 +35,7 @@ use Rattle.array.specs.Merges.{bounded, merge}
 use Rattle.fastarray.specs.Answers as F
 use Rattle.fastarray.specs.Order.{rules}
 use Rattle.fastarray.specs.Refusals as fast
-use Rattle.fastarray.proofs.Promises.{refusal-order}
+use Rattle.fastarray.proofs.RefusalOrder.{refusal-order}
 use Rattle.fastarray.specs.declared.FastArray.{FastArray}
 use Rattle.fastarray.specs.declared.FastArray.the-variants as body
 use Rattle.geometry.specs.Movements.{readMovement}

@@ -1,4 +1,5 @@
--- A movement is refused exactly when, and in the order that, document 01 says: 1, 14, then as its parts, in their order.
+-- A movement is refused exactly when, and in the order that, document 01 says: 1, 14, then as its parts, in their order. For it is opened as a
+-- reader is and then reads its parts, each of which adds its own rules behind those before it.
 use Prim.Native.Nat.{ℕ, suc, _+_, _*_, _%_, _≤_}
 use mathlib.Core.Path.{_≡_, refl, sym, ap, _∙_, subst}
 use mathlib.Core.Bool.{Bool, true, false}
@@ -11,7 +12,8 @@ use Rattle.bits.specs.Packed.{mostBytes, packed}
 use Rattle.bits.specs.Refusals.{Rule, firstOf}
 use Rattle.bits.specs.declared.Packed.{Packed}
 use Rattle.bits.proofs.Never.{never}
-use Rattle.bitio.specs.Cursors.{bitsOf, window, asking, longestWindow, opened}
+use Rattle.bits.specs.Sizes.{longestWindow}
+use Rattle.bitio.specs.Cursors.{bitsOf, window, asking, opened}
 use Rattle.bitio.specs.Numbers.{packedAnswer, readIntPacked}
 use Rattle.bitio.specs.Reads.{readBit, widestRead}
 use Rattle.bitio.proofs.CursorLaws.{good-true, at-good}
@@ -21,15 +23,15 @@ use Rattle.bitio.specs.declared.BitRead.{BitRead}
 use Rattle.bitio.specs.declared.PackedRead.{PackedRead}
 use Rattle.bitio.specs.declared.PackedRead.the-variants as P
 use Rattle.geometry.specs.Parts.{at}
-use Rattle.geometry.specs.Movements.{afterBit, afterVector, afterRotation, afterPacked, afterSpin, afterNumber, afterFlags, afterPose, afterExtras, widthOf, scaleOf, velocityScale, flags, flagsAt, poseAt, spinAt, flaggedAt, extrasAt, movement, movementAt, inReader, readMovement}
+use Rattle.geometry.specs.Movements.{afterBit, afterVector, afterRotation, afterPacked, afterSpin, afterOptional, afterFlags, afterPose, afterExtras, widthOf, scaleOf, velocityScale, flags, flagsAt, poseAt, spinAt, flaggedAt, extrasAt, movement, movementAt, inReader, readMovement}
 use Rattle.geometry.specs.Rotations.{rotationAt}
 use Rattle.geometry.specs.Vectors.{quantizedAt}
 use Rattle.geometry.specs.declared.Vector.{Vector}
 use Rattle.geometry.specs.declared.Rotation.{Rotation}
 use Rattle.geometry.specs.declared.Spin.{Spin}
 use Rattle.geometry.specs.declared.Spin.the-variants as spin
-use Rattle.geometry.specs.declared.Number.{Number}
-use Rattle.geometry.specs.declared.Number.the-variants as number
+use Rattle.geometry.specs.declared.OptionalNumber.{OptionalNumber}
+use Rattle.geometry.specs.declared.OptionalNumber.the-variants as number
 use Rattle.geometry.specs.declared.Refusal.{Refusal}
 use Rattle.geometry.specs.declared.Refusal.the-variants.{Unread}
 use Rattle.geometry.specs.declared.RotatorQuantization.{RotatorQuantization}
@@ -49,11 +51,11 @@ use Rattle.geometry.specs.declared.movements.FlagsRead.the-variants as F
 use Rattle.geometry.specs.declared.movements.PoseRead.{PoseRead}
 use Rattle.geometry.specs.declared.movements.PoseRead.the-variants as Q
 use Rattle.geometry.specs.declared.movements.SpinRead.the-variants as S
-use Rattle.geometry.specs.declared.movements.NumberRead.the-variants as N
+use Rattle.geometry.specs.declared.movements.OptionalNumberRead.the-variants as N
 use Rattle.geometry.specs.declared.movements.ExtrasRead.{ExtrasRead}
 use Rattle.geometry.specs.declared.movements.ExtrasRead.the-variants as X
 use Rattle.promises.specs.ReadOrders.{following, packedParts}
-use Rattle.promises.specs.MoveOrders.{ofMovement, unread, lacking, behindAll, headerBits, componentBits, componentParts, headerOf, behindVector, vectorParts, isSet, rotationParts, numberParts, behindNumber, handleBit, movementParts, movementRules}
+use Rattle.promises.specs.MoveOrders.{ofMovement, unread, lacking, behindAll, vectorHeaderBits, componentBits, componentParts, headerOf, behindVector, vectorParts, isSet, rotationParts, numberParts, behindNumber, handleBit, movementParts, movementRules}
 use Rattle.promises.proofs.Standing.{Seen, stops, upto, firstOr, refusalIn, first-or, first-append, passes-front, lacking-none, ask, Bound, goes, halts, read-on}
 use Rattle.promises.proofs.Parts.{bit-asked}
 use Rattle.promises.proofs.RefusedNumbers.{Tested, fine, lacks, sixth, large, packed-tested}
@@ -148,10 +150,10 @@ module _ (s : List ℕ) (c : Cursor) (fits : c .start + c .len ≤ bitsOf s) whe
         → view (afterVector refused (quantizedAt s scale (at c p)) next) ≡ firstOr (vectorParts (window s c) (c .len) scale p ++ more) z
     then-vector scale p next more z h f =
         let W = window s c in
-        let parts = headerBits ∷ componentParts (headerOf W p) in
+        let parts = vectorHeaderBits ∷ componentParts (headerOf W p) in
         read-on seenVector view (afterVector refused) (quantizedAt s scale (at c p)) next (vector-bound (quantizedAt s scale (at c p)) next)
         (vectorParts W (c .len) scale p) more (behindVector W p) z (vector-seen s c fits scale p h)
-        (λ v k e. f v (subst (λ (q : ℕ). q ≤ c .len) (components-end (p + headerBits) (headerOf W p)) (lacking-none (c .len) p parts h (passes-front (lacking (c .len) p parts) _ k))))
+        (λ v k e. f v (subst (λ (q : ℕ). q ≤ c .len) (components-end (p + vectorHeaderBits) (headerOf W p)) (lacking-none (c .len) p parts h (passes-front (lacking (c .len) p parts) _ k))))
 
     then-rotation : (w p : ℕ) (next : Rotation → ℕ → A) (more : List (Rule Refusal)) (z : Seen) → w ≤ 64 → p ≤ c .len
         → let parts = rotationParts (window s c) w p in
@@ -183,14 +185,14 @@ module _ (s : List ℕ) (c : Cursor) (fits : c .start + c .len ≤ bitsOf s) whe
         (λ v k. f (spin.Present v) k)
     then-spin false p next more z h f = f spin.Absent h
 
-    then-number : (b : Bool) (p : ℕ) (next : Number → ℕ → A) (more : List (Rule Refusal)) (z : Seen) → p ≤ c .len
+    then-number : (b : Bool) (p : ℕ) (next : OptionalNumber → ℕ → A) (more : List (Rule Refusal)) (z : Seen) → p ≤ c .len
         → let q = if b then behindNumber (window s c) (c .len) p else p in
-        ((v : Number) → q ≤ c .len → view (next v q) ≡ firstOr more z)
-        → view (afterNumber refused (flaggedAt s b (at c p)) next)
+        ((v : OptionalNumber) → q ≤ c .len → view (next v q) ≡ firstOr more z)
+        → view (afterOptional refused (flaggedAt s b (at c p)) next)
         ≡ firstOr ((if b then numberParts (window s c) (c .len) p else []) ++ more) z
-    unfolding afterNumber flaggedAt
+    unfolding afterOptional flaggedAt
     then-number true p next more z h f =
-        then-packed (λ x. view (afterNumber refused x next)) N.Refused (λ r. shows r) p (λ n q. N.Value (number.Present n) q) more z h
+        then-packed (λ x. view (afterOptional refused x next)) N.Refused (λ r. shows r) p (λ n q. N.Value (number.Present n) q) more z h
         (λ n k. f (number.Present n) k)
     then-number false p next more z h f = f number.Absent h
 

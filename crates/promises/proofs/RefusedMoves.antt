@@ -35,7 +35,7 @@ use Rattle.geometry.specs.declared.RotationRead.the-variants as R
 use Rattle.geometry.specs.declared.parts.Part.the-variants.{Bits, Integer}
 use Rattle.geometry.specs.declared.parts.Three.{Three}
 use Rattle.geometry.specs.declared.parts.Three.the-variants as T
-use Rattle.promises.specs.MoveOrders.{ofVector, ofRotation, lacking, headerBits, componentBits, componentParts, componentOf, notFinite, headerOf, behindVector, vectorParts, vectorRules, axisBits, normalRules, axisParts, rotationParts, rotationRules}
+use Rattle.promises.specs.MoveOrders.{ofVector, ofRotation, lacking, vectorHeaderBits, componentBits, componentParts, componentOf, notFinite, headerOf, behindVector, vectorParts, vectorRules, normalAxisBits, normalRules, axisParts, rotationParts, rotationRules}
 use Rattle.promises.proofs.Standing.{Seen, stops, upto, firstOr, refusalIn, first-or, first-append, ending, ask}
 use Rattle.promises.proofs.Parts.{bits-asked, integer-asked, then-read, then-axis, three-read}
 
@@ -123,19 +123,19 @@ module _ (s : List ℕ) (c : Cursor) (fits : c .start + c .len ≤ bitsOf s) whe
       → seenVector (quantizedAt s scale (at c p)) ≡ firstOr (vectorParts (window s c) (c .len) scale p) (upto (behindVector (window s c) p))
   unfolding quantizedAt firstOr
   vector-seen scale p h =
-      then-read seenVector (λ r. Vec.Refused (Unread r)) (λ r. refl) (c .len) p headerBits (headerOf (window s c) p) _ _ _
-      (integer-asked s c fits headerMaximum headerBits p (log2-is 7 128 (omega arith) (omega arith) (omega arith)) (omega arith) (λ e. omega arith) h)
-      (λ k. behind-seen scale (headerOf (window s c) p) (p + headerBits) k)
+      then-read seenVector (λ r. Vec.Refused (Unread r)) (λ r. refl) (c .len) p vectorHeaderBits (headerOf (window s c) p) _ _ _
+      (integer-asked s c fits headerMaximum vectorHeaderBits p (log2-is 7 128 (omega arith) (omega arith) (omega arith)) (omega arith) (λ e. omega arith) h)
+      (λ k. behind-seen scale (headerOf (window s c) p) (p + vectorHeaderBits) k)
 
   -- ---- normals and rotations at bit p
 
   normal-seen : (p : ℕ) → p ≤ c .len
-      → seenVector (normalOf (threeAt s (Integer normalMaximum) (at c p))) ≡ ending (c .len) p (axisBits ∷ axisBits ∷ axisBits ∷ [])
+      → seenVector (normalOf (threeAt s (Integer normalMaximum) (at c p))) ≡ ending (c .len) p (normalAxisBits ∷ normalAxisBits ∷ normalAxisBits ∷ [])
   unfolding normalOf partAt
   normal-seen p h =
-      three-read s c (Integer normalMaximum) axisBits (λ t. seenVector (normalOf t)) (λ r. refl)
-      (λ q k. integer-asked s c fits normalMaximum axisBits q (log2-is 16 65536 (omega arith) (omega arith) (omega arith)) (omega arith) (λ e. omega arith) k)
-      p h (upto (p + axisBits + axisBits + axisBits)) refl
+      three-read s c (Integer normalMaximum) normalAxisBits (λ t. seenVector (normalOf t)) (λ r. refl)
+      (λ q k. integer-asked s c fits normalMaximum normalAxisBits q (log2-is 16 65536 (omega arith) (omega arith) (omega arith)) (omega arith) (λ e. omega arith) k)
+      p h (upto (p + normalAxisBits + normalAxisBits + normalAxisBits)) refl
 
   -- A rotation at bit p is its bits and the numbers behind those that are set.
   pub rotation-seen : (w p : ℕ) → w ≤ 64 → p ≤ c .len → seenRotation (rotationAt s w (at c p)) ≡ ending (c .len) p (rotationParts (window s c) w p)
@@ -167,7 +167,7 @@ module _ (s : List ℕ) (c : Cursor) where
   refused-read-fixed-vector-normal =
       by-cases (good s c)
       (λ g. vector-refusal (readNormal s c) ∙ ap refusalIn (normal-seen s c (good-le s c g .1) (c .pos) (good-le s c g .0))
-      ∙ first-or (lacking (c .len) (c .pos) (axisBits ∷ axisBits ∷ axisBits ∷ [])) _ ∙ simp g)
+      ∙ first-or (lacking (c .len) (c .pos) (normalAxisBits ∷ normalAxisBits ∷ normalAxisBits ∷ [])) _ ∙ simp g)
       (λ g. simp g)
 
   -- A rotation gives 14, 13, 7.

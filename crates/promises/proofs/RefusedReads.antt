@@ -1,5 +1,5 @@
--- Each call of the bit reader is refused exactly when, and in the order that, document 01 says. The theorem on a call is `refused-` and the call's
--- name, with `-` for `_`.
+-- Each call of the bit reader is refused exactly when, and in the order that, document 01 says: its definition tests the cursor, the number asked
+-- for and the bits left in that order. The theorem on a call is `refused-` and the call's name, with `-` for `_`.
 use Prim.Native.Nat.{ℕ, _+_, _^_}
 use mathlib.Core.Path.{_≡_, refl, _∙_}
 use mathlib.Core.List.{List}
@@ -13,7 +13,7 @@ use Rattle.bitio.specs.Numbers.{log2, serializedTop, serializedAt, readSerializ
 use Rattle.bitio.specs.Copies.{copyAnswer}
 use Rattle.bitio.specs.Order.{openingRules, takingRules, readingRules, copyingRules}
 use Rattle.bits.proofs.ChoiceLaws.{by-cases}
-use Rattle.bitio.proofs.Promises.{refusalOfOpened, refusalOfSkipped, refusalOfTaken, refusalOfBits, refusalOfCopied, opening-order, skipping-order, taking-order, reading-order, copying-order}
+use Rattle.bitio.proofs.RefusalOrder.{refusalOfOpened, refusalOfSkipped, refusalOfTaken, refusalOfBits, refusalOfCopied, opening-order, skipping-order, taking-order, reading-order, copying-order}
 use Rattle.bitio.specs.declared.Cursor.{Cursor}
 use Rattle.bitio.specs.declared.Refusal.{Refusal}
 use Rattle.bitio.specs.declared.Skipped.{Skipped}

@@ -1,5 +1,5 @@
--- Each walk, a merge, the tables, the schema and the fast array are refused exactly when, and in the order that, document 01 says. The theorem on a
--- call is `refused-` and the call's name, with `-` for `_`.
+-- Each walk, a merge, the tables, the schema and the fast array are refused exactly when, and in the order that, document 01 says: their
+-- definitions decide by the same tests in the same order. The theorem on a call is `refused-` and the call's name, with `-` for `_`.
 use Prim.Native.Nat.{ℕ, _/_}
 use mathlib.Core.Path.{_≡_, refl, ap, _∙_}
 use mathlib.Core.Bool.{false}
@@ -8,8 +8,8 @@ use mathlib.Core.Option.{Option, none, some}
 use lib.Dec.{leb, ltb, eqb}
 use lib.ListN.{length}
 use Rattle.bits.specs.Refusals.{Numbered, refusal, firstOf}
-use Rattle.bitio.specs.Cursors.{longestWindow}
 use Rattle.bits.proofs.ChoiceLaws.{by-cases}
+use Rattle.bits.specs.Sizes.{longestWindow}
 use Rattle.schema.specs.Layout.{laidOut}
 use Rattle.schema.specs.Tables.{Tables, tables}
 use Rattle.schema.specs.TwelveLevels.{enough, fillAnswer}
@@ -29,7 +29,7 @@ use Rattle.array.specs.declared.Merged.{Merged}
 use Rattle.fastarray.specs.Answers as F
 use Rattle.fastarray.specs.Order.{rules}
 use Rattle.fastarray.specs.Refusals.{numbered}
-use Rattle.fastarray.proofs.Promises.{refusal-order}
+use Rattle.fastarray.proofs.RefusalOrder.{refusal-order}
 use Rattle.fastarray.specs.declared.ChecksumMode.{ChecksumMode}
 use Rattle.fastarray.specs.declared.FastArray.{FastArray}
 use Rattle.promises.proofs.TestLaws.{reached, missed}

@@ -68,8 +68,8 @@ behindAll p (n ∷ ns) = behindAll (p + n) ns
 
 -- ---- vectors
 
-abbrev pub headerBits : ℕ
-headerBits = 7
+abbrev pub vectorHeaderBits : ℕ
+vectorHeaderBits = 7
 
 -- the bits of a component behind the header h: its low six bits, or where they are 0 a float's
 unfoldable pub componentBits : (h : ℕ) → ℕ
@@ -92,17 +92,17 @@ notFinite f W n q =
 
 -- the header at bit p, and the bit behind the vector
 abbrev pub headerOf : (W p : ℕ) → ℕ
-headerOf W p = field W p headerBits
+headerOf W p = field W p vectorHeaderBits
 
 abbrev pub behindVector : (W p : ℕ) → ℕ
 behindVector W p =
-    p + headerBits + componentBits (headerOf W p) + componentBits (headerOf W p) + componentBits (headerOf W p)
+    p + vectorHeaderBits + componentBits (headerOf W p) + componentBits (headerOf W p) + componentBits (headerOf W p)
 
 -- 7, then 12
 abbrev pub vectorParts : (W len scale p : ℕ) → List (Rule Refusal)
 vectorParts W len scale p =
-    lacking len p (headerBits ∷ componentParts (headerOf W p)) ++
-    (notFinite (componentOf (headerOf W p) scale) W (componentBits (headerOf W p)) (p + headerBits) ∷ [])
+    lacking len p (vectorHeaderBits ∷ componentParts (headerOf W p)) ++
+    (notFinite (componentOf (headerOf W p) scale) W (componentBits (headerOf W p)) (p + vectorHeaderBits) ∷ [])
 
 -- vectors: 14, 11, 7, 12
 abbrev pub vectorRules : List ℕ → Cursor → (scale : ℕ) → List (Rule Refusal)
@@ -110,11 +110,11 @@ vectorRules s c scale = badBefore s c ∷ when (eqb scale 0) NoScale ∷ vectorP
 
 -- ---- normals: 14, 7
 
-abbrev pub axisBits : ℕ
-axisBits = 16
+abbrev pub normalAxisBits : ℕ
+normalAxisBits = 16
 
 abbrev pub normalRules : List ℕ → Cursor → List (Rule Refusal)
-normalRules s c = badBefore s c ∷ lacking (c .len) (c .pos) (axisBits ∷ axisBits ∷ axisBits ∷ [])
+normalRules s c = badBefore s c ∷ lacking (c .len) (c .pos) (normalAxisBits ∷ normalAxisBits ∷ normalAxisBits ∷ [])
 
 -- ---- rotations
 

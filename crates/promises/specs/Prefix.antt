@@ -1,15 +1,16 @@
 -- Demand 3, said of two accepted calls and of the buffers that they leave: the shorter's answer is the front of the longer's.
-use Prim.Native.Nat.{ℕ, suc, _+_, _*_, _≤_, _<_}
+use Prim.Native.Nat.{ℕ, suc, _*_, _≤_, _<_}
 use mathlib.Core.Path.{_≡_}
 use mathlib.Core.Bool.{true}
 use mathlib.Core.List.{List}
-use lib.ListN.{length, getD, take}
+use lib.ListN.{length, take}
 use Rattle.framing.specs.Windows.{windowOf}
 use Rattle.framing.specs.Events.{rawHandle}
-use Rattle.framing.specs.Sinks.{Walk, object}
-use Rattle.framing.specs.Records.{leafWords, pairWords}
+use Rattle.framing.specs.Sinks.{Walker, object}
+use Rattle.framing.specs.Records.{leafWords, pathStartAt, handleAt, payloadStartAt, pairWords}
 use Rattle.framing.specs.Refusing.{Room, within}
 use Rattle.framing.specs.Demand.{Excused}
+use Rattle.outputs.specs.Records.{leafNumber}
 use Rattle.outputs.specs.Answers.{Call, Lent}
 use Rattle.array.specs.declared.Verdict.{Verdict}
 use Rattle.array.specs.declared.Verdict.the-variants.{Clean}
@@ -23,15 +24,15 @@ pub record FirstBits (longer shorter : List ℕ) (n m : ℕ) : Type 0 where
   pub same-bits : SameBits shorter longer 0 m
 
 -- What a walk filled before a kept tail, where `all` is what it filled: all of it; or all before the last record, if that has a kept tail's
--- handle. A record's first and last number say where its path and its payload start.
+-- handle. That record says where its path and its payload start.
 pub data BeforeTail (all : Room) (records : List ℕ) : (shared : Room) → Type 0 where
   no-tail : BeforeTail all records all
-  tail-off : {n : Room} → suc (n .leaves) ≡ all .leaves → getD records (leafWords * n .leaves + 2) 0 ≡ rawHandle
-      → getD records (leafWords * n .leaves + 0) 0 ≡ n .pathBytes → getD records (leafWords * n .leaves + 4) 0 ≡ n .payloadBytes
+  tail-off : {n : Room} → suc (n .leaves) ≡ all .leaves → leafNumber records (n .leaves) handleAt ≡ rawHandle
+      → leafNumber records (n .leaves) pathStartAt ≡ n .pathBytes → leafNumber records (n .leaves) payloadStartAt ≡ n .payloadBytes
       → BeforeTail all records n
 
 -- m bits of a clean window of n are not clean, but for the two excuses: no bits of a struct or exact walk; exactly a zero trailer left off
-abbrev pub NotClean : Walk → (bytes : List ℕ) (n m : ℕ) → (long short : Verdict) → Type 0
+abbrev pub NotClean : Walker → (bytes : List ℕ) (n m : ℕ) → (long short : Verdict) → Type 0
 NotClean k bytes n m long short = long ≡ Clean → m < n → short ≡ Clean → Excused k (windowOf bytes n) m
 
 -- Two struct or exact walks. The shorter filled `e` and left x, the longer filled `f` and left y.

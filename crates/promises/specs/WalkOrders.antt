@@ -7,7 +7,7 @@ use mathlib.Core.Option.{Option, none, some}
 use lib.Dec.{ltb}
 use lib.ListN.{length}
 use Rattle.bits.specs.Refusals.{Numbered, refusal, Rule, when}
-use Rattle.bitio.specs.Cursors.{longestWindow}
+use Rattle.bits.specs.Sizes.{longestWindow}
 use Rattle.schema.specs.Layout.{laidOut}
 use Rattle.schema.specs.Tables.{Tables}
 use Rattle.schema.specs.TwelveLevels.{enough, rowNumbers, nameBytes}
