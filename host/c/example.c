@@ -21,10 +21,10 @@ static uint8_t file[VRF_LONGEST_WINDOW / 8 + 1];
 
 static const char *refusal_in_words(uint32_t number) {
   switch (number) {
-  case 1: return "the window is longer than 524288 bits";
-  case 2: return "the tables break their layout";
-  case 3: return "a buffer is too short";
-  case 5: return "a path would be longer than 1024 bytes";
+  case VRF_REFUSED_TOO_LONG: return "a bit count over 524,288";
+  case VRF_REFUSED_BROKEN_TABLES: return "a schema or declared table breaks its layout or a size, or the root isn't one of its levels";
+  case VRF_REFUSED_SHORT_BUFFER: return "a lent buffer is too short";
+  case VRF_REFUSED_PATH_TOO_LONG: return "a path of over 1,024 bytes";
   default: return "a number that this call doesn't give";
   }
 }
@@ -101,7 +101,7 @@ static int walk(const uint8_t *bytes, size_t size, uint32_t bits) {
                                NULL, 0, NULL, 0, NULL, 0, NULL, 0, NULL, 0);
   uint32_t *leaves = NULL;
   uint8_t *paths = NULL, *payloads = NULL;
-  if (w.refusal == 3) {
+  if (w.refusal == VRF_REFUSED_SHORT_BUFFER) {
     const size_t words = (size_t)w.leaves * VRF_LEAF_WORDS, path_bytes = w.path_bytes, payload_bytes = w.payload_bytes;
     printf("needed: leaves %" PRIu32 ", path bytes %zu, payload bytes %zu\n", w.leaves, path_bytes, payload_bytes);
     leaves = room(words, sizeof *leaves);

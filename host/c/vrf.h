@@ -28,23 +28,25 @@
  *   Behind it stand the values that the refusal names (below), then what only an accepted call gives. In a refused answer all that
  *   isn't named is 0, but for `position`; so a `verdict` of 0 says "clean" only where `refusal` is 0 too.
  *
- * Refusals, and the values that come with them
- *    1  the bit count is above 524,288                                         none
+ * Refusals, and the values that come with them; below, VRF_REFUSED_TOO_LONG and so on are the numbers by name
+ *    1  a bit count over 524,288                                               none
  *    2  a schema or declared table breaks its layout or a size, or the root
  *       isn't one of its levels                                                none
  *    3  a lent buffer is too short                                             what each of them needs: fields of the same name
- *    4  a sum of two counters would pass 2^64 - 1                              the left counters
- *    5  a path would be longer than 1,024 bytes                                none
- *    6  not a fast-array body, or not as many bytes as the bits take           none
- *    7  fewer bits are left than asked                                         first: position, second: window's length, third: bits asked
- *    8  a packed number goes on behind its fifth byte                          first: where it starts
+ *    4  a sum of two counters is over 2^64 - 1                                 the left counters
+ *    5  a path of over 1,024 bytes                                             none
+ *    6  the bits aren't a fast-array body, or the bytes aren't as many as the
+ *       bits take                                                              none
+ *    7  a read asks more bits than the window has left                         first: position, second: window's length, third: bits asked
+ *    8  a packed number's fifth byte says that another follows                 first: where it starts
  *    9  a packed number's fifth byte holds more than 15                        first: where it starts
- *   10  a serialized integer with maximum 0                                    none
- *   11  a vector with scale 0                                                  none
- *   12  a component is a NaN or infinite                                       none
- *   13  more than 64 bits asked at once; a rotation of neither 8 nor 16 bits   none
- *   14  a cursor or a bit count past its bytes, a cursor past its window; a
- *       copy's target is too short                                             first: bits asked, second: bits available
+ *   10  a serialized integer is asked with maximum 0                           none
+ *   11  a vector is asked with scale 0                                         none
+ *   12  a vector's component is a NaN or infinite                              none
+ *   13  more than 64 bits are asked in one read, or a rotation's width is
+ *       neither 8 nor 16                                                       none
+ *   14  a window reaches past its bytes, a cursor past its window or bytes, or
+ *       a copy's target is too short                                           first: bits asked, second: bits available
  *   docs/REFUSALS.md says what a person at a box does about each.
  */
 #ifndef VRF_H
@@ -57,6 +59,25 @@
 #ifdef __cplusplus
 extern "C" {
 #endif
+
+/* ---- refusals, by the names of docs/REFUSALS.md */
+
+enum {
+  VRF_REFUSED_TOO_LONG = 1,
+  VRF_REFUSED_BROKEN_TABLES = 2,
+  VRF_REFUSED_SHORT_BUFFER = 3,
+  VRF_REFUSED_COUNTER_OVERFLOW = 4,
+  VRF_REFUSED_PATH_TOO_LONG = 5,
+  VRF_REFUSED_NOT_FAST_ARRAY = 6,
+  VRF_REFUSED_TOO_FEW_BITS = 7,
+  VRF_REFUSED_NUMBER_GOES_ON = 8,
+  VRF_REFUSED_NUMBER_TOO_LARGE = 9,
+  VRF_REFUSED_NO_MAXIMUM = 10,
+  VRF_REFUSED_NO_SCALE = 11,
+  VRF_REFUSED_NOT_FINITE = 12,
+  VRF_REFUSED_NO_SUCH_WIDTH = 13,
+  VRF_REFUSED_PAST_THE_END = 14
+};
 
 /* ---- walks */
 
@@ -96,8 +117,8 @@ typedef struct VrfWalk {
  *
  * Tables. rows: the schema, five uint32_t a row (see vrf_schema, which fills one); levels: how many levels it has; root: the level
  * of the outermost elements, or VRF_NONE; names: the names that rows point into. declared: for each handle two uint32_t, the start
- * and the length of its name in pool. Without tables pass lengths 0, levels 0 and root VRF_NONE. rows_len has to be the table's own
- * length: what stands behind the table in a larger buffer is not a row.
+ * and the length of its name in declared_names. Without tables pass lengths 0, levels 0 and root VRF_NONE. rows_len has to be the
+ * table's own length: what stands behind the table in a larger buffer is not a row.
  *
  * Outputs. A leaf is five uint32_t: path start, path length, handle, bits, payload start. Starts count bytes of paths and of
  * payloads; paths aren't ended by a zero. A payload takes (bits + 7) / 8 bytes, the first bit lowest, the last byte's spare bits 0.
@@ -108,7 +129,7 @@ VrfWalk vrf_struct_array(const uint8_t *bytes, size_t bytes_len, uint32_t bits,
                          const uint32_t *rows, size_t rows_len, uint32_t levels, uint32_t root,
                          const uint8_t *names, size_t names_len,
                          const uint32_t *declared, size_t declared_len,
-                         const uint8_t *pool, size_t pool_len,
+                         const uint8_t *declared_names, size_t declared_names_len,
                          uint32_t *leaves, size_t leaves_len,
                          uint8_t *paths, size_t paths_len,
                          uint8_t *payloads, size_t payloads_len);
@@ -116,7 +137,7 @@ VrfWalk vrf_struct_array(const uint8_t *bytes, size_t bytes_len, uint32_t bits,
 /* The same with no schema, and with no zero byte accepted behind the array. */
 VrfWalk vrf_struct_array_exact(const uint8_t *bytes, size_t bytes_len, uint32_t bits,
                                const uint32_t *declared, size_t declared_len,
-                               const uint8_t *pool, size_t pool_len,
+                               const uint8_t *declared_names, size_t declared_names_len,
                                uint32_t *leaves, size_t leaves_len,
                                uint8_t *paths, size_t paths_len,
                                uint8_t *payloads, size_t payloads_len);

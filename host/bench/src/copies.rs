@@ -4,7 +4,7 @@ use crate::bits::noise;
 use crate::row::{side, Row, Sides};
 use std::hint::black_box;
 use vrf_bitio::BitReader;
-use vrf_proved::exact::{self, Cursor};
+use vrf_proved::lent::{self, Cursor};
 
 /// The bytes that are copied from, kept for the whole run since the Rust's reader borrows them.
 fn source(count: u64) -> &'static [u8] {
@@ -23,8 +23,7 @@ fn sides(count: u64, from: u64) -> Sides {
     let size = count.div_ceil(8) as usize;
     let (mut ours, mut theirs) = (vec![0; size], vec![0; size]);
     let skipped = reader.skip_bits(from).is_ok();
-    let copied =
-        reader.clone().copy_bits_to(&mut theirs, count).is_ok() && exact::copy_bits(bytes, cursor, count, &mut ours).result.is_ok();
+    let copied = reader.clone().copy_bits_to(&mut theirs, count).is_ok() && lent::copy_bits(bytes, cursor, count, &mut ours).result.is_ok();
     assert!(skipped && copied && ours == theirs, "the copies differ");
     Sides {
         units: 1,
@@ -33,7 +32,7 @@ fn sides(count: u64, from: u64) -> Sides {
             let _ = black_box((done, &theirs));
         }),
         port: side(move || {
-            let done = exact::copy_bits(black_box(bytes), black_box(cursor), black_box(count), &mut ours);
+            let done = lent::copy_bits(black_box(bytes), black_box(cursor), black_box(count), &mut ours);
             let _ = black_box((done, &ours));
         }),
     }

@@ -5,7 +5,7 @@ use crate::row::{alike, side, Row, Side, Sides, Way};
 use crate::windows;
 use decode::fastarray::{decode_fast_array_delta, ChecksumMode};
 use std::hint::black_box;
-use vrf_proved::exact::{self, FIELD_WORDS, ITEM_WORDS};
+use vrf_proved::lent::{self, FIELD_WORDS, ITEM_WORDS};
 
 /// Buffers as large as a body needs.
 struct Lent {
@@ -16,7 +16,7 @@ struct Lent {
 
 impl Lent {
     fn needed(body: &Bits, flags: bool) -> Self {
-        let [deletes, items, fields] = match exact::fast_array(&body.bytes, body.count, flags, &mut [], &mut [], &mut []) {
+        let [deletes, items, fields] = match lent::fast_array(&body.bytes, body.count, flags, &mut [], &mut [], &mut []) {
             Err(refusal) => refusal.values.map(|n| n as usize),
             Ok(_) => [0; 3],
         };
@@ -42,7 +42,7 @@ impl Lent {
     }
 
     fn read(&mut self, body: &Bits, flags: bool) -> bool {
-        exact::fast_array(&body.bytes, body.count, flags, &mut self.deleted, &mut self.items, &mut self.fields).is_ok()
+        lent::fast_array(&body.bytes, body.count, flags, &mut self.deleted, &mut self.items, &mut self.fields).is_ok()
     }
 }
 

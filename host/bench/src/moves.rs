@@ -6,10 +6,10 @@ use crate::windows::{self, Record};
 use decode::types::{FRepMovement, RotatorQuantization, VectorQuantization};
 use std::hint::black_box;
 use vrf_bitio::BitReader;
-use vrf_proved::exact::{self, LocationScale, Movement, Read, RotationWidth};
+use vrf_proved::lent::{self, LocationScale, Movement, Read, RotationWidth};
 
 fn port(record: &Bits) -> Read<Movement> {
-    exact::movement(
+    lent::movement(
         &record.bytes,
         record.count.into(),
         black_box(RotationWidth::Sixteen),

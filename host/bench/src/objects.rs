@@ -5,7 +5,7 @@ use crate::row::{side, Row, Side, Sides, Way};
 use crate::windows;
 use decode::array::decode_object_ref_array;
 use std::hint::black_box;
-use vrf_proved::exact::{self, PAIR_WORDS};
+use vrf_proved::lent::{self, PAIR_WORDS};
 
 fn sides(window: Bits, way: Way) -> Sides {
     let mut pairs = needed(&window);
@@ -18,7 +18,7 @@ fn sides(window: Bits, way: Way) -> Sides {
     let given = window.clone();
     let walk = move |pairs: &mut [u32]| {
         let window = black_box(&given);
-        black_box(exact::object_array(&window.bytes, window.count, pairs).is_ok());
+        black_box(lent::object_array(&window.bytes, window.count, pairs).is_ok());
     };
     let port = match way {
         Way::Lent => side(move || walk(&mut pairs)),
@@ -33,7 +33,7 @@ fn sides(window: Bits, way: Way) -> Sides {
 }
 
 fn needed(window: &Bits) -> Vec<u32> {
-    match exact::object_array(&window.bytes, window.count, &mut []) {
+    match lent::object_array(&window.bytes, window.count, &mut []) {
         Err(refusal) => vec![0; PAIR_WORDS * refusal.values[0] as usize],
         Ok(_) => Vec::new(),
     }
@@ -42,7 +42,7 @@ fn needed(window: &Bits) -> Vec<u32> {
 fn agree(window: &Bits, pairs: &mut [u32]) -> bool {
     let theirs = decode_object_ref_array(&window.bytes, window.count);
     let owned = vrf_proved::decode_object_ref_array(&window.bytes, window.count);
-    let accepted = exact::object_array(&window.bytes, window.count, pairs).is_ok();
+    let accepted = lent::object_array(&window.bytes, window.count, pairs).is_ok();
     let lent = pairs.chunks_exact(PAIR_WORDS).map(|pair| (pair[0], pair[1]));
     accepted && owned == theirs && lent.eq(theirs)
 }

@@ -7,7 +7,7 @@ use crate::bits::{noise, Bits};
 use crate::row::{side, Row, Sides};
 use std::hint::black_box;
 use vrf_bitio::BitReader;
-use vrf_proved::exact::{self, Cursor, Read};
+use vrf_proved::lent::{self, Cursor, Read};
 
 /// Bits of the window of fixed reads.
 const WINDOW: u64 = 16_384;
@@ -89,7 +89,7 @@ fn fixed(width: u32, from: u64, place: &str) -> [Row; 2] {
         bytes: noise((WINDOW / 8) as usize),
         count: WINDOW as u32,
     };
-    let port = move |bytes: &[u8], cursor| exact::read_bits(bytes, cursor, black_box(width).into());
+    let port = move |bytes: &[u8], cursor| lent::read_bits(bytes, cursor, black_box(width).into());
     let name = format!("{width} bit{}, {place}", if width == 1 { "" } else { "s" });
     [
         Row::new(format!("{name}; Rust inlined"), "read", move || {
@@ -123,11 +123,11 @@ fn packed(bytes: u32, from: u64, place: &str) -> [Row; 2] {
                 NUMBERS,
                 0,
                 |r, _| r.read_int_packed().map(u64::from),
-                exact::read_packed,
+                lent::read_packed,
             )
         }),
         Row::new(format!("{name}; Rust called"), "number", move || {
-            sides(window(), from, NUMBERS, 0, packed_called, exact::read_packed)
+            sides(window(), from, NUMBERS, 0, packed_called, lent::read_packed)
         }),
     ]
 }

@@ -6,7 +6,7 @@ use crate::windows;
 use decode::array as original;
 use std::hint::black_box;
 use std::rc::Rc;
-use vrf_proved::exact::{self, Buffers, Refusal, Tables, Walk, LEAF_WORDS, SCHEMA_NAMES, SCHEMA_ROWS};
+use vrf_proved::lent::{self, Buffers, Refusal, Tables, Walk, LEAF_WORDS, SCHEMA_NAMES, SCHEMA_ROWS};
 
 /// Which call, with which tables.
 #[derive(Clone, Copy, PartialEq)]
@@ -40,7 +40,7 @@ struct Case {
 impl Case {
     fn new(window: Bits, kind: Kind) -> Self {
         let (mut rows, mut names) = (vec![0; SCHEMA_ROWS], vec![0; SCHEMA_NAMES]);
-        let levels = match exact::schema(&mut rows, &mut names) {
+        let levels = match lent::schema(&mut rows, &mut names) {
             Ok(schema) if kind == Kind::Combat => schema.levels,
             _ => 0,
         };
@@ -68,17 +68,17 @@ impl Case {
     fn port(&self, lent: Buffers<'_>) -> Result<Walk, Refusal> {
         let (bytes, bits) = (&self.window.bytes[..], self.window.count);
         if self.kind == Kind::Exact {
-            return exact::struct_array_exact(bytes, bits, &self.declared, &self.pool, lent);
+            return lent::struct_array_exact(bytes, bits, &self.declared, &self.pool, lent);
         }
         let tables = Tables {
             rows: &self.rows,
             levels: self.levels,
-            root: if self.levels == 0 { exact::NONE } else { 1 },
+            root: if self.levels == 0 { lent::NONE } else { 1 },
             names: &self.names,
             declared: &self.declared,
-            pool: &self.pool,
+            declared_names: &self.pool,
         };
-        exact::struct_array(bytes, bits, tables, lent)
+        lent::struct_array(bytes, bits, tables, lent)
     }
 
     fn drop_in(&self) -> Vec<vrf_proved::FlattenedField> {

@@ -2,7 +2,7 @@
 use decode::decode::DecodeError;
 use std::fmt;
 use vrf_bitio::BitError;
-use vrf_proved::exact::Refusal;
+use vrf_proved::lent::Refusal;
 
 /// Where the two differ: in which call, and both answers.
 pub struct Difference {

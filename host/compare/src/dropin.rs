@@ -11,7 +11,7 @@ use decode::fastarray::FastArrayDelta;
 use decode::types::{FRepMovement, RotatorQuantization, VectorQuantization};
 use oracle::answers::counters;
 use oracle::tables::{Links, Names};
-use vrf_proved::exact::{Refusal, Verdict};
+use vrf_proved::lent::{Refusal, Verdict};
 use vrf_proved::{self as port, ArrayFieldSchema, Decoded};
 
 pub fn level(sub_arrays: Links<ArrayFieldSchema>, field_names: Names) -> ArrayFieldSchema {

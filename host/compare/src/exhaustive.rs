@@ -11,7 +11,7 @@ use crate::tables::{Declared, Schema};
 use crate::walk::WalkCase;
 use crate::window::Window;
 use std::rc::Rc;
-use vrf_proved::exact::Cursor;
+use vrf_proved::lent::Cursor;
 
 /// The four walks that short windows are given to.
 pub const WALKS: [&str; 4] = ["S", "S cycle", "X", "O"];

@@ -4,7 +4,7 @@ use crate::lent::Room;
 use crate::port::Desk;
 use crate::window::Window;
 use decode::fastarray::{ChecksumMode, FastArrayDelta, decode_fast_array_delta};
-use vrf_proved::exact::{FIELD_WORDS, FastArray, ITEM_WORDS, Refusal};
+use vrf_proved::lent::{FIELD_WORDS, FastArray, ITEM_WORDS, Refusal};
 
 #[derive(Clone)]
 pub struct FastCase {

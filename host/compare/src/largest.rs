@@ -6,7 +6,7 @@ use crate::tables::{Declared, Schema};
 use crate::walk::WalkCase;
 use crate::window::Window;
 use std::rc::Rc;
-use vrf_proved::exact::LONGEST_WINDOW;
+use vrf_proved::lent::LONGEST_WINDOW;
 
 const MOST: usize = LONGEST_WINDOW as usize;
 

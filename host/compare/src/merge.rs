@@ -5,7 +5,7 @@ use crate::port;
 use crate::walk::port_counters;
 use decode::array::ArrayDecodeStats;
 use oracle::answers::counters;
-use vrf_proved::exact::{RefusedMerge, Verdict};
+use vrf_proved::lent::{RefusedMerge, Verdict};
 
 #[derive(Clone, Debug)]
 pub struct MergeCase {

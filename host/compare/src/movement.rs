@@ -5,7 +5,7 @@ use crate::window::Window;
 use decode::decode::{self as rust, DecodeError};
 use decode::types::{FRepMovement, FRotator, FVector, RotatorQuantization, VectorQuantization};
 use vrf_bitio::BitReader;
-use vrf_proved::exact::{Angles, LocationScale, Movement, Refusal, RotationWidth, Xyz};
+use vrf_proved::lent::{Angles, LocationScale, Movement, Refusal, RotationWidth, Xyz};
 
 #[derive(Clone)]
 pub struct MovementCase {

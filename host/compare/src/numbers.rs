@@ -6,7 +6,7 @@ use crate::rng::Rng;
 use crate::runner::Runner;
 use crate::window::Window;
 use std::collections::BTreeSet;
-use vrf_proved::exact::NONE;
+use vrf_proved::lent::NONE;
 
 fn case(what: What, bits: &Bits) -> Case {
     let window = Window {

@@ -6,7 +6,7 @@ use crate::walk::port_counters;
 use crate::window::Window;
 use decode::array::{ArrayDecodeStats, decode_object_ref_array_with_stats};
 use oracle::answers::counters;
-use vrf_proved::exact::{Objects, PAIR_WORDS, Refusal, Verdict};
+use vrf_proved::lent::{Objects, PAIR_WORDS, Refusal, Verdict};
 
 #[derive(Clone)]
 pub struct ObjectCase(pub Window);

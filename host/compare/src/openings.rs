@@ -4,7 +4,7 @@ use crate::answer::{Difference, Outcome, walked};
 use crate::port::Desk;
 use crate::walk::WalkCase;
 use crate::window::Window;
-use vrf_proved::exact::{LEAF_WORDS, NONE, PAIR_WORDS, Refusal, Verdict};
+use vrf_proved::lent::{LEAF_WORDS, NONE, PAIR_WORDS, Refusal, Verdict};
 
 #[derive(Clone)]
 pub enum OpeningCase {

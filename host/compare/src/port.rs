@@ -3,7 +3,7 @@ use crate::answer::{ReadAnswer, Value};
 use crate::faults::{self, Call};
 use crate::lent::Lent;
 use vrf_proved::ArrayDecodeStats;
-use vrf_proved::exact::{
+use vrf_proved::lent::{
     self, Buffers, Cursor, FastArray, LocationScale, Movement, Objects, Read, Refusal, RefusedMerge, RotationWidth, Tables, Verdict, Walk,
     Xyz,
 };
@@ -31,33 +31,33 @@ impl Desk {
     }
 
     pub fn struct_array(&mut self, bytes: &[u8], bits: u32, tables: Tables<'_>) -> Result<Walk, Refusal> {
-        let mut r = exact::struct_array(bytes, bits, tables, self.buffers());
+        let mut r = lent::struct_array(bytes, bits, tables, self.buffers());
         faults::walk(&mut r, self.buffers());
         r
     }
 
     pub fn struct_array_exact(&mut self, bytes: &[u8], bits: u32, declared: &[u32], pool: &[u8]) -> Result<Walk, Refusal> {
-        let mut r = exact::struct_array_exact(bytes, bits, declared, pool, self.buffers());
+        let mut r = lent::struct_array_exact(bytes, bits, declared, pool, self.buffers());
         faults::walk(&mut r, self.buffers());
         r
     }
 
     pub fn object_array(&mut self, bytes: &[u8], bits: u32) -> Result<Objects, Refusal> {
-        let mut r = exact::object_array(bytes, bits, self.pairs.cells());
+        let mut r = lent::object_array(bytes, bits, self.pairs.cells());
         faults::objects(&mut r, self.pairs.cells());
         r
     }
 
     pub fn fast_array(&mut self, bytes: &[u8], bits: u32, flags: bool) -> Result<FastArray, Refusal> {
         let (deleted, items, fields) = (self.deleted.cells(), self.items.cells(), self.fields.cells());
-        let mut r = exact::fast_array(bytes, bits, flags, deleted, items, fields);
+        let mut r = lent::fast_array(bytes, bits, flags, deleted, items, fields);
         faults::fast(&mut r, deleted, items, fields);
         r
     }
 
     pub fn copy_bits(&mut self, bytes: &[u8], cursor: Cursor, count: u64) -> ReadAnswer {
         let target = self.target.cells();
-        let mut r = exact::copy_bits(bytes, cursor, count, target);
+        let mut r = lent::copy_bits(bytes, cursor, count, target);
         faults::copy(&mut r, count, target);
         of(r, |()| Value::Copied)
     }
@@ -81,45 +81,45 @@ fn doubles(call: Call, mut r: Read<Xyz>) -> ReadAnswer {
 }
 
 pub fn read_bits(bytes: &[u8], cursor: Cursor, count: u64) -> ReadAnswer {
-    number(Call::ReadBits, exact::read_bits(bytes, cursor, count))
+    number(Call::ReadBits, lent::read_bits(bytes, cursor, count))
 }
 
 pub fn read_packed(bytes: &[u8], cursor: Cursor) -> ReadAnswer {
-    number(Call::ReadPacked, exact::read_packed(bytes, cursor))
+    number(Call::ReadPacked, lent::read_packed(bytes, cursor))
 }
 
 pub fn read_serialized(bytes: &[u8], cursor: Cursor, maximum: u32) -> ReadAnswer {
-    number(Call::ReadSerialized, exact::read_serialized(bytes, cursor, maximum))
+    number(Call::ReadSerialized, lent::read_serialized(bytes, cursor, maximum))
 }
 
 pub fn vector(bytes: &[u8], cursor: Cursor, scale: u32) -> ReadAnswer {
-    doubles(Call::Vector, exact::vector(bytes, cursor, scale))
+    doubles(Call::Vector, lent::vector(bytes, cursor, scale))
 }
 
 pub fn normal(bytes: &[u8], cursor: Cursor) -> ReadAnswer {
-    doubles(Call::Normal, exact::normal(bytes, cursor))
+    doubles(Call::Normal, lent::normal(bytes, cursor))
 }
 
 pub fn rotation(bytes: &[u8], cursor: Cursor, width: u32) -> ReadAnswer {
-    let mut r = exact::rotation(bytes, cursor, width);
+    let mut r = lent::rotation(bytes, cursor, width);
     faults::answer(Call::Rotation, &mut r);
     of(r, |v| Value::Floats(v.map(f32::to_bits)))
 }
 
 pub fn movement(bytes: &[u8], count: u64, rotation: RotationWidth, location: LocationScale) -> Read<Movement> {
-    let mut r = exact::movement(bytes, count, rotation, location);
+    let mut r = lent::movement(bytes, count, rotation, location);
     faults::answer(Call::Movement, &mut r);
     r
 }
 
 pub fn merge(left: &ArrayDecodeStats, right: &ArrayDecodeStats) -> Result<ArrayDecodeStats, RefusedMerge> {
-    let mut r = exact::merge(left, right);
+    let mut r = lent::merge(left, right);
     faults::answer(Call::Merge, &mut r);
     r
 }
 
 pub fn verdict(counters: &ArrayDecodeStats) -> Verdict {
-    let mut v = exact::verdict(counters);
+    let mut v = lent::verdict(counters);
     faults::answer(Call::Verdict, &mut v);
     v
 }

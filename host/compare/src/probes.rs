@@ -1,6 +1,6 @@
 //! Calls of the bit reader that callers in C don't have: the library of crate probes, which is for tests only.
 use crate::faults;
-use vrf_proved::exact::Cursor;
+use vrf_proved::lent::Cursor;
 
 /// A window of the bytes and a place in it.
 #[repr(C)]

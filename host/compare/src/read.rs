@@ -6,7 +6,7 @@ use decode::decode as rust;
 use decode::types::{FRotator, FVector};
 use oracle::text::hex;
 use vrf_bitio::{BitError, BitReader};
-use vrf_proved::exact::{Cursor, Refusal};
+use vrf_proved::lent::{Cursor, Refusal};
 
 #[derive(Clone, Copy)]
 pub enum What {

@@ -5,7 +5,7 @@ use crate::port;
 use crate::probes::{self, Probe, ProbeCall, Reader};
 use oracle::text::hex;
 use vrf_bitio::{BitError, BitReader};
-use vrf_proved::exact::{Cursor, LONGEST_WINDOW, Refusal};
+use vrf_proved::lent::{Cursor, LONGEST_WINDOW, Refusal};
 
 #[derive(Clone)]
 pub struct ReaderCase {

@@ -2,7 +2,7 @@
 use crate::answer::{Difference, Outcome, refused, told};
 use crate::port::{self, Desk};
 use crate::window::Window;
-use vrf_proved::exact::{Cursor, LONGEST_WINDOW, LocationScale, NONE, Refusal, RotationWidth, Tables};
+use vrf_proved::lent::{Cursor, LONGEST_WINDOW, LocationScale, NONE, Refusal, RotationWidth, Tables};
 
 #[derive(Clone, Debug, Default)]
 pub struct Lists {
@@ -187,6 +187,6 @@ fn tables(t: &Lists) -> Tables<'_> {
         root: t.root,
         names: &t.names,
         declared: &t.declared,
-        pool: &t.pool,
+        declared_names: &t.pool,
     }
 }

@@ -6,7 +6,7 @@ use oracle::text::hex;
 use std::collections::BTreeSet;
 use std::fmt::Write;
 use std::rc::Rc;
-use vrf_proved::exact::{self, NONE};
+use vrf_proved::lent::{self, NONE};
 
 pub struct Schema {
     pub levels: u32,
@@ -36,8 +36,8 @@ impl Schema {
 
     /// The port's own table of the twelve levels beside the Rust's own statics.
     pub fn twelve(root: u32) -> Rc<Self> {
-        let (mut rows, mut names) = (vec![0; exact::SCHEMA_ROWS], vec![0; exact::SCHEMA_NAMES]);
-        let filled = exact::schema(&mut rows, &mut names).expect("the header's sizes are enough");
+        let (mut rows, mut names) = (vec![0; lent::SCHEMA_ROWS], vec![0; lent::SCHEMA_NAMES]);
+        let filled = lent::schema(&mut rows, &mut names).expect("the header's sizes are enough");
         Rc::new(Self {
             levels: filled.levels,
             root,

@@ -3,7 +3,7 @@ use crate::answer::Difference;
 use crate::faults;
 use crate::lent::{Lent, Room};
 use oracle::tables::builtin;
-use vrf_proved::exact::{self, SCHEMA_NAMES, SCHEMA_ROWS};
+use vrf_proved::lent::{self, SCHEMA_NAMES, SCHEMA_ROWS};
 
 /// The rows of a level and kind with their child or name, in their order.
 fn said(rows: &[u32], names: &[u8], level: u32, kind: u32) -> Vec<(u32, Result<u32, Vec<u8>>)> {
@@ -25,7 +25,7 @@ pub fn check() -> Result<u64, Difference> {
         let lent = room.of(needs);
         rows.lend(lent[0], room.words());
         names.lend(lent[1], room.pattern());
-        let mut answer = exact::schema(rows.cells(), names.cells());
+        let mut answer = lent::schema(rows.cells(), names.cells());
         faults::schema(&mut answer, rows.cells(), names.cells());
         let filled = (rows.front(SCHEMA_ROWS), names.front(SCHEMA_NAMES));
         let same = match (answer, room) {

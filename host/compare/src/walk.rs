@@ -9,7 +9,7 @@ use oracle::answers::counters;
 use oracle::text::{esc, hex};
 use std::fmt;
 use std::rc::Rc;
-use vrf_proved::exact::{LEAF_WORDS, Refusal, Tables, Verdict, Walk};
+use vrf_proved::lent::{LEAF_WORDS, Refusal, Tables, Verdict, Walk};
 
 #[derive(Clone)]
 pub struct WalkCase {
@@ -113,7 +113,7 @@ impl WalkCase {
             root: s.root,
             names: &s.names,
             declared: &d.rows,
-            pool: &d.pool,
+            declared_names: &d.pool,
         };
         desk.struct_array(&w.bytes, w.bits, tables)
     }

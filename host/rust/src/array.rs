@@ -1,6 +1,6 @@
 //! The array walkers under the original's names.
 
-use crate::exact::{self, Refusal, Verdict, LEAF_WORDS, PAIR_WORDS};
+use crate::lent::{self, Refusal, Verdict, LEAF_WORDS, PAIR_WORDS};
 use crate::schema::ArrayFieldSchema;
 use crate::scratch::{self, fit};
 use crate::stats::ArrayDecodeStats;
@@ -75,7 +75,7 @@ pub fn decode_struct_array(
 /// [`decode_struct_array`] with its own counters and verdict, or the refusal: 1, 2 or 5.
 ///
 /// ```
-/// use vrf_proved::exact::Verdict;
+/// use vrf_proved::lent::Verdict;
 /// use vrf_proved::try_decode_struct_array;
 ///
 /// let window = [0x02, 0x02, 0x04, 0x10, 0xab, 0x00, 0x00];
@@ -89,7 +89,7 @@ pub fn decode_struct_array(
 /// // a bit too long, and a name that is a byte too long
 /// assert_eq!(try_decode_struct_array(&window, 524_289, None, &[]).unwrap_err().number, 1);
 /// assert_eq!(try_decode_struct_array(&window, 56, None, &[Some(&"x".repeat(65))]).unwrap_err().number, 2);
-/// # Ok::<(), vrf_proved::exact::Refusal>(())
+/// # Ok::<(), vrf_proved::lent::Refusal>(())
 /// ```
 pub fn try_decode_struct_array(
     data: &[u8],
@@ -98,7 +98,7 @@ pub fn try_decode_struct_array(
     declared: &[Option<&str>],
 ) -> Result<Decoded<FlattenedField>, Refusal> {
     let tables = OwnTables::of(schema, declared);
-    leaves_of(|lent| exact::struct_array(data, bit_count, tables.lent(), lent))
+    leaves_of(|lent| lent::struct_array(data, bit_count, tables.lent(), lent))
 }
 
 /// [`decode_struct_array`] with no schema, and with no zero byte accepted behind the array.
@@ -126,18 +126,18 @@ pub fn decode_struct_array_exact(
 /// [`decode_struct_array_exact`] with its own counters and verdict, or the refusal: 1, 2 or 5.
 ///
 /// ```
-/// use vrf_proved::{exact::Verdict, try_decode_struct_array_exact};
+/// use vrf_proved::{lent::Verdict, try_decode_struct_array_exact};
 ///
 /// let window = [0x02, 0x02, 0x04, 0x10, 0xab, 0x00, 0x00, 0x00];
 /// let walk = try_decode_struct_array_exact(&window, 64, &[])?;
 /// assert_eq!((walk.stats.unconsumed_root_bits, walk.verdict), (8, Verdict::Partial));
 /// assert_eq!(try_decode_struct_array_exact(&window, 56, &[None; 1025]).unwrap_err().number, 2);
-/// # Ok::<(), vrf_proved::exact::Refusal>(())
+/// # Ok::<(), vrf_proved::lent::Refusal>(())
 /// ```
 pub fn try_decode_struct_array_exact(data: &[u8], bit_count: u32, declared: &[Option<&str>]) -> Result<Decoded<FlattenedField>, Refusal> {
     let tables = OwnTables::of(None, declared);
     let tables = tables.lent();
-    leaves_of(|lent| exact::struct_array_exact(data, bit_count, tables.declared, tables.pool, lent))
+    leaves_of(|lent| lent::struct_array_exact(data, bit_count, tables.declared, tables.declared_names, lent))
 }
 
 /// The pairs of index and object in the first `bit_count` bits of `data`. It tells nothing of damage, nor of a refusal, which gives
@@ -174,16 +174,16 @@ pub fn decode_object_ref_array_with_stats(data: &[u8], bit_count: u32, stats: &m
 /// [`decode_object_ref_array_with_stats`] with its own counters and verdict, or refusal 1.
 ///
 /// ```
-/// use vrf_proved::{exact::Verdict, try_decode_object_ref_array};
+/// use vrf_proved::{lent::Verdict, try_decode_object_ref_array};
 ///
 /// let walk = try_decode_object_ref_array(&[0x02, 0x02, 0x04, 0x10, 0x0e, 0x00, 0x00], 48)?;
 /// assert_eq!((walk.values, walk.verdict), (vec![(0, 7)], Verdict::Partial));
 /// assert_eq!(try_decode_object_ref_array(&[], 524_289).unwrap_err().number, 1);
-/// # Ok::<(), vrf_proved::exact::Refusal>(())
+/// # Ok::<(), vrf_proved::lent::Refusal>(())
 /// ```
 pub fn try_decode_object_ref_array(data: &[u8], bit_count: u32) -> Result<Decoded<(u32, u32)>, Refusal> {
     scratch::lend(&PAIRS, |lent: &mut Pairs| {
-        let walk = exact::object_array(data, bit_count, &mut lent.0)?;
+        let walk = lent::object_array(data, bit_count, &mut lent.0)?;
         Ok(Decoded {
             values: lent
                 .0
@@ -234,8 +234,8 @@ impl scratch::Buffers for Leaves {
 }
 
 impl Leaves {
-    fn lent(&mut self) -> exact::Buffers<'_> {
-        exact::Buffers {
+    fn lent(&mut self) -> lent::Buffers<'_> {
+        lent::Buffers {
             leaves: &mut self.records,
             paths: &mut self.paths,
             payloads: &mut self.payloads,
@@ -243,7 +243,7 @@ impl Leaves {
     }
 
     /// The leaves that an accepted walk left here.
-    fn owned(&self, walk: &exact::Walk) -> Vec<FlattenedField> {
+    fn owned(&self, walk: &lent::Walk) -> Vec<FlattenedField> {
         let paths = std::str::from_utf8(&self.paths[..walk.path_bytes]).expect("paths are made of whole names, which were strings");
         let records = self.records.chunks_exact(LEAF_WORDS).take(walk.leaves);
         records.map(|record| field_of(record, paths, &self.payloads)).collect()
@@ -260,7 +260,7 @@ fn field_of(record: &[u32], paths: &str, payloads: &[u8]) -> FlattenedField {
     }
 }
 
-fn leaves_of(walk: impl Fn(exact::Buffers<'_>) -> Result<exact::Walk, Refusal>) -> Result<Decoded<FlattenedField>, Refusal> {
+fn leaves_of(walk: impl Fn(lent::Buffers<'_>) -> Result<lent::Walk, Refusal>) -> Result<Decoded<FlattenedField>, Refusal> {
     scratch::lend(&LEAVES, |lent: &mut Leaves| {
         let walk = walk(lent.lent())?;
         Ok(Decoded {

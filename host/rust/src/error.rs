@@ -1,6 +1,6 @@
 //! Why a movement record can't be read, in the original's terms.
 
-use crate::exact::Refusal;
+use crate::lent::Refusal;
 use std::fmt;
 
 /// A read that failed. Positions count bits of the window.
@@ -58,10 +58,10 @@ impl BitError {
                 position,
                 length,
                 requested,
-            } => (7, [position, length, requested]),
-            Self::MalformedIntPacked { position } => (8, [position, 0, 0]),
-            Self::IntPackedOverflow { position } => (9, [position, 0, 0]),
-            Self::InvalidBitLength { requested, available } => (14, [requested, available, 0]),
+            } => (Refusal::TOO_FEW_BITS, [position, length, requested]),
+            Self::MalformedIntPacked { position } => (Refusal::NUMBER_GOES_ON, [position, 0, 0]),
+            Self::IntPackedOverflow { position } => (Refusal::NUMBER_TOO_LARGE, [position, 0, 0]),
+            Self::InvalidBitLength { requested, available } => (Refusal::PAST_THE_END, [requested, available, 0]),
         };
         Refusal { number, values }
     }
@@ -75,13 +75,13 @@ impl DecodeError {
     ///
     /// let error = DecodeError::BitIo(BitError::Eof { position: 24, length: 26, requested: 3 });
     /// assert_eq!((error.refusal().number, error.refusal().values), (7, [24, 26, 3]));
-    /// assert_eq!(error.to_string(), "refusal 7: 3 bits asked at bit 24 of a window of 26");
+    /// assert_eq!(error.to_string(), "refusal 7: a read asks more bits than the window has left: 3 bits at bit 24 of 26");
     /// ```
     pub fn refusal(&self) -> Refusal {
         match self {
             Self::BitIo(error) => error.refusal(),
             Self::NonFiniteComponent { .. } => Refusal {
-                number: 12,
+                number: Refusal::NOT_FINITE,
                 values: [0; 3],
             },
             Self::Refused(refusal) => *refusal,
@@ -99,17 +99,17 @@ impl From<Refusal> for DecodeError {
     fn from(refusal: Refusal) -> Self {
         let [first, second, third] = refusal.values;
         match refusal.number {
-            7 => Self::BitIo(BitError::Eof {
+            Refusal::TOO_FEW_BITS => Self::BitIo(BitError::Eof {
                 position: first,
                 length: second,
                 requested: third,
             }),
-            8 => Self::BitIo(BitError::MalformedIntPacked { position: first }),
-            9 => Self::BitIo(BitError::IntPackedOverflow { position: first }),
-            12 => Self::NonFiniteComponent {
+            Refusal::NUMBER_GOES_ON => Self::BitIo(BitError::MalformedIntPacked { position: first }),
+            Refusal::NUMBER_TOO_LARGE => Self::BitIo(BitError::IntPackedOverflow { position: first }),
+            Refusal::NOT_FINITE => Self::NonFiniteComponent {
                 context: "quantized vector",
             },
-            14 => Self::BitIo(BitError::InvalidBitLength {
+            Refusal::PAST_THE_END => Self::BitIo(BitError::InvalidBitLength {
                 requested: first,
                 available: second,
             }),

@@ -1,6 +1,6 @@
 //! The fast-array body: replication keys, deleted ids, and the fields of changed items as places in the payload.
 
-use crate::exact::{self, Refusal, FIELD_WORDS, ITEM_WORDS};
+use crate::lent::{self, Refusal, FIELD_WORDS, ITEM_WORDS};
 use crate::scratch::{self, fit};
 use std::cell::Cell;
 
@@ -95,7 +95,7 @@ pub fn decode_fast_array_delta(payload: &[u8], bit_count: u32, checksum_mode: Ch
 pub fn try_decode_fast_array_delta(payload: &[u8], bit_count: u32, checksum_mode: ChecksumMode) -> Result<FastArrayDelta, Refusal> {
     let flags = checksum_mode == ChecksumMode::Present;
     scratch::lend(&BODY, |lent: &mut Body| {
-        let body = exact::fast_array(payload, bit_count, flags, &mut lent.deleted, &mut lent.items, &mut lent.fields)?;
+        let body = lent::fast_array(payload, bit_count, flags, &mut lent.deleted, &mut lent.items, &mut lent.fields)?;
         Ok(lent.delta(&body))
     })
 }
@@ -122,7 +122,7 @@ impl scratch::Buffers for Body {
 }
 
 impl Body {
-    fn delta(&self, body: &exact::FastArray) -> FastArrayDelta {
+    fn delta(&self, body: &lent::FastArray) -> FastArrayDelta {
         let mut fields = self.fields.chunks_exact(FIELD_WORDS).map(|field| RawField {
             handle: field[0],
             payload_bit_offset: field[1],

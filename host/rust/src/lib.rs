@@ -4,9 +4,9 @@
 
 mod array;
 mod error;
-#[allow(unsafe_code)]
-pub mod exact;
 pub mod fastarray;
+#[allow(unsafe_code)]
+pub mod lent;
 mod movement;
 #[allow(unsafe_code)]
 mod raw;

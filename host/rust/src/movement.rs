@@ -1,7 +1,7 @@
 //! The movement reader under the original's name.
 
 use crate::error::DecodeError;
-use crate::exact::{self, Angles, LocationScale, Refusal, RotationWidth, Xyz};
+use crate::lent::{self, Angles, LocationScale, Refusal, RotationWidth, Xyz};
 use crate::types::{FRepMovement, FRotator, FVector, RotatorQuantization, VectorQuantization};
 
 /// The movement record in the first `bit_count` bits of `data`. How rotation and location are sent stands nowhere in the bits: the caller
@@ -40,7 +40,7 @@ pub fn read_rep_movement(
 ///
 /// let past_its_bytes = try_read_rep_movement(&[0x10, 0x08], 27, width, unit).unwrap_err();
 /// assert_eq!((past_its_bytes.number, past_its_bytes.values), (14, [27, 16, 0]));
-/// # Ok::<(), vrf_proved::exact::Refusal>(())
+/// # Ok::<(), vrf_proved::lent::Refusal>(())
 /// ```
 pub fn try_read_rep_movement(
     data: &[u8],
@@ -48,7 +48,7 @@ pub fn try_read_rep_movement(
     rotation: RotatorQuantization,
     location: VectorQuantization,
 ) -> Result<(FRepMovement, u64), Refusal> {
-    let read = exact::movement(data, u64::from(bit_count), width_of(rotation), scale_of(location));
+    let read = lent::movement(data, u64::from(bit_count), width_of(rotation), scale_of(location));
     Ok((record_of(read.result?), read.position))
 }
 
@@ -67,7 +67,7 @@ fn scale_of(location: VectorQuantization) -> LocationScale {
     }
 }
 
-fn record_of(m: exact::Movement) -> FRepMovement {
+fn record_of(m: lent::Movement) -> FRepMovement {
     FRepMovement {
         location: vector_of(m.location),
         rotation: rotator_of(m.rotation),

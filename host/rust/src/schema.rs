@@ -1,6 +1,6 @@
 //! Which handles are arrays, and what handles are called, level by level.
 //!
-//! The twelve levels here are those of the proved table ([`crate::exact::schema`]); tests/schema.rs holds the two together. A walk that
+//! The twelve levels here are those of the proved table ([`crate::lent::schema`]); tests/schema.rs holds the two together. A walk that
 //! starts at one of the six public ones uses the proved table.
 
 /// One level: the fields that the elements of an array have.

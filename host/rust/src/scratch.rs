@@ -1,6 +1,6 @@
 //! Buffers that stay with a thread and are lent to its calls, so that most calls are made once.
 
-use crate::exact::Refusal;
+use crate::lent::Refusal;
 use std::cell::Cell;
 use std::thread::LocalKey;
 
@@ -16,7 +16,11 @@ pub(crate) trait Buffers: Default {
 pub(crate) fn lend<B: Buffers, T>(place: &'static LocalKey<Cell<B>>, call: impl Fn(&mut B) -> Result<T, Refusal>) -> Result<T, Refusal> {
     let mut buffers = place.try_with(Cell::take).unwrap_or_default();
     let mut answer = call(&mut buffers);
-    if let Err(Refusal { number: 3, values }) = answer {
+    if let Err(Refusal {
+        number: Refusal::SHORT_BUFFER,
+        values,
+    }) = answer
+    {
         buffers.make_room(values);
         answer = call(&mut buffers);
     }

@@ -1,6 +1,6 @@
 //! What walks count, and the sum of two counts.
 
-use crate::exact::{self, Refusal, Verdict};
+use crate::lent::{self, Refusal, Verdict};
 use crate::raw;
 
 /// What walks counted. The first two say how much was done, the last five what is damaged or missing.
@@ -56,7 +56,7 @@ impl ArrayDecodeStats {
     /// assert!(full.try_merge_from(&ArrayDecodeStats { fields_emitted: 1, ..Default::default() }).is_ok());
     /// ```
     pub fn try_merge_from(&mut self, other: &Self) -> Result<(), Refusal> {
-        *self = exact::merge(self, other)?;
+        *self = lent::merge(self, other)?;
         Ok(())
     }
 
@@ -70,7 +70,7 @@ impl ArrayDecodeStats {
     /// ```
     #[must_use]
     pub fn is_clean(&self) -> bool {
-        exact::verdict(self) == Verdict::Clean
+        lent::verdict(self) == Verdict::Clean
     }
 
     /// One error more, as for a call that was refused.

@@ -3,7 +3,7 @@
 //! Nothing is refused here. A schema or a list of names beyond the sizes is turned into a table that is beyond them too, and the walk
 //! refuses it in its own order; what lies further beyond is left out, so that no input makes a table large.
 
-use crate::exact::{self, Tables, NONE, SCHEMA_NAMES, SCHEMA_ROWS};
+use crate::lent::{self, Tables, NONE, SCHEMA_NAMES, SCHEMA_ROWS};
 use crate::schema::{level_in_table, ArrayFieldSchema};
 use std::sync::OnceLock;
 
@@ -33,7 +33,7 @@ impl OwnTables {
     pub(crate) fn lent(&self) -> Tables<'_> {
         Tables {
             declared: &self.declared.rows,
-            pool: &self.declared.pool,
+            declared_names: &self.declared.pool,
             ..self.schema.lent()
         }
     }
@@ -87,7 +87,7 @@ impl Table {
         static TWELVE: OnceLock<Table> = OnceLock::new();
         TWELVE.get_or_init(|| {
             let (mut rows, mut names) = (vec![0; SCHEMA_ROWS], vec![0; SCHEMA_NAMES]);
-            let filled = exact::schema(&mut rows, &mut names).expect("the buffers have the sizes that the call names");
+            let filled = lent::schema(&mut rows, &mut names).expect("the buffers have the sizes that the call names");
             Self {
                 rows,
                 names,

@@ -4,7 +4,7 @@
 mod common;
 
 use common::{stats, Window};
-use vrf_proved::exact::{self, Buffers, Cursor, LocationScale, Movement, Read, Refusal, RotationWidth, Tables, Verdict, NONE};
+use vrf_proved::lent::{self, Buffers, Cursor, LocationScale, Movement, Read, Refusal, RotationWidth, Tables, Verdict, NONE};
 
 /// What stands in lent buffers before a call.
 const BYTE: u8 = 0xa5;
@@ -109,9 +109,9 @@ fn struct_walks() {
         root: ROOT,
         names: NAMES,
         declared: &DECLARED,
-        pool: POOL,
+        declared_names: POOL,
     };
-    let walk = |lent: Buffers<'_>| exact::struct_array(&window.bytes, window.bits, tables, lent);
+    let walk = |lent: Buffers<'_>| lent::struct_array(&window.bytes, window.bits, tables, lent);
     let (answer, lent) = at_every_length([25, 56, 7], [5, 56, 7], walk);
     assert_eq!((answer.leaves, answer.path_bytes, answer.payload_bytes), (5, 56, 7));
     assert_eq!(answer.counters, stats([6, 5, 2, 3, 11, 13, 4]));
@@ -127,11 +127,11 @@ fn struct_walks() {
     lent.hold(&leaves.concat(), paths, &[0x05, 0xbc, 0x0a, 0x5d, 0x33, 0x01, 0x19]);
 
     let refused = |bits, tables| {
-        let refusal = exact::struct_array(&window.bytes, bits, tables, Buffers::default()).unwrap_err();
+        let refusal = lent::struct_array(&window.bytes, bits, tables, Buffers::default()).unwrap_err();
         (refusal.number, refusal.values)
     };
     let broken = Tables { root: LEVELS, ..tables };
-    assert_eq!(refused(exact::LONGEST_WINDOW + 1, broken), (1, [0; 3]));
+    assert_eq!(refused(lent::LONGEST_WINDOW + 1, broken), (1, [0; 3]));
     assert_eq!(refused(window.bits, broken), (2, [0; 3]));
     for tables in [
         Tables { levels: 2, ..tables },
@@ -148,7 +148,7 @@ fn struct_walks() {
             ..tables
         },
         Tables {
-            pool: &POOL[1..],
+            declared_names: &POOL[1..],
             ..tables
         },
     ] {
@@ -157,9 +157,9 @@ fn struct_walks() {
     let none = Tables { root: NONE, ..tables };
     assert_eq!(refused(window.bits, none).0, 3, "the tables are checked all the same");
 
-    let cut = exact::struct_array(&window.bytes[1..], window.bits, Tables::NONE, Buffers::default()).unwrap();
+    let cut = lent::struct_array(&window.bytes[1..], window.bits, Tables::NONE, Buffers::default()).unwrap();
     assert_eq!(cut.counters, stats([0, 0, 0, 1, 0, 0, 0]), "a window past its bytes");
-    let empty = exact::struct_array(&[0, 0], 16, Tables::NONE, Buffers::default()).unwrap();
+    let empty = lent::struct_array(&[0, 0], 16, Tables::NONE, Buffers::default()).unwrap();
     assert_eq!((empty.counters, empty.verdict), (stats([0; 7]), Verdict::Clean));
 }
 
@@ -174,7 +174,7 @@ fn exact_walks() {
     let mut window = Window::array(&elements);
     window.push(0, 8);
     let (declared, pool) = ([6, 0, NONE, 0, NONE, 0, 0, 6], b"Deaths");
-    let walk = |lent: Buffers<'_>| exact::struct_array_exact(&window.bytes, window.bits, &declared, pool, lent);
+    let walk = |lent: Buffers<'_>| lent::struct_array_exact(&window.bytes, window.bits, &declared, pool, lent);
     let (answer, lent) = at_every_length([15, 23, 4], [3, 23, 4], walk);
     assert_eq!((answer.leaves, answer.path_bytes, answer.payload_bytes), (3, 23, 4));
     assert_eq!((answer.counters, answer.verdict), (stats([4, 3, 0, 0, 0, 8, 0]), Verdict::Partial));
@@ -182,10 +182,10 @@ fn exact_walks() {
     lent.hold(&leaves.concat(), b"[1].[1].Deaths[2]._h199", &[0x01, 0xcd, 0xab, 0x02]);
 
     let refused = |bytes: &[u8], bits, declared: &[u32], pool: &[u8]| {
-        let refusal = exact::struct_array_exact(bytes, bits, declared, pool, Buffers::default()).unwrap_err();
+        let refusal = lent::struct_array_exact(bytes, bits, declared, pool, Buffers::default()).unwrap_err();
         (refusal.number, refusal.values)
     };
-    assert_eq!(refused(&window.bytes, exact::LONGEST_WINDOW + 1, &declared[1..], pool), (1, [0; 3]));
+    assert_eq!(refused(&window.bytes, lent::LONGEST_WINDOW + 1, &declared[1..], pool), (1, [0; 3]));
     assert_eq!(refused(&window.bytes, window.bits, &declared[1..], pool), (2, [0; 3]));
     assert_eq!(refused(&window.bytes, window.bits, &declared, &pool[1..]), (2, [0; 3]));
 }
@@ -214,37 +214,37 @@ fn object_walks() {
 
     for length in [6, 10] {
         let mut pairs = [WORD; 10];
-        let answer = exact::object_array(&window.bytes, window.bits, &mut pairs[..length]).unwrap();
+        let answer = lent::object_array(&window.bytes, window.bits, &mut pairs[..length]).unwrap();
         assert_eq!((answer.pairs, answer.verdict), (3, Verdict::Partial));
         assert_eq!(answer.counters, stats([7, 3, 0, 2, 19, 21, 0]));
         assert_eq!(pairs, [1, 7, 2, 300, 5, 0, WORD, WORD, WORD, WORD]);
     }
     let mut pairs = [WORD; 5];
-    let short = exact::object_array(&window.bytes, window.bits, &mut pairs).unwrap_err();
+    let short = lent::object_array(&window.bytes, window.bits, &mut pairs).unwrap_err();
     assert_eq!((short.number, short.values, pairs), (3, [3, 0, 0], [WORD; 5]));
-    let long = exact::object_array(&window.bytes, exact::LONGEST_WINDOW + 1, &mut pairs).unwrap_err();
+    let long = lent::object_array(&window.bytes, lent::LONGEST_WINDOW + 1, &mut pairs).unwrap_err();
     assert_eq!((long.number, long.values, pairs), (1, [0; 3], [WORD; 5]));
-    let whole = exact::object_array(&[0, 0], 16, &mut []).unwrap();
+    let whole = lent::object_array(&[0, 0], 16, &mut []).unwrap();
     assert_eq!((whole.pairs, whole.counters, whole.verdict), (0, stats([0; 7]), Verdict::Clean));
 }
 
 #[test]
 fn counters() {
     let left = [1, 2, 3, 4, 5, 6, 7];
-    let sum = exact::merge(&stats(left), &stats([10, 200, 3000, 40_000, 500_000, 6_000_000, 70_000_000]));
+    let sum = lent::merge(&stats(left), &stats([10, 200, 3000, 40_000, 500_000, 6_000_000, 70_000_000]));
     assert_eq!(sum, Ok(stats([11, 202, 3003, 40_004, 500_005, 6_000_006, 70_000_007])));
     for counter in 0..7 {
         let mut right = [80, 81, 82, 83, 84, 85, 86];
         right[counter] = u64::MAX - left[counter] + 1;
         for (a, b) in [(left, right), (right, left)] {
-            let refused = exact::merge(&stats(a), &stats(b)).unwrap_err();
+            let refused = lent::merge(&stats(a), &stats(b)).unwrap_err();
             assert_eq!((refused.number, &refused.left), (4, &stats(a)), "the left counters, as they were");
             assert_eq!(Refusal::from(refused), Refusal { number: 4, values: [0; 3] });
         }
         let mut one = [0; 7];
         one[counter] = 1;
         let verdict = if counter < 2 { Verdict::Clean } else { Verdict::Partial };
-        assert_eq!(exact::verdict(&stats(one)), verdict);
+        assert_eq!(lent::verdict(&stats(one)), verdict);
     }
 }
 
@@ -252,7 +252,7 @@ fn counters() {
 fn schema() {
     for (rows_len, names_len) in [(170, 187), (171, 189)] {
         let (mut rows, mut names) = (vec![WORD; 173], vec![BYTE; 190]);
-        let filled = exact::schema(&mut rows[..rows_len], &mut names[..names_len]).unwrap();
+        let filled = lent::schema(&mut rows[..rows_len], &mut names[..names_len]).unwrap();
         assert_eq!((filled.rows, filled.names, filled.levels), (170, 187, 12));
         assert_eq!(
             (&rows[165..], &names[173..]),
@@ -261,7 +261,7 @@ fn schema() {
     }
     for (rows_len, names_len) in [(169, 187), (170, 186)] {
         let (mut rows, mut names) = (vec![WORD; rows_len], vec![BYTE; names_len]);
-        let short = exact::schema(&mut rows, &mut names).unwrap_err();
+        let short = lent::schema(&mut rows, &mut names).unwrap_err();
         assert_eq!((short.number, short.values), (3, [170, 187, 0]));
         assert!(rows.iter().all(|&cell| cell == WORD) && names.iter().all(|&cell| cell == BYTE));
     }
@@ -294,7 +294,7 @@ fn fast_arrays() {
         let read = |lengths: [usize; 3]| {
             let (mut deleted, mut items, mut fields) = (vec![-1; 9], vec![WORD; 9], vec![WORD; 18]);
             let lent = (&mut deleted[..lengths[0]], &mut items[..lengths[1]], &mut fields[..lengths[2]]);
-            let answer = exact::fast_array(&window.bytes, window.bits, flags, lent.0, lent.1, lent.2);
+            let answer = lent::fast_array(&window.bytes, window.bits, flags, lent.0, lent.1, lent.2);
             (answer, deleted, items, fields)
         };
         for lengths in [[4, 6, 15], [6, 9, 18]] {
@@ -315,12 +315,12 @@ fn fast_arrays() {
             assert_eq!((deleted, items, fields), (vec![-1; 9], vec![WORD; 9], vec![WORD; 18]));
         }
         let refused = |bytes: &[u8], bits, flags| {
-            let refusal = exact::fast_array(bytes, bits, flags, &mut [], &mut [], &mut []).unwrap_err();
+            let refusal = lent::fast_array(bytes, bits, flags, &mut [], &mut [], &mut []).unwrap_err();
             (refusal.number, refusal.values)
         };
         assert_eq!(refused(&window.bytes, window.bits, !flags), (6, [0; 3]));
         assert_eq!(refused(&window.bytes[1..], window.bits, flags), (6, [0; 3]));
-        assert_eq!(refused(&window.bytes, exact::LONGEST_WINDOW + 1, flags), (1, [0; 3]));
+        assert_eq!(refused(&window.bytes, lent::LONGEST_WINDOW + 1, flags), (1, [0; 3]));
     }
 }
 
@@ -341,35 +341,35 @@ fn refused<T: PartialEq + std::fmt::Debug>(read: Read<T>, number: u32, values: [
 #[test]
 fn reads() {
     let five = [0xab, 0xcd, 0xef, 0x01, 0x23];
-    accepted(exact::read_bits(&five, at(4, 5, 36), 13), 0x17e6, 18);
-    accepted(exact::read_bits(&five, at(0, 0, 40), 40), 0x23_01ef_cdab, 40);
-    refused(exact::read_bits(&five, at(4, 5, 36), 32), 7, [5, 36, 32], 5);
-    refused(exact::read_bits(&five, at(4, 5, 36), 65), 13, [0; 3], 5);
-    refused(exact::read_bits(&five[..4], at(4, 5, 36), 65), 14, [36, 32, 0], 5);
+    accepted(lent::read_bits(&five, at(4, 5, 36), 13), 0x17e6, 18);
+    accepted(lent::read_bits(&five, at(0, 0, 40), 40), 0x23_01ef_cdab, 40);
+    refused(lent::read_bits(&five, at(4, 5, 36), 32), 7, [5, 36, 32], 5);
+    refused(lent::read_bits(&five, at(4, 5, 36), 65), 13, [0; 3], 5);
+    refused(lent::read_bits(&five[..4], at(4, 5, 36), 65), 14, [36, 32, 0], 5);
 
     let mut window = Window::of(0x3f, 6);
     window.packed(1000);
     window.packed(u32::MAX);
-    accepted(exact::read_packed(&window.bytes, at(2, 4, 60)), 1000, 20);
-    accepted(exact::read_packed(&window.bytes, at(2, 20, 60)), u64::from(u32::MAX), 60);
-    refused(exact::read_packed(&window.bytes, at(2, 4, 19)), 7, [12, 19, 8], 12);
-    refused(exact::read_packed(&window.bytes[..7], at(2, 4, 60)), 14, [60, 56, 0], 4);
-    refused(exact::read_packed(&[0xff; 6], at(1, 3, 45)), 8, [3, 0, 0], 43);
+    accepted(lent::read_packed(&window.bytes, at(2, 4, 60)), 1000, 20);
+    accepted(lent::read_packed(&window.bytes, at(2, 20, 60)), u64::from(u32::MAX), 60);
+    refused(lent::read_packed(&window.bytes, at(2, 4, 19)), 7, [12, 19, 8], 12);
+    refused(lent::read_packed(&window.bytes[..7], at(2, 4, 60)), 14, [60, 56, 0], 4);
+    refused(lent::read_packed(&[0xff; 6], at(1, 3, 45)), 8, [3, 0, 0], 43);
     let mut high = Window::of(0, 5);
     for byte in [1, 1, 1, 1, 0x20] {
         high.push(byte, 8);
     }
-    refused(exact::read_packed(&high.bytes, at(3, 2, 42)), 9, [2, 0, 0], 42);
+    refused(lent::read_packed(&high.bytes, at(3, 2, 42)), 9, [2, 0, 0], 42);
 
     let mut window = Window::of(0x7f, 7);
     for (value, width) in [(9, 4), (6, 3), (3, 2)] {
         window.push(value, width);
     }
-    accepted(exact::read_serialized(&window.bytes, at(3, 4, 13), 11), 9, 8);
-    accepted(exact::read_serialized(&window.bytes, at(3, 8, 13), 11), 6, 11);
-    refused(exact::read_serialized(&window.bytes, at(3, 11, 13), 11), 7, [11, 13, 3], 11);
-    refused(exact::read_serialized(&window.bytes, at(3, 4, 13), 0), 10, [0; 3], 4);
-    refused(exact::read_serialized(&window.bytes[..1], at(3, 4, 13), 0), 14, [13, 8, 0], 4);
+    accepted(lent::read_serialized(&window.bytes, at(3, 4, 13), 11), 9, 8);
+    accepted(lent::read_serialized(&window.bytes, at(3, 8, 13), 11), 6, 11);
+    refused(lent::read_serialized(&window.bytes, at(3, 11, 13), 11), 7, [11, 13, 3], 11);
+    refused(lent::read_serialized(&window.bytes, at(3, 4, 13), 0), 10, [0; 3], 4);
+    refused(lent::read_serialized(&window.bytes[..1], at(3, 4, 13), 0), 14, [13, 8, 0], 4);
 }
 
 #[test]
@@ -377,7 +377,7 @@ fn copies() {
     let source = [0x21, 0x43, 0x65, 0x87];
     let copy = |bytes, cursor, count, length| {
         let mut target = [BYTE; 8];
-        let read = exact::copy_bits(bytes, cursor, count, &mut target[..length]);
+        let read = lent::copy_bits(bytes, cursor, count, &mut target[..length]);
         (read, target)
     };
     for length in [3, 8] {
@@ -408,21 +408,21 @@ fn push_vector(window: &mut Window, scaled: bool, components: [i64; 3]) {
 fn vectors() {
     let mut window = Window::of(1, 5);
     push_vector(&mut window, true, [-125, 7, 2047]);
-    accepted(exact::vector(&window.bytes, at(3, 2, 45), 100), [-1.25, 0.07, 20.47], 45);
-    refused(exact::vector(&window.bytes, at(3, 2, 44), 100), 7, [9, 44, 36], 9);
-    refused(exact::vector(&window.bytes, at(3, 2, 45), 0), 11, [0; 3], 2);
-    refused(exact::vector(&window.bytes[..5], at(3, 2, 45), 0), 14, [45, 40, 0], 2);
+    accepted(lent::vector(&window.bytes, at(3, 2, 45), 100), [-1.25, 0.07, 20.47], 45);
+    refused(lent::vector(&window.bytes, at(3, 2, 44), 100), 7, [9, 44, 36], 9);
+    refused(lent::vector(&window.bytes, at(3, 2, 45), 0), 11, [0; 3], 2);
+    refused(lent::vector(&window.bytes[..5], at(3, 2, 45), 0), 14, [45, 40, 0], 2);
     let mut infinite = Window::of(0, 3 + 7 + 32);
     infinite.push(0x7f80_0000, 64);
-    refused(exact::vector(&infinite.bytes, at(2, 1, 104), 100), 12, [0; 3], 104);
+    refused(lent::vector(&infinite.bytes, at(2, 1, 104), 100), 12, [0; 3], 104);
 
     let mut window = Window::of(0, 3);
     for axis in [65_535, 32_769, 1] {
         window.push(axis, 16);
     }
-    accepted(exact::normal(&window.bytes, at(1, 2, 50)), [1.0, 1.0 / 32_767.0, -1.0], 50);
-    refused(exact::normal(&window.bytes, at(1, 2, 49)), 7, [34, 49, 16], 34);
-    refused(exact::normal(&window.bytes[..6], at(1, 2, 50)), 14, [50, 48, 0], 2);
+    accepted(lent::normal(&window.bytes, at(1, 2, 50)), [1.0, 1.0 / 32_767.0, -1.0], 50);
+    refused(lent::normal(&window.bytes, at(1, 2, 49)), 7, [34, 49, 16], 34);
+    refused(lent::normal(&window.bytes[..6], at(1, 2, 50)), 14, [50, 48, 0], 2);
 }
 
 #[test]
@@ -431,15 +431,15 @@ fn rotations() {
     for axis in [1, 64, 255] {
         window.push(axis << 1 | 1, 9);
     }
-    accepted(exact::rotation(&window.bytes, at(4, 2, 29), 8), [1.40625, 90.0, 358.59375], 29);
-    refused(exact::rotation(&window.bytes, at(4, 2, 27), 8), 7, [21, 27, 8], 21);
-    refused(exact::rotation(&window.bytes, at(4, 2, 29), 9), 13, [0; 3], 2);
-    refused(exact::rotation(&window.bytes[..4], at(4, 2, 29), 9), 14, [29, 32, 0], 2);
+    accepted(lent::rotation(&window.bytes, at(4, 2, 29), 8), [1.40625, 90.0, 358.59375], 29);
+    refused(lent::rotation(&window.bytes, at(4, 2, 27), 8), 7, [21, 27, 8], 21);
+    refused(lent::rotation(&window.bytes, at(4, 2, 29), 9), 13, [0; 3], 2);
+    refused(lent::rotation(&window.bytes[..4], at(4, 2, 29), 9), 14, [29, 32, 0], 2);
     let mut window = Window::of(1 << 1 | 1, 17);
     window.push(0, 1);
     window.push(65_535 << 1 | 1, 17);
     accepted(
-        exact::rotation(&window.bytes, at(0, 0, 35), 16),
+        lent::rotation(&window.bytes, at(0, 0, 35), 16),
         [360.0 / 65_536.0, 0.0, 359.994_5],
         35,
     );
@@ -491,14 +491,14 @@ fn movements() {
                 let mut window = movement(flags, width);
                 let used = u64::from(window.bits);
                 window.push(0x1f, 5);
-                let read = exact::movement(&window.bytes, u64::from(window.bits), rotation, location);
+                let read = lent::movement(&window.bytes, u64::from(window.bits), rotation, location);
                 accepted(read, expected(flags, scale, step), used);
             }
         }
     }
     let mut window = movement(15, 8);
     let (bits, bytes) = (u64::from(window.bits), window.bytes.len() as u64);
-    let read = |window: &Window, count| exact::movement(&window.bytes, count, Eight, One);
+    let read = |window: &Window, count| lent::movement(&window.bytes, count, Eight, One);
     refused(read(&window, 524_289), 1, [0; 3], 0);
     refused(read(&window, 8 * bytes + 1), 14, [8 * bytes + 1, 8 * bytes, 0], 0);
     refused(read(&window, 60), 7, [57, 60, 8], 57);

@@ -1,7 +1,7 @@
 //! What an error tells: its text, and what failed below it.
 
 use std::error::Error;
-use vrf_proved::exact::{self, Refusal};
+use vrf_proved::lent::{self, Refusal};
 use vrf_proved::{ArrayDecodeStats, BitError, DecodeError};
 
 /// The texts of an error and of all below it.
@@ -18,7 +18,7 @@ fn a_read_that_failed_is_the_source() {
         length: 26,
         requested: 3,
     };
-    let text = "refusal 7: 3 bits asked at bit 24 of a window of 26";
+    let text = "refusal 7: a read asks more bits than the window has left: 3 bits at bit 24 of 26";
     assert_eq!(told(&cut), [text]);
     let error = DecodeError::from(cut.clone());
     assert_eq!(told(&error), [text, text]);
@@ -38,7 +38,7 @@ fn nothing_is_below_a_component_that_is_not_finite() {
     let error = DecodeError::NonFiniteComponent {
         context: "quantized vector",
     };
-    assert_eq!(told(&error), ["refusal 12: a component is a NaN or infinite"]);
+    assert_eq!(told(&error), ["refusal 12: a vector's component is a NaN or infinite"]);
 }
 
 #[test]
@@ -48,7 +48,7 @@ fn a_refused_merge_is_refusal_4() {
         fields_emitted: 3,
         ..Default::default()
     };
-    let refused = exact::merge(&full, &full).unwrap_err();
-    assert_eq!(told(&refused), ["refusal 4: a sum of two counters would pass 2^64 - 1"]);
+    let refused = lent::merge(&full, &full).unwrap_err();
+    assert_eq!(told(&refused), ["refusal 4: a sum of two counters is over 2^64 - 1"]);
     assert_eq!(refused.left, full);
 }

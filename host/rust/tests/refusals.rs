@@ -165,7 +165,7 @@ fn movements() {
     };
     let long = read(&[0; 65_537], TOO_LONG);
     assert!(matches!(&long, DecodeError::Refused(refusal) if refusal.number == 1));
-    assert_eq!(long.to_string(), "refusal 1: the bit count is above 524288");
+    assert_eq!(long.to_string(), "refusal 1: a bit count over 524,288");
 
     let past = BitError::InvalidBitLength {
         requested: 27,

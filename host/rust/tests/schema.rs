@@ -3,7 +3,7 @@
 mod common;
 
 use common::{stats, Random, Window};
-use vrf_proved::exact::{self, SCHEMA_NAMES, SCHEMA_ROWS};
+use vrf_proved::lent::{self, SCHEMA_NAMES, SCHEMA_ROWS};
 use vrf_proved::*;
 
 /// The public statics in the order of their levels, which begin at 1.
@@ -52,7 +52,7 @@ impl Proved {
 #[test]
 fn the_statics_say_what_the_proved_table_says() {
     let (mut rows, mut names) = (vec![0; SCHEMA_ROWS], vec![0; SCHEMA_NAMES]);
-    let filled = exact::schema(&mut rows, &mut names).unwrap();
+    let filled = lent::schema(&mut rows, &mut names).unwrap();
     assert_eq!((filled.rows, filled.names, filled.levels), (SCHEMA_ROWS, SCHEMA_NAMES, 12));
     let rows = rows.chunks_exact(5).map(|row| row.try_into().unwrap()).collect();
     let mut proved = Proved {

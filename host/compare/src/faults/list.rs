@@ -4,8 +4,8 @@ use super::parts::Parts;
 use super::{CLEAN, Call, Fault, GIVEN, LOST, REFUSED, probed};
 use crate::probes::{Probe, ProbeCall};
 use std::sync::OnceLock;
-use vrf_proved::exact::{FastArray, Movement, Objects, Read, Refusal, RefusedMerge, Schema, Walk};
 use vrf_proved::fastarray::FastArrayDelta;
+use vrf_proved::lent::{FastArray, Movement, Objects, Read, Refusal, RefusedMerge, Schema, Walk};
 use vrf_proved::{ArrayDecodeStats, DecodeError, Decoded, FRepMovement, FlattenedField};
 
 const STRUCTS: &[&str] = &["none", "twelve", "tables", "deep", "edges", "exact"];
@@ -21,7 +21,7 @@ pub fn all() -> &'static [Fault] {
     static ALL: OnceLock<Vec<Fault>> = OnceLock::new();
     ALL.get_or_init(|| {
         let mut list = List(vec![]);
-        list.exact();
+        list.lent();
         list.dropin();
         list.further();
         list.0
@@ -56,7 +56,7 @@ impl List {
     }
 
     /// The interface with lent buffers, and the calls for tests.
-    fn exact(&mut self) {
+    fn lent(&mut self) {
         self.answer::<Result<Walk, Refusal>>(Call::Walk, STRUCTS);
         self.buffers(Call::Walk, &[LEAVES, PATHS, PAYLOADS], STRUCTS);
         self.answer::<Result<Objects, Refusal>>(Call::Objects, OBJECTS);

@@ -10,7 +10,7 @@ pub use list::all;
 use parts::Parts;
 use std::cell::Cell;
 use std::fmt;
-use vrf_proved::exact::{
+use vrf_proved::lent::{
     Buffers, FIELD_WORDS, FastArray, ITEM_WORDS, LEAF_WORDS, Objects, PAIR_WORDS, Read, Refusal, Schema, Verdict, Walk,
 };
 

@@ -1,8 +1,8 @@
 //! The parts of an answer, by name, and how each is made wrong. A struct is taken apart without `..`: a field that is added to it has to be
 //! named here too, and then has its fault.
 use crate::probes::{Probe, Reader};
-use vrf_proved::exact::{FastArray, Movement, Objects, Read, Refusal, RefusedMerge, Schema, Verdict, Walk};
 use vrf_proved::fastarray::{ChangedItem, FastArrayDelta, Header, RawField};
+use vrf_proved::lent::{FastArray, Movement, Objects, Read, Refusal, RefusedMerge, Schema, Verdict, Walk};
 use vrf_proved::{ArrayDecodeStats, BitError, DecodeError, Decoded, FRepMovement, FRotator, FVector, FlattenedField};
 
 pub trait Parts {
@@ -70,7 +70,7 @@ macro_rules! structs {
     };
 }
 
-// The exact interface.
+// The interface with lent buffers.
 structs! {
     ArrayDecodeStats {
         elements_decoded: u64, fields_emitted: u64, truncations: u64, errors: u64,

@@ -3,7 +3,7 @@ use super::{BAD, damage, put_packed, random_bits, random_payload};
 use crate::bits::Bits;
 use crate::rng::Rng;
 use crate::tables::{Declared, Schema};
-use vrf_proved::exact::NONE;
+use vrf_proved::lent::NONE;
 
 /// A writer of arrays. Of a hundred numbers `padded` are longer than they need be and `wrong` can't be read or say something else.
 pub struct Writer<'a> {

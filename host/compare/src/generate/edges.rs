@@ -4,7 +4,7 @@ use crate::bits::Bits;
 use crate::rng::Rng;
 use crate::tables::Schema;
 use std::rc::Rc;
-use vrf_proved::exact::NONE;
+use vrf_proved::lent::NONE;
 
 /// What may stand behind the last field or element.
 const ENDS: [&[u8]; 22] = [

@@ -4,7 +4,7 @@ use crate::bits::Bits;
 use crate::fast::FastCase;
 use crate::rng::Rng;
 use crate::window::Window;
-use vrf_proved::exact::NONE;
+use vrf_proved::lent::NONE;
 
 fn wrong_count(rng: &mut Rng, right: u32) -> u32 {
     let any = rng.number() >> 1;

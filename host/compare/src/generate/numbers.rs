@@ -5,7 +5,7 @@ use crate::movement::{MovementCase, SCALES, WIDTHS};
 use crate::read::{ReadCase, What};
 use crate::rng::Rng;
 use crate::window::Window;
-use vrf_proved::exact::NONE;
+use vrf_proved::lent::NONE;
 
 #[rustfmt::skip]
 const SINGLES: [u32; 17] = [

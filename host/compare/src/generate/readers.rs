@@ -3,7 +3,7 @@ use super::random_bits;
 use crate::probes::ProbeCall;
 use crate::reader::ReaderCase;
 use crate::rng::Rng;
-use vrf_proved::exact::{Cursor, LONGEST_WINDOW};
+use vrf_proved::lent::{Cursor, LONGEST_WINDOW};
 
 /// In `ProbeCall::all`: the first that takes a cursor, the first plain read.
 const AT_A_CURSOR: usize = 2;

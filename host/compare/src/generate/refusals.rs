@@ -4,7 +4,7 @@ use crate::merge::MergeCase;
 use crate::refusals::{Lists, ReadCall, RefusalCase};
 use crate::rng::Rng;
 use crate::window::Window;
-use vrf_proved::exact::{Cursor, LONGEST_WINDOW, NONE};
+use vrf_proved::lent::{Cursor, LONGEST_WINDOW, NONE};
 
 pub fn case(rng: &mut Rng) -> RefusalCase {
     match rng.below(10) {

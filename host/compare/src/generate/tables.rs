@@ -2,7 +2,7 @@
 use crate::rng::Rng;
 use crate::tables::{Declared, Schema};
 use std::rc::Rc;
-use vrf_proved::exact::NONE;
+use vrf_proved::lent::NONE;
 
 fn name(rng: &mut Rng) -> String {
     let fixed = [

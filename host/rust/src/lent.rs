@@ -4,20 +4,20 @@
 //! lent buffers afterwards, are those of the proved definitions (crates/exports/src/lib.rt holds the contracts).
 //!
 //! ```
-//! use vrf_proved::exact::{self, Buffers, Tables, Verdict};
+//! use vrf_proved::lent::{self, Buffers, Tables, Verdict};
 //!
 //! // one element with one field: handle 1, the byte AB
 //! let bytes = [0x02, 0x02, 0x04, 0x10, 0xab, 0x00, 0x00];
 //! let (mut leaves, mut paths, mut payloads) = ([0; 5], [0; 7], [0; 1]);
 //! let lent = Buffers { leaves: &mut leaves, paths: &mut paths, payloads: &mut payloads };
-//! let walk = exact::struct_array(&bytes, 56, Tables::NONE, lent)?;
+//! let walk = lent::struct_array(&bytes, 56, Tables::NONE, lent)?;
 //! assert_eq!((walk.leaves, walk.verdict), (1, Verdict::Clean));
 //! assert_eq!((&paths, payloads), (b"[0]._h1", [0xab]));
 //!
 //! // lent too little, it says what it needs and writes nothing
-//! let refused = exact::struct_array(&bytes, 56, Tables::NONE, Buffers::default()).unwrap_err();
+//! let refused = lent::struct_array(&bytes, 56, Tables::NONE, Buffers::default()).unwrap_err();
 //! assert_eq!((refused.number, refused.values), (3, [1, 7, 1]));
-//! # Ok::<(), exact::Refusal>(())
+//! # Ok::<(), lent::Refusal>(())
 //! ```
 
 use crate::raw;
@@ -46,7 +46,7 @@ pub const SCHEMA_NAMES: usize = 187;
 #[derive(Debug, Clone, Copy, PartialEq, Eq)]
 #[must_use]
 pub struct Refusal {
-    /// 1 to 14.
+    /// 1 to 14: one of the constants of this type.
     pub number: u32,
     /// What the number names, in its order; 0 where it names nothing. Of number 3: what each lent buffer needs, in records or bytes. Of
     /// number 4, which names seven counters: 0; [`RefusedMerge`] has them.
@@ -54,31 +54,72 @@ pub struct Refusal {
 }
 
 impl Refusal {
+    /// A bit count over 524,288.
+    pub const TOO_LONG: u32 = 1;
+    /// A schema or declared table breaks its layout or a size, or the root isn't one of its levels.
+    pub const BROKEN_TABLES: u32 = 2;
+    /// A lent buffer is too short.
+    pub const SHORT_BUFFER: u32 = 3;
+    /// A sum of two counters is over 2^64 - 1.
+    pub const COUNTER_OVERFLOW: u32 = 4;
+    /// A path of over 1,024 bytes.
+    pub const PATH_TOO_LONG: u32 = 5;
+    /// The bits aren't a fast-array body, or the bytes aren't as many as the bits take.
+    pub const NOT_FAST_ARRAY: u32 = 6;
+    /// A read asks more bits than the window has left.
+    pub const TOO_FEW_BITS: u32 = 7;
+    /// A packed number's fifth byte says that another follows.
+    pub const NUMBER_GOES_ON: u32 = 8;
+    /// A packed number's fifth byte holds more than 15.
+    pub const NUMBER_TOO_LARGE: u32 = 9;
+    /// A serialized integer is asked with maximum 0.
+    pub const NO_MAXIMUM: u32 = 10;
+    /// A vector is asked with scale 0.
+    pub const NO_SCALE: u32 = 11;
+    /// A vector's component is a NaN or infinite.
+    pub const NOT_FINITE: u32 = 12;
+    /// More than 64 bits are asked in one read, or a rotation's width is neither 8 nor 16.
+    pub const NO_SUCH_WIDTH: u32 = 13;
+    /// A window reaches past its bytes, a cursor past its window or bytes, or a copy's target is too short.
+    pub const PAST_THE_END: u32 = 14;
+
     fn of(number: u32, values: [u64; 3]) -> Self {
         Self { number, values }
+    }
+
+    /// What the number means, in the words of docs/REFUSALS.md.
+    #[must_use]
+    pub fn meaning(&self) -> &'static str {
+        match self.number {
+            Self::TOO_LONG => "a bit count over 524,288",
+            Self::BROKEN_TABLES => "a schema or declared table breaks its layout or a size, or the root isn't one of its levels",
+            Self::SHORT_BUFFER => "a lent buffer is too short",
+            Self::COUNTER_OVERFLOW => "a sum of two counters is over 2^64 - 1",
+            Self::PATH_TOO_LONG => "a path of over 1,024 bytes",
+            Self::NOT_FAST_ARRAY => "the bits aren't a fast-array body, or the bytes aren't as many as the bits take",
+            Self::TOO_FEW_BITS => "a read asks more bits than the window has left",
+            Self::NUMBER_GOES_ON => "a packed number's fifth byte says that another follows",
+            Self::NUMBER_TOO_LARGE => "a packed number's fifth byte holds more than 15",
+            Self::NO_MAXIMUM => "a serialized integer is asked with maximum 0",
+            Self::NO_SCALE => "a vector is asked with scale 0",
+            Self::NOT_FINITE => "a vector's component is a NaN or infinite",
+            Self::NO_SUCH_WIDTH => "more than 64 bits are asked in one read, or a rotation's width is neither 8 nor 16",
+            Self::PAST_THE_END => "a window reaches past its bytes, a cursor past its window or bytes, or a copy's target is too short",
+            _ => "a number that no refusal has",
+        }
     }
 }
 
 impl fmt::Display for Refusal {
     fn fmt(&self, f: &mut fmt::Formatter<'_>) -> fmt::Result {
         let [a, b, c] = self.values;
-        write!(f, "refusal {}: ", self.number)?;
+        write!(f, "refusal {}: {}", self.number, self.meaning())?;
         match self.number {
-            1 => write!(f, "the bit count is above {LONGEST_WINDOW}"),
-            2 => write!(f, "a schema or declared table breaks its layout or a size"),
-            3 => write!(f, "a lent buffer is too short; needed are {a}, {b}, {c}"),
-            4 => write!(f, "a sum of two counters would pass 2^64 - 1"),
-            5 => write!(f, "a path would be longer than 1,024 bytes"),
-            6 => write!(f, "not a fast-array body"),
-            7 => write!(f, "{c} bits asked at bit {a} of a window of {b}"),
-            8 => write!(f, "the packed number at bit {a} goes on behind its fifth byte"),
-            9 => write!(f, "the packed number at bit {a} holds more than 15 in its fifth byte"),
-            10 => write!(f, "a serialized integer with maximum 0"),
-            11 => write!(f, "a vector with scale 0"),
-            12 => write!(f, "a component is a NaN or infinite"),
-            13 => write!(f, "more than 64 bits asked at once, or a rotation of neither 8 nor 16 bits"),
-            14 => write!(f, "{a} bits asked where {b} are available"),
-            _ => write!(f, "a number that no call gives"),
+            Self::SHORT_BUFFER => write!(f, ": needed {a}, {b}, {c}"),
+            Self::TOO_FEW_BITS => write!(f, ": {c} bits at bit {a} of {b}"),
+            Self::NUMBER_GOES_ON | Self::NUMBER_TOO_LARGE => write!(f, ": the number at bit {a}"),
+            Self::PAST_THE_END => write!(f, ": {a} bits of {b}"),
+            _ => Ok(()),
         }
     }
 }
@@ -117,10 +158,10 @@ pub struct Tables<'a> {
     pub root: u32,
     /// The bytes that names of rows lie in.
     pub names: &'a [u8],
-    /// For each handle the start and the length of its name in `pool`; [`NONE`] and 0 for no name.
+    /// For each handle the start and the length of its name in `declared_names`; [`NONE`] and 0 for no name.
     pub declared: &'a [u32],
     /// The bytes that declared names lie in.
-    pub pool: &'a [u8],
+    pub declared_names: &'a [u8],
 }
 
 impl Tables<'_> {
@@ -131,7 +172,7 @@ impl Tables<'_> {
         root: NONE,
         names: &[],
         declared: &[],
-        pool: &[],
+        declared_names: &[],
     };
 }
 
@@ -192,17 +233,17 @@ fn walk_of(w: raw::VrfWalk) -> Result<Walk, Refusal> {
 /// The array of structs in the first `bits` bits, taken apart into leaves. Refusals: 1, 2, 5, 3, in this order.
 ///
 /// ```
-/// # use vrf_proved::exact::{self, Buffers, Tables};
+/// # use vrf_proved::lent::{self, Buffers, Tables};
 /// // one round with one report, whose field 1 holds the byte AB
 /// let bytes = [0x02, 0x02, 0x0a, 0x70, 0x02, 0x02, 0x04, 0x10, 0xab, 0x00, 0x00, 0x00, 0x00];
-/// let (mut rows, mut names) = ([0; exact::SCHEMA_ROWS], [0; exact::SCHEMA_NAMES]);
-/// let levels = exact::schema(&mut rows, &mut names)?.levels;
+/// let (mut rows, mut names) = ([0; lent::SCHEMA_ROWS], [0; lent::SCHEMA_NAMES]);
+/// let levels = lent::schema(&mut rows, &mut names)?.levels;
 /// let tables = Tables { rows: &rows, names: &names, levels, root: 1, ..Tables::NONE };
 /// let (mut leaves, mut paths, mut payloads) = ([0; 5], [0; 18], [0; 1]);
 /// let lent = Buffers { leaves: &mut leaves, paths: &mut paths, payloads: &mut payloads };
-/// assert_eq!(exact::struct_array(&bytes, 104, tables, lent)?.counters.elements_decoded, 2);
+/// assert_eq!(lent::struct_array(&bytes, 104, tables, lent)?.counters.elements_decoded, 2);
 /// assert_eq!((leaves, &paths, payloads), ([0, 18, 1, 8, 0], b"[0].Reports[0]._h1", [0xab]));
-/// # Ok::<(), exact::Refusal>(())
+/// # Ok::<(), lent::Refusal>(())
 /// ```
 #[inline]
 pub fn struct_array(bytes: &[u8], bits: u32, tables: Tables<'_>, lent: Buffers<'_>) -> Result<Walk, Refusal> {
@@ -221,8 +262,8 @@ pub fn struct_array(bytes: &[u8], bits: u32, tables: Tables<'_>, lent: Buffers<'
             t.names.len(),
             t.declared.as_ptr(),
             t.declared.len(),
-            t.pool.as_ptr(),
-            t.pool.len(),
+            t.declared_names.as_ptr(),
+            t.declared_names.len(),
             lent.leaves.as_mut_ptr(),
             lent.leaves.len(),
             lent.paths.as_mut_ptr(),
@@ -236,16 +277,16 @@ pub fn struct_array(bytes: &[u8], bits: u32, tables: Tables<'_>, lent: Buffers<'
 /// The same with no schema, and with no zero byte accepted behind the array. Refusals: 1, 2, 5, 3.
 ///
 /// ```
-/// # use vrf_proved::exact::{self, Buffers, Verdict};
+/// # use vrf_proved::lent::{self, Buffers, Verdict};
 /// let bytes = [0x02, 0x02, 0x04, 0x10, 0xab, 0x00, 0x00, 0x00];
 /// let (mut leaves, mut paths, mut payloads) = ([0; 5], [0; 7], [0; 1]);
 /// let lent = Buffers { leaves: &mut leaves, paths: &mut paths, payloads: &mut payloads };
-/// let walk = exact::struct_array_exact(&bytes, 64, &[], &[], lent)?;
+/// let walk = lent::struct_array_exact(&bytes, 64, &[], &[], lent)?;
 /// assert_eq!((walk.counters.unconsumed_root_bits, walk.verdict), (8, Verdict::Partial));
-/// # Ok::<(), exact::Refusal>(())
+/// # Ok::<(), lent::Refusal>(())
 /// ```
 #[inline]
-pub fn struct_array_exact(bytes: &[u8], bits: u32, declared: &[u32], pool: &[u8], lent: Buffers<'_>) -> Result<Walk, Refusal> {
+pub fn struct_array_exact(bytes: &[u8], bits: u32, declared: &[u32], declared_names: &[u8], lent: Buffers<'_>) -> Result<Walk, Refusal> {
     // SAFETY: as in `struct_array`.
     walk_of(unsafe {
         raw::vrf_struct_array_exact(
@@ -254,8 +295,8 @@ pub fn struct_array_exact(bytes: &[u8], bits: u32, declared: &[u32], pool: &[u8]
             bits,
             declared.as_ptr(),
             declared.len(),
-            pool.as_ptr(),
-            pool.len(),
+            declared_names.as_ptr(),
+            declared_names.len(),
             lent.leaves.as_mut_ptr(),
             lent.leaves.len(),
             lent.paths.as_mut_ptr(),
@@ -269,14 +310,14 @@ pub fn struct_array_exact(bytes: &[u8], bits: u32, declared: &[u32], pool: &[u8]
 /// The array of object references in the first `bits` bits. Refusals: 1, 3.
 ///
 /// ```
-/// # use vrf_proved::exact;
+/// # use vrf_proved::lent;
 /// let bytes = [0x02, 0x02, 0x04, 0x10, 0x0e, 0x00, 0x00];
 /// let mut pairs = [0; 2];
-/// assert_eq!(exact::object_array(&bytes, 56, &mut pairs)?.pairs, 1);
+/// assert_eq!(lent::object_array(&bytes, 56, &mut pairs)?.pairs, 1);
 /// assert_eq!(pairs, [0, 7]);
-/// let short = exact::object_array(&bytes, 56, &mut []).unwrap_err();
+/// let short = lent::object_array(&bytes, 56, &mut []).unwrap_err();
 /// assert_eq!((short.number, short.values), (3, [1, 0, 0]));
-/// # Ok::<(), exact::Refusal>(())
+/// # Ok::<(), lent::Refusal>(())
 /// ```
 #[inline]
 pub fn object_array(bytes: &[u8], bits: u32, pairs: &mut [u32]) -> Result<Objects, Refusal> {
@@ -320,13 +361,13 @@ impl std::error::Error for RefusedMerge {}
 /// The counters of two walks added up, one by one. Refusal 4, with the left counters.
 ///
 /// ```
-/// # use vrf_proved::{exact, ArrayDecodeStats};
+/// # use vrf_proved::{lent, ArrayDecodeStats};
 /// let one = ArrayDecodeStats { errors: 1, ..Default::default() };
-/// assert_eq!(exact::merge(&one, &one)?.errors, 2);
+/// assert_eq!(lent::merge(&one, &one)?.errors, 2);
 /// let full = ArrayDecodeStats { errors: u64::MAX, ..Default::default() };
-/// let refused = exact::merge(&full, &one).unwrap_err();
+/// let refused = lent::merge(&full, &one).unwrap_err();
 /// assert_eq!((refused.number, refused.left), (4, full));
-/// # Ok::<(), exact::Refusal>(())
+/// # Ok::<(), lent::Refusal>(())
 /// ```
 #[inline]
 pub fn merge(left: &ArrayDecodeStats, right: &ArrayDecodeStats) -> Result<ArrayDecodeStats, RefusedMerge> {
@@ -342,9 +383,9 @@ pub fn merge(left: &ArrayDecodeStats, right: &ArrayDecodeStats) -> Result<ArrayD
 /// The verdict on what a walk counted.
 ///
 /// ```
-/// # use vrf_proved::{exact::{self, Verdict}, ArrayDecodeStats};
-/// assert_eq!(exact::verdict(&ArrayDecodeStats { fields_emitted: 1, ..Default::default() }), Verdict::Clean);
-/// assert_eq!(exact::verdict(&ArrayDecodeStats { truncations: 1, ..Default::default() }), Verdict::Partial);
+/// # use vrf_proved::{lent::{self, Verdict}, ArrayDecodeStats};
+/// assert_eq!(lent::verdict(&ArrayDecodeStats { fields_emitted: 1, ..Default::default() }), Verdict::Clean);
+/// assert_eq!(lent::verdict(&ArrayDecodeStats { truncations: 1, ..Default::default() }), Verdict::Partial);
 /// ```
 #[inline]
 pub fn verdict(counters: &ArrayDecodeStats) -> Verdict {
@@ -369,12 +410,12 @@ pub struct Schema {
 /// The twelve levels, to the front of both buffers. Refusal 3 (needed: [`SCHEMA_ROWS`], [`SCHEMA_NAMES`]).
 ///
 /// ```
-/// # use vrf_proved::exact::{self, SCHEMA_NAMES, SCHEMA_ROWS};
+/// # use vrf_proved::lent::{self, SCHEMA_NAMES, SCHEMA_ROWS};
 /// let (mut rows, mut names) = ([0; SCHEMA_ROWS], [0; SCHEMA_NAMES]);
-/// assert_eq!(exact::schema(&mut rows, &mut names)?.levels, 12);
-/// let short = exact::schema(&mut rows[1..], &mut names).unwrap_err();
+/// assert_eq!(lent::schema(&mut rows, &mut names)?.levels, 12);
+/// let short = lent::schema(&mut rows[1..], &mut names).unwrap_err();
 /// assert_eq!((short.number, short.values), (3, [170, 187, 0]));
-/// # Ok::<(), exact::Refusal>(())
+/// # Ok::<(), lent::Refusal>(())
 /// ```
 pub fn schema(rows: &mut [u32], names: &mut [u8]) -> Result<Schema, Refusal> {
     // SAFETY: as in `struct_array`.
@@ -413,15 +454,15 @@ pub struct FastArray {
 /// Refusals: 1, 6, 3 (needed: deletes, items, fields).
 ///
 /// ```
-/// # use vrf_proved::exact;
+/// # use vrf_proved::lent;
 /// // the leading bit; keys 1 and 0; one id deleted, which is 5; nothing changed
 /// let mut body = [0u8; 21];
 /// (body[0], body[8], body[16]) = (0x03, 0x02, 0x0a);
 /// let mut deleted = [0; 1];
-/// let read = exact::fast_array(&body, 161, false, &mut deleted, &mut [], &mut [])?;
+/// let read = lent::fast_array(&body, 161, false, &mut deleted, &mut [], &mut [])?;
 /// assert_eq!((read.key, read.deletes, read.used, deleted), (1, 1, 161, [5]));
-/// assert_eq!(exact::fast_array(&body, 160, false, &mut deleted, &mut [], &mut []).unwrap_err().number, 6);
-/// # Ok::<(), exact::Refusal>(())
+/// assert_eq!(lent::fast_array(&body, 160, false, &mut deleted, &mut [], &mut []).unwrap_err().number, 6);
+/// # Ok::<(), lent::Refusal>(())
 /// ```
 #[inline]
 pub fn fast_array(
@@ -523,12 +564,12 @@ fn number_of(r: raw::VrfRead) -> Read<u64> {
 /// The next `count` bits, at most 64, as one number, the first bit lowest. Refusals: 14, 13, 7.
 ///
 /// ```
-/// # use vrf_proved::exact::{self, Cursor};
-/// let read = exact::read_bits(&[0xab, 0x01], Cursor::over(9), 4);
+/// # use vrf_proved::lent::{self, Cursor};
+/// let read = lent::read_bits(&[0xab, 0x01], Cursor::over(9), 4);
 /// assert_eq!((read.result, read.position), (Ok(0xb), 4));
-/// let cut = exact::read_bits(&[0xab, 0x01], Cursor::over(9), 10).result.unwrap_err();
+/// let cut = lent::read_bits(&[0xab, 0x01], Cursor::over(9), 10).result.unwrap_err();
 /// assert_eq!((cut.number, cut.values), (7, [0, 9, 10]));
-/// assert_eq!(exact::read_bits(&[0xab], Cursor::over(9), 4).result.unwrap_err().number, 14);
+/// assert_eq!(lent::read_bits(&[0xab], Cursor::over(9), 4).result.unwrap_err().number, 14);
 /// ```
 #[inline]
 pub fn read_bits(bytes: &[u8], cursor: Cursor, count: u64) -> Read<u64> {
@@ -539,10 +580,10 @@ pub fn read_bits(bytes: &[u8], cursor: Cursor, count: u64) -> Read<u64> {
 /// A packed number. Refusals: 14, 7, 8, 9.
 ///
 /// ```
-/// # use vrf_proved::exact::{self, Cursor};
-/// let read = exact::read_packed(&[0x03, 0x02], Cursor::over(16));
+/// # use vrf_proved::lent::{self, Cursor};
+/// let read = lent::read_packed(&[0x03, 0x02], Cursor::over(16));
 /// assert_eq!((read.result, read.position), (Ok(129), 16));
-/// let endless = exact::read_packed(&[0xff; 6], Cursor::over(48));
+/// let endless = lent::read_packed(&[0xff; 6], Cursor::over(48));
 /// assert_eq!((endless.result.unwrap_err().number, endless.position), (8, 40));
 /// ```
 #[inline]
@@ -554,10 +595,10 @@ pub fn read_packed(bytes: &[u8], cursor: Cursor) -> Read<u64> {
 /// An integer below `maximum`. Refusals: 14, 10, 7.
 ///
 /// ```
-/// # use vrf_proved::exact::{self, Cursor};
-/// let read = exact::read_serialized(&[0b10], Cursor::over(8), 3);
+/// # use vrf_proved::lent::{self, Cursor};
+/// let read = lent::read_serialized(&[0b10], Cursor::over(8), 3);
 /// assert_eq!((read.result, read.position), (Ok(2), 2));
-/// assert_eq!(exact::read_serialized(&[0b10], Cursor::over(8), 0).result.unwrap_err().number, 10);
+/// assert_eq!(lent::read_serialized(&[0b10], Cursor::over(8), 0).result.unwrap_err().number, 10);
 /// ```
 #[inline]
 pub fn read_serialized(bytes: &[u8], cursor: Cursor, maximum: u32) -> Read<u64> {
@@ -568,9 +609,9 @@ pub fn read_serialized(bytes: &[u8], cursor: Cursor, maximum: u32) -> Read<u64> 
 /// The next `count` bits to the front of `target`; the last byte's spare bits become 0. Refusals: 14, 14 for the target, 7.
 ///
 /// ```
-/// # use vrf_proved::exact::{self, Cursor};
+/// # use vrf_proved::lent::{self, Cursor};
 /// let mut target = [0xee; 2];
-/// let copied = exact::copy_bits(&[0xab, 0xcd], Cursor { start: 0, pos: 4, len: 16 }, 10, &mut target);
+/// let copied = lent::copy_bits(&[0xab, 0xcd], Cursor { start: 0, pos: 4, len: 16 }, 10, &mut target);
 /// assert_eq!((copied.result, copied.position, target), (Ok(()), 14, [0xda, 0x00]));
 /// ```
 #[inline]
@@ -600,10 +641,10 @@ fn angles(v: raw::VrfAngles) -> Angles {
 /// A quantized vector. Refusals: 14, 11, 7, 12.
 ///
 /// ```
-/// # use vrf_proved::exact::{self, Cursor};
-/// let read = exact::vector(&[0x81, 0x00], Cursor::over(10), 1);
+/// # use vrf_proved::lent::{self, Cursor};
+/// let read = lent::vector(&[0x81, 0x00], Cursor::over(10), 1);
 /// assert_eq!((read.result, read.position), (Ok([-1.0, 0.0, 0.0]), 10));
-/// assert_eq!(exact::vector(&[0x81, 0x00], Cursor::over(10), 0).result.unwrap_err().number, 11);
+/// assert_eq!(lent::vector(&[0x81, 0x00], Cursor::over(10), 0).result.unwrap_err().number, 11);
 /// ```
 #[inline]
 pub fn vector(bytes: &[u8], cursor: Cursor, scale: u32) -> Read<Xyz> {
@@ -615,8 +656,8 @@ pub fn vector(bytes: &[u8], cursor: Cursor, scale: u32) -> Read<Xyz> {
 /// A fixed-point normal. Refusals: 14, 7.
 ///
 /// ```
-/// # use vrf_proved::exact::{self, Cursor};
-/// let read = exact::normal(&[0xff, 0xff, 0x00, 0x80, 0x01, 0x00], Cursor::over(48));
+/// # use vrf_proved::lent::{self, Cursor};
+/// let read = lent::normal(&[0xff, 0xff, 0x00, 0x80, 0x01, 0x00], Cursor::over(48));
 /// assert_eq!(read.result, Ok([1.0, 0.0, -1.0]));
 /// ```
 #[inline]
@@ -629,10 +670,10 @@ pub fn normal(bytes: &[u8], cursor: Cursor) -> Read<Xyz> {
 /// A rotation of 8 or 16 bits an axis. Refusals: 14, 13, 7.
 ///
 /// ```
-/// # use vrf_proved::exact::{self, Cursor};
-/// let read = exact::rotation(&[0x81, 0x00], Cursor::over(11), 8);
+/// # use vrf_proved::lent::{self, Cursor};
+/// let read = lent::rotation(&[0x81, 0x00], Cursor::over(11), 8);
 /// assert_eq!((read.result, read.position), (Ok([90.0, 0.0, 0.0]), 11));
-/// assert_eq!(exact::rotation(&[0x81, 0x00], Cursor::over(11), 9).result.unwrap_err().number, 13);
+/// assert_eq!(lent::rotation(&[0x81, 0x00], Cursor::over(11), 9).result.unwrap_err().number, 13);
 /// ```
 #[inline]
 pub fn rotation(bytes: &[u8], cursor: Cursor, width: u32) -> Read<Angles> {
@@ -687,12 +728,12 @@ pub enum LocationScale {
 /// its parts (7, 8, 9, 12).
 ///
 /// ```
-/// # use vrf_proved::exact::{self, LocationScale, RotationWidth};
-/// let read = exact::movement(&[0x10, 0x08, 0x02, 0x00], 27, RotationWidth::Eight, LocationScale::One);
+/// # use vrf_proved::lent::{self, LocationScale, RotationWidth};
+/// let read = lent::movement(&[0x10, 0x08, 0x02, 0x00], 27, RotationWidth::Eight, LocationScale::One);
 /// assert_eq!((read.result?.location, read.position), ([-1.0, 0.0, 0.0], 27));
-/// let cut = exact::movement(&[0x10, 0x08, 0x02, 0x00], 26, RotationWidth::Eight, LocationScale::One).result.unwrap_err();
+/// let cut = lent::movement(&[0x10, 0x08, 0x02, 0x00], 26, RotationWidth::Eight, LocationScale::One).result.unwrap_err();
 /// assert_eq!((cut.number, cut.values), (7, [24, 26, 3]));
-/// # Ok::<(), exact::Refusal>(())
+/// # Ok::<(), lent::Refusal>(())
 /// ```
 #[inline]
 pub fn movement(bytes: &[u8], count: u64, rotation: RotationWidth, location: LocationScale) -> Read<Movement> {
