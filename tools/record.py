@@ -266,7 +266,10 @@ def fast(words, answer):
         return front + body(answer[1:])
     if answer[:1] != ["ERR"]:
         raise Broken("no answer of a fast array")
-    return front + refusal(answer[1:], 0)[0]
+    refused, rest = refusal(answer[1:], 0)
+    if rest:
+        raise Broken("words after the answer")
+    return front + refused
 
 
 # ---- walks

@@ -1,4 +1,4 @@
-"""The public calls: what callers of a crate in PUBLIC can name.
+"""The public calls: what callers of a crate in PUBLIC, or of a module in PUBLIC_MODULES, can name.
 
 A `pub fn` of src/lib.rt or of a module that is `pub mod` all the way down is one. A `pub use` of a function, wherever that function
 stands, makes a call of the same demands, by the name of the module that passes it on. What can't be followed is a fault: a `pub use` of
@@ -8,7 +8,7 @@ import re
 from dataclasses import dataclass
 
 from .code import CLAUSE, without_comments
-from .repository import PUBLIC
+from .repository import PUBLIC, PUBLIC_MODULES
 
 
 @dataclass(frozen=True)
@@ -101,7 +101,8 @@ def public_calls(code, report):
             if public and name not in held.inline:
                 visit(crate, f"{module}::{name}" if module else name)
 
-    for crate in PUBLIC:
+    for crate in PUBLIC + sorted({crate for crate, _ in PUBLIC_MODULES}):
         all_is_read(code, crate, report)
-        visit(crate, "")
+    for crate, module in PUBLIC_MODULES + [(crate, "") for crate in PUBLIC]:
+        visit(crate, module)
     return list(found.values())

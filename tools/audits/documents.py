@@ -1,4 +1,4 @@
-"""Names in docs/ exist, edits among them, and no file holds a path of a machine."""
+"""Names in docs/ exist, edits among them; sections of 01 that comments name are in docs/RULES.md; no file holds a path of a machine."""
 import re
 
 from .definitions import file_of
@@ -9,6 +9,11 @@ MACHINE = re.compile(r"(?<![\w.])/(?:home|root|work|opt|tmp|Users|mnt|srv|var)/"
 BINARY = (".bin", ".gz")
 # `must-fail (crate) name, name, (crate) name`, or `edits` so: where edits stand that a rule names
 TRIED = re.compile(r"\b(must-fail|edits)((?:[,:/]? *(?:\(\w+\)|[a-z0-9]+_\w+))+)")
+
+RULES = "docs/RULES.md"
+# `01, Walking an array, rules 6 and 8` in a comment, or another section behind a semicolon
+SECTION = re.compile(r"\b01, ([A-Z][a-z-]*(?: [a-z]+)*)((?:; [A-Z][a-z-]*(?: [a-z]+)*)*)")
+NUMBERS = re.compile(r"\b[Rr]ules? (\d+(?:, \d+)*(?: (?:and|to) \d+)?)")
 
 
 def names_exist(repository, report):
@@ -47,6 +52,25 @@ def tried_exist(repository, report):
                     continue
                 found = any(always == (folder == "must-fail") and owner == (crate or owner) and name == word for always, owner, name in known)
                 report.hold(found, f"{path.split('/')[-1]} names the edit {word} of {folder}{f' ({crate})' if crate else ''}, which isn't there")
+
+
+def sections_exist(repository, report):
+    """Every section and every rule of 01 that a comment in crates/ names stands in docs/RULES.md, in our words."""
+    text = repository.text(RULES) or ""
+    headings = re.findall(r"^## (.+)$", text, re.M)
+    walking = text.partition("## Walking an array")[2].partition("\n## ")[0]
+    rules = re.findall(r"^(\d+)\. ", walking, re.M)
+    for path in repository.find("crates/**/*.antt") + repository.find("crates/**/*.rt"):
+        for line in repository.text(path).splitlines():
+            said = re.search(r"(?:--|//) (.*)", line)
+            if not said:
+                continue
+            for first, others in SECTION.findall(said[1]):
+                for name in [first] + [o for o in others.split("; ") if o]:
+                    report.hold(any(name.startswith(h) for h in headings), f"{path} names 01's section {name}, which {RULES} doesn't have")
+            for listed in NUMBERS.findall(said[1]):
+                missing = [n for n in re.findall(r"\d+", listed) if n not in rules]
+                report.hold(not missing, f"{path} names rule {', '.join(missing)}, which {RULES} doesn't have")
 
 
 def no_machine(repository, report):

@@ -24,10 +24,12 @@ RUST_WORDS = [r"\blink_name\b", r"\bexport_name\b", r"\bcfg\b", r"repr\((?!C\)\]
 CONSTANTS = {
     "crates/schema/src/twelve.rt": {"LEVELS": "VRF_SCHEMA_LEVELS", "ROW_NUMBERS": "VRF_SCHEMA_ROWS", "NAME_BYTES": "VRF_SCHEMA_NAMES"},
     "crates/schema/src/lib.rt": {"ABSENT": "VRF_NONE"},
+    "crates/bits/src/sizes.rt": {},
     "crates/array/src/lib.rt": {},
     "crates/steps/src/leaves.rt": {},
+    "crates/outputs/src/records.rt": {},
     RAW: {},
-    "host/rust/src/exact.rs": {},
+    "host/rust/src/lent.rs": {},
 }
 
 

@@ -5,10 +5,11 @@ from .calls import public_calls
 from .code import Code
 from .contracts import cited, contract_of, relations_exist
 from .definitions import Definitions
-from .documents import names_exist, no_machine, tried_exist
+from .documents import names_exist, no_machine, sections_exist, tried_exist
 from .edits import edits_of, touched
 from .interface import interface_is_one
 from .reach import Reach
+from .refusals import refusals_agree
 from .repository import Report, Repository
 from .statements import statements_stand
 from .table import DOCUMENT, hold_edits, hold_table, lists_below, row_of, stated_of, wrong_answers
@@ -58,9 +59,11 @@ def look(root):
     hold_table(repository, seen.rows, seen.below, report)
     hold_edits(repository, report)
     interface_is_one(repository, report)
+    refusals_agree(repository, report)
     all_is_checked(repository, report)
     proofs_are_whole(repository, report)
     names_exist(repository, report)
     tried_exist(repository, report)
+    sections_exist(repository, report)
     no_machine(repository, report)
     return seen

@@ -4,17 +4,19 @@ import re
 CURSORS = {"Cursor", "VrfCursor"}
 COUNTS = {"bits", "count"}
 # bytes that are no window: pools of names
-POOLS = {"names", "pool", "declared_names", "declared_pool", "schema_pool"}
+POOLS = {"names", "declared_names"}
 
 # calls that answer everything: they have no refusal to order
 NEVER_REFUSE = {"bitio::new", "array::stats::is_clean", "array::stats::verdict", "exports::vrf_verdict", "schema::twelve::public_levels"}
-NEVER_REFUSING = ("schema::decimal::", "schema::labels::", "schema::lookup::", "schema::spans::")
+NEVER_REFUSING = ("bits::decimal::", "bits::digits::", "schema::labels::", "schema::lookup::", "schema::spans::")
+# the module of a crate that says what a refusal is: it is asked of an answer, and refuses nothing itself
+SAYING = "said"
 # walks: a cut window is the front of the whole one
 CUT = {"array::decode_struct_array", "array::decode_struct_array_exact", "array::decode_object_ref_array"}
 
 
 def refuses(call):
-    return call.name not in NEVER_REFUSE and not call.name.startswith(NEVER_REFUSING)
+    return call.name not in NEVER_REFUSE and not call.name.startswith(NEVER_REFUSING) and call.node[1] != SAYING
 
 
 def window_of(call):

@@ -7,6 +7,8 @@ from pathlib import Path
 
 # crates whose `pub fn` callers outside may name
 PUBLIC = ["bitio", "schema", "array", "fastarray", "geometry", "exports"]
+# modules of other crates that they may name too: (crate, module)
+PUBLIC_MODULES = [("bits", "digits"), ("bits", "decimal")]
 
 
 class Repository:

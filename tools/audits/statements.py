@@ -35,11 +35,11 @@ STATED = {
 
         pub data BeforeTail (all : Room) (records : List ℕ) : (shared : Room) → Type 0 where
           no-tail : BeforeTail all records all
-          tail-off : {n : Room} → suc (n .leaves) ≡ all .leaves → getD records (leafWords * n .leaves + 2) 0 ≡ rawHandle
-              → getD records (leafWords * n .leaves + 0) 0 ≡ n .pathBytes → getD records (leafWords * n .leaves + 4) 0 ≡ n .payloadBytes
+          tail-off : {n : Room} → suc (n .leaves) ≡ all .leaves → leafNumber records (n .leaves) handleAt ≡ rawHandle
+              → leafNumber records (n .leaves) pathStartAt ≡ n .pathBytes → leafNumber records (n .leaves) payloadStartAt ≡ n .payloadBytes
               → BeforeTail all records n
 
-        abbrev pub NotClean : Walk → (bytes : List ℕ) (n m : ℕ) → (long short : Verdict) → Type 0
+        abbrev pub NotClean : Walker → (bytes : List ℕ) (n m : ℕ) → (long short : Verdict) → Type 0
         NotClean k bytes n m long short = long ≡ Clean → m < n → short ≡ Clean → Excused k (windowOf bytes n) m
 
         pub record Begins (short long : Call) (v w : Verdict) (e f : Room) (x y : Lent) : Type 0 where
@@ -57,7 +57,7 @@ STATED = {
           pub not-clean : NotClean object longer n m w v
         """,
     ("framing", "specs/Demand"): """
-        pub data Excused (k : Walk) (w : Window) (m : ℕ) : Type 0 where
+        pub data Excused (k : Walker) (w : Window) (m : ℕ) : Type 0 where
           nothing-sent : silent k m ≡ true → Excused k w m
           lacks-trailer : (sinkOf k) .trailer ≡ true → m + trailerBits ≡ w .size → field (w .bits) m trailerBits ≡ 0 → Excused k w m
         """,

@@ -9,6 +9,10 @@ PROOFS = "crates/promises/proofs"
 PROMISES = "docs/PROMISES.md"
 HEADER = "host/c/vrf.h"
 RAW = "host/rust/src/raw.rs"
+REFUSALS = "docs/REFUSALS.md"
+LENT = "host/rust/src/lent.rs"
+TELL = "crates/tell/src/refusals.rt"
+EXAMPLE = "host/c/example.c"
 
 TRIALS = [
     # ---- contracts
@@ -26,7 +30,7 @@ TRIALS = [
      "⌜ r ≡ endOf (now (bytes .entry)) c ⌝", "⌜ good (now (bytes .entry)) c ≡ true → r ≡ endOf (now (bytes .entry)) c ⌝", ["bitio::at_end", "clause"]),
     ("a `requires` on a public call", "crates/schema/src/lookup.rt",
      "    ensures { λ r. ⌜ r ≡ rowOf", "    requires { ⌜ level < 64 ⌝ }\n    ensures { λ r. ⌜ r ≡ rowOf", ["schema::lookup::row_of", "requires"]),
-    ("a relation that says nothing in a relation's place", "crates/array/src/lib.rt", "⌜ Decodes (exactCall", "⌜ Tells (exactCall", ["array::decode_struct_array_exact", "clause"]),
+    ("a relation that says nothing in a relation's place", "crates/array/src/lib.rt", "⌜ Decodes\n        (exactCall", "⌜ Tells\n        (exactCall", ["array::decode_struct_array_exact", "clause"]),
     ("a relation of a part of the answer", EXPORTS, "⌜ Judges (countersIn counters) r ⌝", "⌜ Judges (countersIn counters) (lowest r) ⌝", ["exports::vrf_verdict", "clause"]),
     ("a contract in a comment", BITIO,
      "    ensures { λ r. ⌜ r ≡ wholeOf (now (bytes .entry)) ⌝ }", "    // ensures { λ r. ⌜ r ≡ wholeOf (now (bytes .entry)) ⌝ }", ["bitio::new", "no contract"]),
@@ -87,13 +91,15 @@ TRIALS = [
     ("an axiom", "crates/bits/proofs/Never.antt", "\npub ", "\naxiom pub all : ⊥\npub ", ["Never", "axiom"]),
     ("functions of C taken for granted", "crates/words/src/lib.rt", "\npub fn ", '\nextern "C" {\n    fn write(n: u32) -> u32;\n}\n\npub fn ', ["crates/words/src/lib.rt", "imports"]),
     # ---- edits and the table
-    ("an edit that no longer fits", BITIO, "if 524288 < count {", "if 524_288 < count {", ["open_one_bit_too_long", "fit"]),
+    ("an edit that no longer fits", BITIO, "if (LONGEST_WINDOW as u64) < count {", "if count > (LONGEST_WINDOW as u64) {", ["open_one_bit_too_long", "fit"]),
     ("a row with edits that its call never reaches", PROMISES, "| `DeterminedBitio.one-read-bits` | `bitio/", "| `DeterminedBitio.one-read-bits` | `bitio/take_from_the_count`, `bitio/", ["bitio::read_bits", "stale"]),
     ("a row with another definition", PROMISES, "| `bitio::len_bits` | `lengthOf` |", "| `bitio::len_bits` | `positionOf` |", ["bitio::len_bits", "stale"]),
     ("a row left out", PROMISES, "| `bitio::at_end` |", "| bitio::at_end |", ["bitio::at_end", "no row"]),
-    ("a document names what isn't there", PROMISES, "`bitio/specs/Cursors.longestWindow`", "`bitio/specs/Cursors.longestWidow`", ["longestWidow"]),
+    ("a document names what isn't there", PROMISES, "`bits/specs/Sizes.longestWindow`", "`bits/specs/Sizes.longestWidow`", ["longestWidow"]),
     ("a document names an edit that isn't there", PROMISES, "must-fail (floats) infinity_taken", "must-fail (floats) infinity_given", ["infinity_given"]),
     ("a document names an edit of another crate", PROMISES, "must-fail (floats) infinity_taken", "must-fail (bits) infinity_taken", ["infinity_taken", "(bits)"]),
+    ("a section that comments name is called otherwise", "docs/RULES.md", "## Bits and numbers\n", "## Numbers\n", ["crates/bitio/specs/Numbers.antt", "Bits and numbers"]),
+    ("a comment names a rule that isn't there", "crates/framing/specs/Walk.antt", "-- ---- rule 7: ", "-- ---- rule 12: ", ["crates/framing/specs/Walk.antt", "rule 12"]),
     ("a path of a machine", "README.md", "## Layout", "See /" + "home/user/vrf.\n\n## Layout", ["README.md", "machine"]),
     # ---- the C interface
     ("fields in another order in exports", EXPORTS, "    pub nested_bits: u64,\n    pub root_bits: u64,", "    pub root_bits: u64,\n    pub nested_bits: u64,", ["struct VrfCounters", "differ"]),
@@ -111,5 +117,23 @@ TRIALS = [
     ("a prototype that no compiler sees in vrf.h", HEADER, "VrfMerge vrf_merge(VrfCounters left, VrfCounters right);", "#if 0\nVrfMerge vrf_merge(VrfCounters left, VrfCounters right);\n#endif", [HEADER, "if"]),
     ("a packed layout in raw.rs", RAW, "#[repr(C)]", "#[repr(C, packed)]", [RAW, "repr"]),
     ("another function behind a name in raw.rs", RAW, "    pub(crate) fn vrf_normal(", '    #[link_name = "vrf_vector"]\n    pub(crate) fn vrf_normal(', [RAW, "link_name"]),
+    # ---- refusals in words
+    ("another sentence in the table of refusals", REFUSALS, "| `TOO_FEW_BITS` | a read asks more bits", "| `TOO_FEW_BITS` | a read asks fewer bits", [TELL, "refusal 7"]),
+    ("another name in the table of refusals", REFUSALS, "| `NO_SCALE` |", "| `NO_SIZE` |", [HEADER, "NO_SIZE"]),
+    ("a row left out of the table of refusals", REFUSALS, "| 9 | `NUMBER_TOO_LARGE` |", "| `NUMBER_TOO_LARGE` |", [REFUSALS, "1 to 14"]),
+    ("another sentence in the comment of vrf.h", HEADER, "a vector is asked with scale 0", "a vector is asked with scale 1", [HEADER, "refusal 11"]),
+    ("another second line in the comment of vrf.h", HEADER, " *       a copy's target is too short", " *       a copy's target is too long", [HEADER, "refusal 14"]),
+    ("a number left out of the comment of vrf.h", HEADER, " *    3  a lent buffer", " *       a lent buffer", [HEADER, "refusal 3"]),
+    ("another number for a name in vrf.h", HEADER, "VRF_REFUSED_NOT_FINITE = 12", "VRF_REFUSED_NOT_FINITE = 11", [HEADER, "NOT_FINITE"]),
+    ("a name of a refusal left out of vrf.h", HEADER, "  VRF_REFUSED_NO_MAXIMUM = 10,\n", "", [HEADER, "NO_MAXIMUM"]),
+    ("a fifteenth refusal in vrf.h", HEADER, "  VRF_REFUSED_PAST_THE_END = 14", "  VRF_REFUSED_OTHER = 15,\n  VRF_REFUSED_PAST_THE_END = 14", [HEADER, "OTHER"]),
+    ("another sentence in vrf's words", TELL, "a lent buffer is too short", "a lent buffer is too small", [TELL, "refusal 3"]),
+    ("a number that stands for another in vrf's words", TELL, "        8 => error::text", "        9 => error::text", [TELL, "refusal 8"]),
+    ("another sentence in host/rust", LENT, 'NOT_FINITE => "a vector\'s component', 'NOT_FINITE => "a component', [LENT, "NOT_FINITE"]),
+    ("another number for a name in host/rust", LENT, "TOO_LONG: u32 = 1;", "TOO_LONG: u32 = 5;", [LENT, "TOO_LONG"]),
+    ("a sentence left out of host/rust", LENT, "            Self::NO_SCALE =>", "            // NO_SCALE =>", [LENT, "NO_SCALE"]),
+    ("another sentence in the example", EXAMPLE, 'TOO_LONG: return "a bit count over', 'TOO_LONG: return "a count over', [EXAMPLE, "TOO_LONG"]),
+    ("a leaf's size in vrf.h", HEADER, "VRF_LEAF_WORDS = 5", "VRF_LEAF_WORDS = 6", ["VRF_LEAF_WORDS", "records.rt"]),
+    ("a pair's size in the code", "crates/outputs/src/records.rt", "PAIR_WORDS: usize = 2", "PAIR_WORDS: usize = 3", ["VRF_PAIR_WORDS", "records.rt"]),
     ("a level's number in vrf.h", HEADER, "VRF_ABILITY_CASTS = 2", "VRF_ABILITY_CASTS = 3", ["VRF_ABILITY_CASTS", "twelve.rt"]),
 ]
