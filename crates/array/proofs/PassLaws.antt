@@ -9,55 +9,41 @@ use lib.Dec.{leb, ltb, eqb}
 use borrow.Author.Tests.{ltb-false, lt-ltb, le-ltb, lt-leb, le-leb}
 use Rattle.bits.specs.Bits.{num, field}
 use Rattle.bits.specs.Sizes.{longestWindow, levelsBelow}
-use Rattle.bits.proofs.Never.{never}
 use Rattle.schema.specs.Tables.{Tables, tables, absent}
 use Rattle.schema.specs.Spans.{spansOf}
 use Rattle.schema.specs.Layout.{laidOut, schemaLaid, declaredLaid, schemaSized, declaredSized, rootFits, allFrom}
 use Rattle.schema.proofs.LaidLaws.{leaf-lies, container-lies}
 use Rattle.schema.proofs.LaidLaws as Laws
 use Rattle.framing.specs.declared.Walk.{Walk}
-use Rattle.framing.specs.declared.Walk.the-variants as how
 use Rattle.framing.specs.Windows.{windowOf}
 use Rattle.framing.specs.Events.{error, Trace}
 use Rattle.framing.specs.Walk.{level}
-use Rattle.framing.specs.Sinks.{walker, Leafy, givesLeaves, silent, sinkOf, objectSink, walk, walkWindow}
+use Rattle.framing.specs.Sinks.{Walker, walker, givesLeaves, sinkOf, objectSink, walk, walkWindow}
 use Rattle.framing.specs.Counters.{counted}
 use Rattle.framing.specs.Records.{leafWords, pairWords}
 use Rattle.framing.specs.Refusing.{Room, within}
 use Rattle.outputs.specs.World.{World, fresh}
-use Rattle.outputs.specs.Answers.{laid, measuredWith}
+use Rattle.outputs.specs.Answers.{laid, measuredWith, heldBy}
 use Rattle.outputs.proofs.After.{no-length}
-use Rattle.steps.specs.Tally.{slots, slot, elementsSlot, fieldsSlot, truncationsSlot, errorsSlot, nestedSlot, rootSlot, implicitSlot, recordsSlot, pathsSlot, payloadsSlot, worldBy, worldOf, played}
+use Rattle.steps.specs.Tally.{slots, slot, elementsSlot, fieldsSlot, truncationsSlot, errorsSlot, nestedSlot, rootSlot, implicitSlot, recordsSlot, pathsSlot, payloadsSlot, oversSlot, worldBy, worldOf, played}
 use Rattle.steps.specs.Views.{inner, sinkFor}
 use Rattle.steps.proofs.TallyLaws.{played-none}
 use Rattle.cycle.specs.Cycle.{Ready}
-use Rattle.array.specs.Passing.{Passable, recordWords}
+use Rattle.array.specs.Passing.{Passable, recordWords, wordsOf, measuring, Needs}
+use Rattle.array.specs.Calls.{lent}
+use Rattle.array.specs.Refusals.{roomIn}
+use Rattle.array.specs.declared.Extent.{Extent}
 
 -- ---- which walk
 
 module _ (t : Tables) (lvl : ℕ) where
-  -- a walk of no bits is silent, but for the object walk
-  silent-is : (s : Walk) (n : ℕ) → silent (walker s t lvl) n ≡ (givesLeaves s && eqb n 0)
-  silent-is how.Struct n = refl
-  silent-is how.Exact n = refl
-  silent-is how.Object n = refl
-
   -- what its fields are made of, its tables, and what it gives
   sink-is : (s : Walk) → sinkFor s t levelsBelow false lvl ≡ sinkOf (walker s t lvl)
   unfolding sinkFor sinkOf objectSink
-  sink-is how.Struct = refl
-  sink-is how.Exact = refl
-  sink-is how.Object = refl
+  sink-is s = refl
 
   pub leafy-laid : (s : Walk) (levels : ℕ) → givesLeaves s ≡ true → laid (walker s t lvl) levels ≡ laidOut t levels lvl
-  leafy-laid how.Struct levels e = refl
-  leafy-laid how.Exact levels e = refl
-  leafy-laid how.Object levels e = never cc
-
-  pub leafy : (s : Walk) → givesLeaves s ≡ true → Leafy (walker s t lvl)
-  leafy how.Struct e = tt
-  leafy how.Exact e = tt
-  leafy how.Object e = never cc
+  leafy-laid s levels e = rw e refl
 
 -- the numbers of its records
 pub leafy-words : (s : Walk) → givesLeaves s ≡ true → recordWords s ≡ leafWords
@@ -77,21 +63,18 @@ whole bytes n =
 module _ (s : Walk) (t : Tables) (root : ℕ) (bytes : List ℕ) (n : ℕ) (x : World) where
   pub played-silent : (givesLeaves s && eqb n 0) ≡ true → x ≡ played (walk (walker s t root) bytes n) x
   unfolding walk
-  played-silent h = rw (silent-is t root s n ∙ h) (played-none x)
+  played-silent h = rw h (played-none x)
 
   module _ (y : World) (told : (givesLeaves s && eqb n 0) ≡ false) where
-    loud : silent (walker s t root) n ≡ false
-    loud = silent-is t root s n ∙ told
-
     pub played-past : length bytes < (n + 7) / 8 → y ≡ played (error ∷ []) x → y ≡ played (walk (walker s t root) bytes n) x
     unfolding walk
-    played-past h e = rw (loud, lt-ltb (8 * length bytes) n (omega arith)) e
+    played-past h e = rw (told, lt-ltb (8 * length bytes) n (omega arith)) e
 
     pub played-level : (n + 7) / 8 ≤ length bytes → y ≡ played (level (sinkFor s t levelsBelow false root) (inner bytes 0 n 0) []) x
         → y ≡ played (walk (walker s t root) bytes n) x
     unfolding walk walkWindow
     played-level h e =
-        rw (loud, le-ltb (8 * length bytes) n (omega arith))
+        rw (told, le-ltb (8 * length bytes) n (omega arith))
         (e ∙ (λ i. played (level (sink-is t root s i) (whole bytes n i) []) x))
 
 -- ---- what a pass asks
@@ -99,7 +82,7 @@ module _ (s : Walk) (t : Tables) (root : ℕ) (bytes : List ℕ) (n : ℕ) (x : 
 pub passable : (n : ℕ) (t : Tables) (levels root : ℕ) → ltb longestWindow n ≡ false → laidOut t levels root ≡ true → Passable n t
 passable n t levels root small good =
     let l = Laws.laid t levels root good in
-    record { short = ltb-false longestWindow n small; leaf-lies = leaf-lies t levels root l; container-lies = container-lies t levels root l }
+    record { small = ltb-false longestWindow n small; labels = record { leaf = leaf-lies t levels root l; container = container-lies t levels root l } }
 
 -- no tables keep their layout
 pub none-laid : laidOut (tables [] [] [] []) 0 absent ≡ true
@@ -109,12 +92,11 @@ none-laid = refl
 pub ready : (bytes : List ℕ) (n : ℕ) (t : Tables) (spans : List ℕ) → Passable n t → spans ≡ spansOf (t .rows) → (n + 7) / 8 ≤ length bytes
     → Ready bytes 0 n 0 t spans
 ready bytes n t spans p e h =
-    let small = p .short in
+    let small = p .small in
     record {
       lies = (omega arith, omega arith, small);
       path = omega arith;
-      leaf-lies = p .leaf-lies;
-      container-lies = p .container-lies;
+      labels = p .labels;
       spans-are = e;
     }
 
@@ -139,15 +121,36 @@ measures t d l p y el ep ey e =
 
 -- ---- what is read off a pass
 
-pub counters-in : (c : List ℕ) (e f t r n b i : ℕ) → e ≡ slot c elementsSlot → f ≡ slot c fieldsSlot → t ≡ slot c truncationsSlot → r ≡ slot c errorsSlot
-    → n ≡ slot c nestedSlot → b ≡ slot c rootSlot → i ≡ slot c implicitSlot → counted e f t r n b i ≡ worldOf c [] [] [] .counters
+pub counters-in : (tally : List ℕ) (e f t r n b i : ℕ) → e ≡ slot tally elementsSlot → f ≡ slot tally fieldsSlot → t ≡ slot tally truncationsSlot → r ≡ slot tally errorsSlot
+    → n ≡ slot tally nestedSlot → b ≡ slot tally rootSlot → i ≡ slot tally implicitSlot → counted e f t r n b i ≡ worldOf tally [] [] [] .counters
 unfolding worldOf worldBy
-counters-in c e f t r n b i p₀ p₁ p₂ p₃ p₄ p₅ p₆ = λ k. counted (p₀ k) (p₁ k) (p₂ k) (p₃ k) (p₄ k) (p₅ k) (p₆ k)
+counters-in tally e f t r n b i p₀ p₁ p₂ p₃ p₄ p₅ p₆ = λ k. counted (p₀ k) (p₁ k) (p₂ k) (p₃ k) (p₄ k) (p₅ k) (p₆ k)
 
-pub extent-in : (c : List ℕ) (words leaves pathBytes payloadBytes : ℕ) → leaves ≡ slot c recordsSlot / words → pathBytes ≡ slot c pathsSlot
-    → payloadBytes ≡ slot c payloadsSlot → record { leaves = leaves; pathBytes = pathBytes; payloadBytes = payloadBytes } ≡ measuredWith words (worldOf c [] [] [])
+pub extent-in : (tally : List ℕ) (words leaves pathBytes payloadBytes : ℕ) → leaves ≡ slot tally recordsSlot / words → pathBytes ≡ slot tally pathsSlot
+    → payloadBytes ≡ slot tally payloadsSlot → record { leaves = leaves; pathBytes = pathBytes; payloadBytes = payloadBytes } ≡ measuredWith words (worldOf tally [] [] [])
 unfolding worldOf worldBy
-extent-in c words leaves pathBytes payloadBytes e f g = λ i. record { leaves = e i; pathBytes = f i; payloadBytes = g i }
+extent-in tally words leaves pathBytes payloadBytes e f g = λ i. record { leaves = e i; pathBytes = f i; payloadBytes = g i }
+
+module _ (k : Walker) (bytes : List ℕ) (bits : ℕ) where
+  overs-in : (tally : List ℕ) → worldOf tally [] [] [] ≡ measuring k bytes bits → slot tally oversSlot ≡ measuring k bytes bits .overs
+  unfolding worldOf worldBy
+  overs-in tally is = ap (λ (w : World). w .overs) is
+
+  pub long-in : (tally : List ℕ) → worldOf tally [] [] [] ≡ measuring k bytes bits → 0 < slot tally oversSlot → 0 < measuring k bytes bits .overs
+  long-in tally is h = let e = overs-in tally is in omega arith
+
+  pub needs-in : (e : Extent) (tally : List ℕ) → worldOf tally [] [] [] ≡ measuring k bytes bits → slot tally oversSlot ≤ 0
+      → roomIn e ≡ measuredWith (wordsOf k) (worldOf tally [] [] []) → Needs k bytes bits e
+  needs-in e tally is h x = record { fine = let z = overs-in tally is in omega arith; extent = x ∙ ap (measuredWith (wordsOf k)) is }
+
+module _ (tally records paths payloads : List ℕ) (u : World) (is : worldOf tally records paths payloads ≡ u) where
+  pub held-in : lent records paths payloads ≡ heldBy u
+  unfolding worldOf worldBy
+  held-in = ap heldBy is
+
+  pub stats-in : worldOf tally [] [] [] .counters ≡ u .counters
+  unfolding worldOf worldBy
+  stats-in = ap (λ (w : World). w .counters) is
 
 module _ (need lent : Room) where
   pub few-leaves : (n : ℕ) → n ≡ lent .leaves → n < need .leaves → false ≡ within need lent

@@ -1,23 +1,21 @@
 -- One pass of the code over a window, and both passes: what they ask, and what they come to.
 use Prim.Native.Nat.{ℕ, _≤_, _<_}
 use mathlib.Core.Path.{_≡_}
-use mathlib.Core.Bool.{true, false}
+use mathlib.Core.Bool.{Bool, true, false}
 use mathlib.Core.List.{List, []}
-use lib.ListN.{length}
 use Rattle.bits.specs.Choice.{if_then_else_}
 use Rattle.bits.specs.Sizes.{longestWindow}
 use Rattle.schema.specs.Tables.{Tables}
-use Rattle.schema.specs.Labels.{leafLabel, containerLabel, LabelLies}
+use Rattle.schema.specs.Labels.{LabelsLie}
 use Rattle.framing.specs.declared.Walk.{Walk}
-use Rattle.framing.specs.Events.{Trace}
-use Rattle.framing.specs.Sinks.{givesLeaves}
+use Rattle.framing.specs.Sinks.{Walker, walker, givesLeaves, walk, verdictOf}
 use Rattle.framing.specs.Records.{leafWords, pairWords}
-use Rattle.framing.specs.Refusing.{Room, within}
-use Rattle.outputs.specs.World.{fresh}
-use Rattle.outputs.specs.Answers.{Lent, roomWith, measuredWith}
-use Rattle.steps.specs.Tally.{slot, oversSlot, worldOf, played}
+use Rattle.framing.specs.Refusing.{within}
+use Rattle.outputs.specs.World.{World, fresh}
+use Rattle.outputs.specs.Answers.{Lent, roomOver, measuredWith, heldBy}
+use Rattle.steps.specs.Tally.{played}
 use Rattle.array.specs.Refusals.{countersOf, roomIn}
-use Rattle.array.specs.Calls.{Judges}
+use Rattle.array.specs.Calls.{verdictIs}
 use Rattle.array.specs.declared.StructArray.{StructArray}
 use Rattle.array.specs.declared.StructArray.the-variants.{Decoded, PathTooLong, Short}
 use Rattle.array.specs.declared.ArrayDecodeStats.{ArrayDecodeStats}
@@ -28,9 +26,8 @@ use Rattle.array.specs.declared.Verdict.{Verdict}
 
 -- the window is not too long, and every label lies in its pool
 pub record Passable (bits : ℕ) (t : Tables) : Type 0 where
-  pub short : bits ≤ longestWindow
-  pub leaf-lies : (level handle : ℕ) → LabelLies t (leafLabel t level handle)
-  pub container-lies : (level handle : ℕ) → LabelLies t (containerLabel t level handle)
+  pub small : bits ≤ longestWindow
+  pub labels : LabelsLie t
 
 -- ---- both
 
@@ -38,28 +35,29 @@ pub record Passable (bits : ℕ) (t : Tables) : Type 0 where
 abbrev pub recordWords : Walk → ℕ
 recordWords s = if givesLeaves s then leafWords else pairWords
 
--- what the outputs hold, in records of so many numbers
-abbrev pub roomOver : (words : ℕ) → Lent → Room
-roomOver words b = roomWith words (length (b .leaves)) (length (b .paths)) (length (b .payloads))
+abbrev pub wordsOf : Walker → ℕ
+wordsOf (walker s t root) = recordWords s
 
--- a pass lent nothing left this tally
-abbrev pub Measures : Trace → (need : List ℕ) → Type 0
-Measures t need = worldOf need [] [] [] ≡ played t (fresh [] [] [])
+module _ (k : Walker) (bytes : List ℕ) (bits : ℕ) where
+  -- the pass that is lent nothing
+  abbrev pub measuring : World
+  measuring = played (walk k bytes bits) (fresh [] [] [])
 
--- it found no path too long, and that the walk needs so much
-pub record Needs (t : Trace) (words : ℕ) (e : Extent) : Type 0 where
-  pub tally : List ℕ
-  pub is : Measures t tally
-  pub fine : slot tally oversSlot ≤ 0
-  pub extent : roomIn e ≡ measuredWith words (worldOf tally [] [] [])
+  -- it meets no path too long, and finds that the walk needs so much
+  pub record Needs (e : Extent) : Type 0 where
+    pub fine : measuring .overs ≡ 0
+    pub extent : roomIn e ≡ measuredWith (wordsOf k) measuring
 
--- The passes over a trace: what they answer, and what the outputs hold then.
-pub data TwoPasses (t : Trace) (words : ℕ) (b : Lent) : StructArray → Lent → Type 0 where
-  over : (need : List ℕ) → Measures t need → 0 < slot need oversSlot → TwoPasses t words b PathTooLong b
-  short : {e : Extent} → Needs t words e → within (roomIn e) (roomOver words b) ≡ false → TwoPasses t words b (Short e) b
-  written : {e : Extent} (tally : List ℕ) {stats : ArrayDecodeStats} {v : Verdict} {end : Lent} → Needs t words e
-      → within (roomIn e) (roomOver words b) ≡ true
-      → worldOf tally (end .leaves) (end .paths) (end .payloads) ≡ played t (fresh (b .leaves) (b .paths) (b .payloads))
-      → countersOf stats ≡ worldOf tally [] [] [] .counters
-      → Judges (countersOf stats) v
-      → TwoPasses t words b (Decoded stats v e) end
+  -- Both passes over the lent outputs: what they answer, and what the outputs hold then. An object walk's pairs stand in for leaves.
+  module _ (b : Lent) where
+    abbrev pub writing : World
+    writing = played (walk k bytes bits) (fresh (b .leaves) (b .paths) (b .payloads))
+
+    abbrev pub enough : Extent → Bool
+    enough e = within (roomIn e) (roomOver (wordsOf k) b)
+
+    pub data TwoPasses : StructArray → Lent → Type 0 where
+      over-long : 0 < measuring .overs → TwoPasses PathTooLong b
+      too-short : {e : Extent} → Needs e → enough e ≡ false → TwoPasses (Short e) b
+      has-room : {e : Extent} {stats : ArrayDecodeStats} {v : Verdict} {end : Lent} → Needs e → enough e ≡ true → end ≡ heldBy writing
+          → countersOf stats ≡ writing .counters → verdictIs v ≡ verdictOf k bits (countersOf stats) → TwoPasses (Decoded stats v e) end

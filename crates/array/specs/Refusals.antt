@@ -1,6 +1,7 @@
 -- What the crate's answers say: counters, needs, and document 01's refusal numbers. For each case of each answer the number, and the values that
 -- 01's table names; a value that it doesn't name is 0.
 use Prim.Native.Nat.{ℕ}
+use Rattle.bits.specs.Refusals.{Numbered, refusal}
 use Rattle.framing.specs.Counters.{Counters, counted}
 use Rattle.framing.specs.Refusing.{Room, noRoom, Answer, refused, accepted}
 use Rattle.array.specs.Merges.{Sums, summed, overflowing}
@@ -44,12 +45,12 @@ sumsOf (merged.Overflow s) = overflowing 4 (countersOf s)
 
 -- ---- a refusal's number and values as the code's records of them; of an accepted call all are 0
 
-abbrev pub sayingAs : (number leaves pathBytes payloadBytes : ℕ) → Saying
-sayingAs n l p y = record { number = n; leaves = l; «path_bytes» = p; «payload_bytes» = y }
+abbrev pub sayingAs : Numbered → Saying
+sayingAs n = record { number = n .number; leaves = n .first; «path_bytes» = n .second; «payload_bytes» = n .third }
 
 abbrev pub refusedRoom : Answer Room → Saying
-refusedRoom (refused n need) = sayingAs n (need .leaves) (need .pathBytes) (need .payloadBytes)
-refusedRoom (accepted c need) = sayingAs 0 0 0 0
+refusedRoom (refused n need) = sayingAs (refusal n (need .leaves) (need .pathBytes) (need .payloadBytes))
+refusedRoom (accepted c need) = sayingAs (refusal 0 0 0 0)
 
 abbrev pub refusedPairs : Answer ℕ → PairSaying
 refusedPairs (refused n need) = record { number = n; pairs = need }

@@ -31,17 +31,19 @@ pub struct ArrayDecodeStats {
     pub fields_emitted: u64,
     // Times that more stood there than is allowed: elements, fields, levels.
     pub truncations: u64,
-    // Numbers that can't be read, indexes past the count, payloads past the window. The rest of that array is lost.
+    // Numbers that can't be read, indexes that aren't below the count, payloads past the window: the rest of that array is
+    // lost. In an object walk also an element's first payload that isn't one number: its pair is lost. A window past its bytes
+    // is one error.
     pub errors: u64,
     // Bits inside payloads that the walk stepped past.
     pub unconsumed_nested_bits: u64,
     // Bits behind the root array's terminator.
     pub unconsumed_root_bits: u64,
-    // Elements and arrays that the window's end cuts off before their zero.
+    // Times that a window ended where the zero of an element or an array was due.
     pub implicit_terminations: u64,
 }
 
-// Clean: the last five counters are 0.
+// Clean: the five counters behind fields_emitted are 0.
 pub enum Verdict {
     Clean,
     Partial,
@@ -57,29 +59,29 @@ pub struct Extent {
 // What a struct or exact walk answers.
 pub enum StructArray {
     Decoded(ArrayDecodeStats, Verdict, Extent),
-    // 1: the bit count is above 524,288.
+    // 1: the window is longer than 524,288 bits.
     TooLong,
-    // 2: a schema or declared table breaks its layout.
+    // 2: the schema's rows or the declared names are not laid out as they have to be.
     BrokenTables,
-    // 5: a working path would pass 1,024 bytes.
+    // 5: a path would get longer than 1,024 bytes.
     PathTooLong,
-    // 3: an output is too short. What all of them need.
+    // 3: some output has too little room. What each of them needs.
     Short(Extent),
 }
 
 // What an object walk answers; the number is of pairs.
 pub enum ObjectArray {
     Decoded(ArrayDecodeStats, Verdict, u32),
-    // 1: the bit count is above 524,288.
+    // 1: the window is longer than 524,288 bits.
     TooLong,
-    // 3: the output is too short. The pairs that it needs.
+    // 3: the output has too little room. How many pairs it needs to hold.
     Short(u32),
 }
 
 // What adding two walks' counters answers.
 pub enum Merged {
     Sum(ArrayDecodeStats),
-    // 4: a sum would pass 2^64 - 1. The left counters, unchanged.
+    // 4: a sum doesn't fit 64 bits. The left counters, as they were.
     Overflow(ArrayDecodeStats),
 }
 
@@ -209,7 +211,7 @@ pub fn decode_object_ref_array(bytes: &[u8], bits: u32, pairs: &mut [u32]) -> Ob
             ObjectArray::Decoded(stats, judged, filled.leaves)
         }
         StructArray::Short(need) => ObjectArray::Short(need.leaves),
-        // Never taken: the passes ask for no length and no tables, and an object walk has no paths.
+        // Never taken: the passes test neither a length nor tables, and an object walk has no paths.
         StructArray::TooLong => ObjectArray::TooLong,
         StructArray::BrokenTables => ObjectArray::TooLong,
         StructArray::PathTooLong => ObjectArray::TooLong,

@@ -60,16 +60,17 @@ pub fn pass<'a>(
     spans: &[usize; schema::spans::SPAN_NUMBERS],
     names: &'a [u8],
     declared: &[u32],
-    pool: &'a [u8],
+    declared_names: &'a [u8],
     path: &mut WorkingPath,
     records: &mut [u32],
     paths: &mut [u8],
     payloads: &mut [u8],
 )
-    requires { ⌜ Passable bits (tables (now rows) (now names) (now declared) (now pool)) × (now spans ≡ spansOf (now rows)) ⌝ }
+    requires { ⌜ Passable bits (tables (now rows) (now names) (now declared) (now «declared_names»)) × (now spans ≡ spansOf (now rows)) ⌝ }
     ensures { λ _. ⌜ worldOf (now (tally .exit)) (now (records .exit)) (now (paths .exit)) (now (payloads .exit))
         ≡ played
-        (F.walk (walker walk (tables (now (rows .entry)) (now (names .entry)) (now (declared .entry)) (now (pool .entry))) root) (now (bytes .entry)) bits)
+        (F.walk (walker walk (tables (now (rows .entry)) (now (names .entry)) (now (declared .entry)) (now («declared_names» .entry))) root)
+        (now (bytes .entry)) bits)
         (worldOf (now (tally .entry)) (now (records .entry)) (now (paths .entry)) (now (payloads .entry))) ⌝ }
 {
     if is_silent(walk, bits) {
@@ -94,7 +95,7 @@ pub fn pass<'a>(
         spans,
         names,
         declared,
-        pool,
+        declared_names,
         path,
         records,
         paths,
@@ -112,13 +113,14 @@ pub fn measure<'a>(
     spans: &[usize; schema::spans::SPAN_NUMBERS],
     names: &'a [u8],
     declared: &[u32],
-    pool: &'a [u8],
+    declared_names: &'a [u8],
     path: &mut WorkingPath,
 ) -> Tally
-    requires { ⌜ Passable bits (tables (now rows) (now names) (now declared) (now pool)) × (now spans ≡ spansOf (now rows)) ⌝ }
+    requires { ⌜ Passable bits (tables (now rows) (now names) (now declared) (now «declared_names»)) × (now spans ≡ spansOf (now rows)) ⌝ }
     ensures { λ r. ⌜ worldOf r [] [] []
         ≡ played
-        (F.walk (walker walk (tables (now (rows .entry)) (now (names .entry)) (now (declared .entry)) (now (pool .entry))) root) (now (bytes .entry)) bits)
+        (F.walk (walker walk (tables (now (rows .entry)) (now (names .entry)) (now (declared .entry)) (now («declared_names» .entry))) root)
+        (now (bytes .entry)) bits)
         (fresh [] [] []) ⌝ }
 {
     let mut tally = [0u32; SLOTS];
@@ -135,7 +137,7 @@ pub fn measure<'a>(
         spans,
         names,
         declared,
-        pool,
+        declared_names,
         path,
         &mut records,
         &mut paths,

@@ -1,5 +1,6 @@
 // What an answer says of document 01's refusals: the number, 0 for an accepted call, and the values of its table.
 ghost use mathlib.Core.Path.{_≡_};
+ghost use Rattle.bits.specs.Refusals.{refusal};
 ghost use Rattle.array.specs.Refusals.{answerOf, pairsOf, sumsOf, refusedRoom, refusedPairs, refusedSum, sayingAs};
 use crate::Merged;
 use crate::ObjectArray;
@@ -20,7 +21,7 @@ pub struct PairSaying {
 }
 
 fn numbers(number: u32, leaves: u32, paths: u32, payloads: u32) -> Saying
-    ensures { λ r. ⌜ r ≡ sayingAs number leaves paths payloads ⌝ }
+    ensures { λ r. ⌜ r ≡ sayingAs (refusal number leaves paths payloads) ⌝ }
 {
     Saying {
         number,

@@ -10,7 +10,7 @@ use crate::ArrayDecodeStats;
 use crate::Merged;
 use crate::Verdict;
 
-// Whether the last five counters are 0.
+// Whether nothing but elements and fields was counted.
 pub fn is_clean(stats: ArrayDecodeStats) -> bool
     ensures { λ r. ⌜ r ≡ isClean (countersOf stats) ⌝ }
 {

@@ -1,10 +1,9 @@
 // Both passes of a walk: the first is lent nothing and measures, the second writes if the outputs hold what that found. In an
 // object walk the answer's leaves are pairs.
 ghost use Rattle.schema.specs.Tables.{tables};
-ghost use Rattle.framing.specs.Sinks as F;
 ghost use Rattle.framing.specs.Sinks.{walker};
 ghost use Rattle.array.specs.Calls.{lent};
-ghost use Rattle.array.specs.Passing.{Passable, recordWords, TwoPasses};
+ghost use Rattle.array.specs.Passing.{Passable, TwoPasses};
 use crate::StructArray;
 use crate::passes::extent_of;
 use crate::passes::has_room;
@@ -26,15 +25,15 @@ pub fn two_passes<'a>(
     rows: &[u32],
     names: &'a [u8],
     declared: &[u32],
-    pool: &'a [u8],
+    declared_names: &'a [u8],
     records: &mut [u32],
     paths: &mut [u8],
     payloads: &mut [u8],
 ) -> StructArray
-    requires { ⌜ Passable bits (tables (now rows) (now names) (now declared) (now pool)) ⌝ }
+    requires { ⌜ Passable bits (tables (now rows) (now names) (now declared) (now «declared_names»)) ⌝ }
     ensures { λ r. ⌜ TwoPasses
-        (F.walk (walker walk (tables (now (rows .entry)) (now (names .entry)) (now (declared .entry)) (now (pool .entry))) root) (now (bytes .entry)) bits)
-        (recordWords walk)
+        (walker walk (tables (now (rows .entry)) (now (names .entry)) (now (declared .entry)) (now («declared_names» .entry))) root)
+        (now (bytes .entry)) bits
         (lent (now (records .entry)) (now (paths .entry)) (now (payloads .entry)))
         r
         (lent (now (records .exit)) (now (paths .exit)) (now (payloads .exit))) ⌝ }
@@ -50,7 +49,7 @@ pub fn two_passes<'a>(
         &spans,
         names,
         declared,
-        pool,
+        declared_names,
         &mut path,
     );
     if 0 < need[OVERS] {
@@ -71,7 +70,7 @@ pub fn two_passes<'a>(
         &spans,
         names,
         declared,
-        pool,
+        declared_names,
         &mut path,
         records,
         paths,

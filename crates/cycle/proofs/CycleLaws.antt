@@ -288,17 +288,17 @@ child-inside bytes start end le fit =
     omega arith
 
 -- what the code found a field to be is what the tables say of it, and its label lies in a pool
-module _ (rows names declared pool : List ℕ) where
+module _ (rows names declared declaredNames : List ℕ) where
   pub kind-is : (s : Walk) (below lvl handle width : ℕ) {k : Kind} → k ≡ kindOf s (lookUps rows declared) below lvl handle width
-      → k ≡ kindOf s (tables rows names declared pool) below lvl handle width
-  kind-is s below lvl handle width e = e ∙ kind-tables s rows names declared pool below lvl handle width
+      → k ≡ kindOf s (tables rows names declared declaredNames) below lvl handle width
+  kind-is s below lvl handle width e = e ∙ kind-tables s rows names declared declaredNames below lvl handle width
 
-  pub kind-ready : {bytes : List ℕ} {start end plen : ℕ} {spans : List ℕ} → Ready bytes start end plen (tables rows names declared pool) spans
+  pub kind-ready : {bytes : List ℕ} {start end plen : ℕ} {spans : List ℕ} → Ready bytes start end plen (tables rows names declared declaredNames) spans
       → (s : Walk) (below lvl handle width : ℕ) {k : Kind} → k ≡ kindOf s (lookUps rows declared) below lvl handle width
-      → KindLies (tables rows names declared pool) k
+      → KindLies (tables rows names declared declaredNames) k
   kind-ready r s below lvl handle width e =
-      let t = tables rows names declared pool in
-      subst (KindLies t) (sym (kind-is s below lvl handle width e)) (kind-lies s t below lvl handle width (r .leaf-lies) (r .container-lies))
+      let t = tables rows names declared declaredNames in
+      subst (KindLies t) (sym (kind-is s below lvl handle width e)) (kind-lies s t below lvl handle width (r .labels .leaf) (r .labels .container))
 
 -- a window that lies in its bytes lies there from their first bit on
 pub up-to : {bytes : List ℕ} {start end plen : ℕ} {t : Tables} {spans : List ℕ} → Ready bytes start end plen t spans → Lies bytes 0 end
@@ -314,8 +314,7 @@ ready-child bytes start end plen longer t spans r h =
     record {
       lies = (omega arith, child-inside bytes start end le fit, omega arith);
       path = h;
-      leaf-lies = r .leaf-lies;
-      container-lies = r .container-lies;
+      labels = r .labels;
       spans-are = r .spans-are;
     }
 
@@ -327,7 +326,6 @@ ready-part bytes start end from′ end′ plen longer t spans r le in-end h =
     record {
       lies = (le, omega arith, omega arith);
       path = h;
-      leaf-lies = r .leaf-lies;
-      container-lies = r .container-lies;
+      labels = r .labels;
       spans-are = r .spans-are;
     }

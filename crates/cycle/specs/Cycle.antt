@@ -5,7 +5,7 @@ use mathlib.Core.Bool.{Bool, true}
 use mathlib.Core.List.{List}
 use Rattle.bits.specs.Sizes.{maxFields, longestPath}
 use Rattle.schema.specs.Tables.{Tables}
-use Rattle.schema.specs.Labels.{leafLabel, containerLabel, LabelLies}
+use Rattle.schema.specs.Labels.{LabelsLie}
 use Rattle.schema.specs.Spans.{spansOf}
 use Rattle.framing.specs.Windows.{Window}
 use Rattle.framing.specs.Walk as W
@@ -45,8 +45,7 @@ windowAt q b o = inner (q .bytes) b (q .end) o
 pub record Ready (bytes : List ℕ) (start end plen : ℕ) (t : Tables) (spans : List ℕ) : Type 0 where
   pub lies : Lies bytes start end
   pub path : plen ≤ longestPath
-  pub leaf-lies : (level handle : ℕ) → LabelLies t (leafLabel t level handle)
-  pub container-lies : (level handle : ℕ) → LabelLies t (containerLabel t level handle)
+  pub labels : LabelsLie t
   pub spans-are : spans ≡ spansOf (t .rows)
 
 -- a level: the world x became y, and the path the walk stands at is still `path`

@@ -57,15 +57,15 @@ pub fn walk_level<'a>(
     spans: &[usize; schema::spans::SPAN_NUMBERS],
     names: &'a [u8],
     declared: &[u32],
-    pool: &'a [u8],
+    declared_names: &'a [u8],
     path: &mut WorkingPath,
     records: &mut [u32],
     paths: &mut [u8],
     payloads: &mut [u8],
 )
-    requires { ⌜ Ready (now bytes) «from» end plen (tables (now rows) (now names) (now declared) (now pool)) (now spans) ⌝ }
+    requires { ⌜ Ready (now bytes) «from» end plen (tables (now rows) (now names) (now declared) (now «declared_names»)) (now spans) ⌝ }
     ensures { λ _. ⌜ LevelWalked
-        (place walk (tables (now (rows .entry)) (now (names .entry)) (now (declared .entry)) (now (pool .entry))) below level
+        (place walk (tables (now (rows .entry)) (now (names .entry)) (now (declared .entry)) (now («declared_names» .entry))) below level
         (now (bytes .entry)) end (take plen (now (path .entry))))
         inside «from»
         (worldOf (now (tally .entry)) (now (records .entry)) (now (paths .entry)) (now (payloads .entry)))
@@ -134,7 +134,7 @@ pub fn walk_level<'a>(
             spans,
             names,
             declared,
-            pool,
+            declared_names,
             &mut *path,
             &mut *records,
             &mut *paths,
@@ -163,15 +163,15 @@ fn walk_fields<'a>(
     spans: &[usize; schema::spans::SPAN_NUMBERS],
     names: &'a [u8],
     declared: &[u32],
-    pool: &'a [u8],
+    declared_names: &'a [u8],
     path: &mut WorkingPath,
     records: &mut [u32],
     paths: &mut [u8],
     payloads: &mut [u8],
 ) -> After
-    requires { ⌜ Ready (now bytes) «from» end plen (tables (now rows) (now names) (now declared) (now pool)) (now spans) ⌝ }
+    requires { ⌜ Ready (now bytes) «from» end plen (tables (now rows) (now names) (now declared) (now «declared_names»)) (now spans) ⌝ }
     ensures { λ r. ⌜ FieldsWalked
-        (place walk (tables (now (rows .entry)) (now (names .entry)) (now (declared .entry)) (now (pool .entry))) below level
+        (place walk (tables (now (rows .entry)) (now (names .entry)) (now (declared .entry)) (now («declared_names» .entry))) below level
         (now (bytes .entry)) end (take plen (now (path .entry))))
         index «from»
         (worldOf (now (tally .entry)) (now (records .entry)) (now (paths .entry)) (now (payloads .entry)))
@@ -222,7 +222,7 @@ fn walk_fields<'a>(
             spans,
             names,
             declared,
-            pool,
+            declared_names,
             &mut *path,
             &mut *records,
             &mut *paths,
@@ -252,15 +252,15 @@ fn walk_field<'a>(
     spans: &[usize; schema::spans::SPAN_NUMBERS],
     names: &'a [u8],
     declared: &[u32],
-    pool: &'a [u8],
+    declared_names: &'a [u8],
     path: &mut WorkingPath,
     records: &mut [u32],
     paths: &mut [u8],
     payloads: &mut [u8],
 )
-    requires { ⌜ Ready (now bytes) «from» end plen (tables (now rows) (now names) (now declared) (now pool)) (now spans) ⌝ }
+    requires { ⌜ Ready (now bytes) «from» end plen (tables (now rows) (now names) (now declared) (now «declared_names»)) (now spans) ⌝ }
     ensures { λ _. ⌜ FieldWalked
-        (place walk (tables (now (rows .entry)) (now (names .entry)) (now (declared .entry)) (now (pool .entry))) below level
+        (place walk (tables (now (rows .entry)) (now (names .entry)) (now (declared .entry)) (now («declared_names» .entry))) below level
         (now (bytes .entry)) end (take plen (now (path .entry))))
         index first handle «from»
         (worldOf (now (tally .entry)) (now (records .entry)) (now (paths .entry)) (now (payloads .entry)))
@@ -281,7 +281,7 @@ fn walk_field<'a>(
             handle,
             plen,
             names,
-            pool,
+            declared_names,
             path,
             records,
             paths,
@@ -289,7 +289,15 @@ fn walk_field<'a>(
         );
         return;
     };
-    let longer = grow_label(&mut *tally, &mut *path, plen, label, handle, names, pool);
+    let longer = grow_label(
+        &mut *tally,
+        &mut *path,
+        plen,
+        label,
+        handle,
+        names,
+        declared_names,
+    );
     let a = (from / 8) as usize;
     let z = ((end + 7) / 8) as usize;
     let start = from % 8;
@@ -307,7 +315,7 @@ fn walk_field<'a>(
         spans,
         names,
         declared,
-        pool,
+        declared_names,
         path,
         records,
         paths,

@@ -5,7 +5,7 @@ use mathlib.Core.Path.{_≡_, refl}
 use mathlib.Core.List.{List, [], _∷_}
 use native.Mathlib.Omega.{arith}
 use Rattle.framing.specs.Events.{Event, overs, Trace}
-use Rattle.framing.specs.Counters.{Counters, counters, tally}
+use Rattle.framing.specs.Counters.{Counters, counters, countOf}
 use Rattle.framing.specs.Sinks.{Walker, walk}
 use Rattle.framing.proofs.TraceLaws.{overs-append}
 use Rattle.framing.proofs.Weighed.{weigh, Weights, walk-weight}
@@ -15,7 +15,7 @@ total c = c .elements + c .fields + c .truncations + c .errors + c .nestedBits +
 
 -- what an event adds
 abbrev cost : Event → ℕ
-cost e = total (tally e) + overs (e ∷ [])
+cost e = total (countOf e) + overs (e ∷ [])
 
 cost-weighs : Weights cost 1
 cost-weighs =

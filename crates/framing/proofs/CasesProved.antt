@@ -3,7 +3,7 @@ use mathlib.Core.Path.{_≡_, refl}
 use mathlib.Core.List.{map}
 use Rattle.bits.specs.Bits.{num, field}
 use Rattle.bits.specs.Packed.{after, earlierByte, fifthByte, packedFrom, packed}
-use Rattle.schema.specs.Tables.{cell, fits, firstRow, rowOf, child, schemaName, declaredName}
+use Rattle.schema.specs.Tables.{cell, rowMatches, firstRow, rowOf, child, schemaName, declaredName}
 use Rattle.bits.specs.Decimals.{digits, decimal}
 use Rattle.schema.specs.Labels.{bySchema, containerLabel, byDeclaration, leafLabel, labelBytes, atIndex, dot}
 use Rattle.schema.specs.TwelveLevels.{ascii, schemaRows, schemaNames}
@@ -14,7 +14,7 @@ use Rattle.framing.specs.Sinks.{structSink, objectSink, sinkOf, walkWind
 use Rattle.framing.specs.Cases.{cases, found}
 
 pub cases-hold : map found cases ≡ map (λ c. c .answer) cases
-unfolding ascii schemaRows schemaNames num field after earlierByte fifthByte packedFrom packed cell fits firstRow rowOf child schemaName
+unfolding ascii schemaRows schemaNames num field after earlierByte fifthByte packedFrom packed cell rowMatches firstRow rowOf child schemaName
     declaredName digits decimal bySchema containerLabel byDeclaration leafLabel labelBytes atIndex dot reading grownPath overIfLong leafOrOver lead fieldAt
     tail fields closing inItem entering elements level structSink objectSink sinkOf walkWindow walk
 cases-hold = refl

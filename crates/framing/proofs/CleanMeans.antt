@@ -10,6 +10,7 @@ use lib.ListN.{length}
 use borrow.Author.Tests.{eqb-true, eq-eqb, ne-eqb}
 use Rattle.bits.specs.Bits.{num}
 use Rattle.bits.proofs.FieldLaws.{field-lt}
+use Rattle.bits.proofs.Never.{never}
 use Rattle.bits.specs.Sizes.{levelsBelow}
 use Rattle.schema.specs.Tables.{Tables}
 use Rattle.framing.specs.Windows.{Window, windowOf}
@@ -80,7 +81,7 @@ module _ (w : Window) (some : 1 ≤ w .size) (whole : w .bits < 2 ^ w .size) whe
   tree-leaves (walker how.Struct t lvl) g h leafy = struct-leaves levelsBelow t true root lvl refl (g .tree) (g .allowed) w (stands t true lvl g) [] h
   tree-leaves (walker how.Exact t lvl) g h leafy =
       struct-leaves levelsBelow t false root lvl refl (g .tree) (g .allowed) w (stands t false lvl g) [] h
-  tree-leaves (walker how.Object t lvl) g h leafy = absurd leafy
+  tree-leaves (walker how.Object t lvl) g h leafy = never cc
 
   pub grammar-leaves : (k : Walker) (g : InGrammar k w) → overs (walkWindow k w) ≡ 0 → Leafy k → leaves (walkWindow k w) ≡ treeLeaves k w g
   grammar-leaves k g h leafy = ap leaves (loud k) ∙ tree-leaves k g (ap overs (sym (loud k)) ∙ h) leafy

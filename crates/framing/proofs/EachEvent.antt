@@ -9,6 +9,7 @@ use borrow.Author.Tests.{leb-true}
 use Rattle.bits.specs.Bits.{num}
 use Rattle.bits.specs.Sizes.{longestPath}
 use Rattle.bits.proofs.FieldLaws.{field-lt}
+use Rattle.bits.proofs.Never.{never}
 use Rattle.schema.specs.Tables.{Tables}
 use Rattle.schema.specs.Labels.{atIndex}
 use Rattle.framing.specs.Events.{Leaf, Event, number, element, leaf, pair, truncation, error, implicit, nested, root, over, leaves, pairs, overs, Trace}
@@ -96,15 +97,15 @@ object-pieces : (t : Tables) (lvl : ℕ) → ObjectPieces (may (walker how.Objec
 object-pieces t lvl =
     record {
       entered = λ w x i p q r low. (tt, (tt, tt));
-      guid = λ w x i r. (tt, ((λ z. z), tt));
+      guid = λ w x i r. (tt, ((λ z. never cc), tt));
       longer = λ w x q r. (tt, (tt, tt));
       unread = λ w some. (tt, tt);
       passed = λ w some. (tt, tt);
     }
 
 kind-pieces : (k : Walker) → KindPieces k (whole (tablesOf k)) (may k)
-kind-pieces (walker how.Struct t lvl) = struct-pieces (walker how.Struct t lvl) tt t
-kind-pieces (walker how.Exact t lvl) = struct-pieces (walker how.Exact t lvl) tt t
+kind-pieces (walker how.Struct t lvl) = struct-pieces (walker how.Struct t lvl) refl t
+kind-pieces (walker how.Exact t lvl) = struct-pieces (walker how.Exact t lvl) refl t
 kind-pieces (walker how.Object t lvl) = object-pieces t lvl
 
 -- every event of a walk is one that it may give

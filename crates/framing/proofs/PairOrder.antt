@@ -6,7 +6,7 @@ use mathlib.Core.List.{List, [], _∷_, _++_, append-nil}
 use Prim.Native.Nat.{ℕ, _+_}
 use native.Mathlib.Omega.{arith}
 use Rattle.framing.specs.Events.{Pair, number, element, leaf, pair, truncation, error, implicit, nested, root, over, leaves, pairs, Trace}
-use Rattle.framing.specs.Counters.{Counters, counted, counters, sums, tally}
+use Rattle.framing.specs.Counters.{Counters, counted, counters, sums, countOf}
 use Rattle.framing.proofs.TraceLaws.{counters-append, leaves-append, pairs-append, sums-assoc}
 
 -- the other events, and the pairs as events
@@ -87,15 +87,15 @@ late-split : (t : Trace) → counters t ≡ sums (counters (others t)) (counters
 late-split [] = refl
 late-split (pair x ∷ t) =
     ap (λ c. sums (counted 0 1 0 0 0 0 0) c) (late-split t) ∙ sym (one-field (counters (others t)) (counters (asEvents (pairs t))))
-late-split (number x ∷ t) = ap (λ c. sums (tally (number x)) c) (late-split t) ∙ sym (sums-assoc (tally (number x)) (counters (others t)) (counters (asEvents (pairs t))))
-late-split (element i ∷ t) = ap (λ c. sums (tally (element i)) c) (late-split t) ∙ sym (sums-assoc (tally (element i)) (counters (others t)) (counters (asEvents (pairs t))))
-late-split (leaf x ∷ t) = ap (λ c. sums (tally (leaf x)) c) (late-split t) ∙ sym (sums-assoc (tally (leaf x)) (counters (others t)) (counters (asEvents (pairs t))))
-late-split (truncation ∷ t) = ap (λ c. sums (tally truncation) c) (late-split t) ∙ sym (sums-assoc (tally truncation) (counters (others t)) (counters (asEvents (pairs t))))
-late-split (error ∷ t) = ap (λ c. sums (tally error) c) (late-split t) ∙ sym (sums-assoc (tally error) (counters (others t)) (counters (asEvents (pairs t))))
-late-split (implicit ∷ t) = ap (λ c. sums (tally implicit) c) (late-split t) ∙ sym (sums-assoc (tally implicit) (counters (others t)) (counters (asEvents (pairs t))))
-late-split (nested n ∷ t) = ap (λ c. sums (tally (nested n)) c) (late-split t) ∙ sym (sums-assoc (tally (nested n)) (counters (others t)) (counters (asEvents (pairs t))))
-late-split (root n ∷ t) = ap (λ c. sums (tally (root n)) c) (late-split t) ∙ sym (sums-assoc (tally (root n)) (counters (others t)) (counters (asEvents (pairs t))))
-late-split (over ∷ t) = ap (λ c. sums (tally over) c) (late-split t) ∙ sym (sums-assoc (tally over) (counters (others t)) (counters (asEvents (pairs t))))
+late-split (number x ∷ t) = ap (λ c. sums (countOf (number x)) c) (late-split t) ∙ sym (sums-assoc (countOf (number x)) (counters (others t)) (counters (asEvents (pairs t))))
+late-split (element i ∷ t) = ap (λ c. sums (countOf (element i)) c) (late-split t) ∙ sym (sums-assoc (countOf (element i)) (counters (others t)) (counters (asEvents (pairs t))))
+late-split (leaf x ∷ t) = ap (λ c. sums (countOf (leaf x)) c) (late-split t) ∙ sym (sums-assoc (countOf (leaf x)) (counters (others t)) (counters (asEvents (pairs t))))
+late-split (truncation ∷ t) = ap (λ c. sums (countOf truncation) c) (late-split t) ∙ sym (sums-assoc (countOf truncation) (counters (others t)) (counters (asEvents (pairs t))))
+late-split (error ∷ t) = ap (λ c. sums (countOf error) c) (late-split t) ∙ sym (sums-assoc (countOf error) (counters (others t)) (counters (asEvents (pairs t))))
+late-split (implicit ∷ t) = ap (λ c. sums (countOf implicit) c) (late-split t) ∙ sym (sums-assoc (countOf implicit) (counters (others t)) (counters (asEvents (pairs t))))
+late-split (nested n ∷ t) = ap (λ c. sums (countOf (nested n)) c) (late-split t) ∙ sym (sums-assoc (countOf (nested n)) (counters (others t)) (counters (asEvents (pairs t))))
+late-split (root n ∷ t) = ap (λ c. sums (countOf (root n)) c) (late-split t) ∙ sym (sums-assoc (countOf (root n)) (counters (others t)) (counters (asEvents (pairs t))))
+late-split (over ∷ t) = ap (λ c. sums (countOf over) c) (late-split t) ∙ sym (sums-assoc (countOf over) (counters (others t)) (counters (asEvents (pairs t))))
 
 pub late-counters : (t : Trace) → counters (late t) ≡ counters t
 late-counters t = counters-append (others t) (asEvents (pairs t)) ∙ sym (late-split t)

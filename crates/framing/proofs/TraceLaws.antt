@@ -5,7 +5,7 @@ use mathlib.Core.List.{[], _∷_, _++_}
 use Prim.Native.Nat.{suc, _+_}
 use native.Mathlib.Nat.{zero-add, suc-add, add-assoc}
 use Rattle.framing.specs.Events.{number, element, leaf, pair, truncation, error, implicit, nested, root, over, leaves, pairs, overs, Trace}
-use Rattle.framing.specs.Counters.{Counters, counted, counters, sums, tally}
+use Rattle.framing.specs.Counters.{Counters, counted, counters, sums, countOf}
 
 pub sums-zero : (c : Counters) → sums (counted 0 0 0 0 0 0 0) c ≡ c
 sums-zero c =
@@ -33,7 +33,7 @@ sums-assoc a b c =
 
 pub counters-append : (t u : Trace) → counters (t ++ u) ≡ sums (counters t) (counters u)
 counters-append [] u = sym (sums-zero (counters u))
-counters-append (e ∷ t) u = ap (λ c. sums (tally e) c) (counters-append t u) ∙ sym (sums-assoc (tally e) (counters t) (counters u))
+counters-append (e ∷ t) u = ap (λ c. sums (countOf e) c) (counters-append t u) ∙ sym (sums-assoc (countOf e) (counters t) (counters u))
 
 pub leaves-append : (t u : Trace) → leaves (t ++ u) ≡ leaves t ++ leaves u
 leaves-append [] u = refl

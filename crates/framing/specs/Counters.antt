@@ -23,23 +23,23 @@ sums a b =
     (a .nestedBits + b .nestedBits) (a .rootBits + b .rootBits) (a .implicits + b .implicits)
 
 -- what one event adds
-abbrev pub tally : Event → Counters
-tally (number x) = counted 0 0 0 0 0 0 0
-tally (element i) = counted 1 0 0 0 0 0 0
-tally (leaf x) = counted 0 1 0 0 0 0 0
-tally (pair x) = counted 0 1 0 0 0 0 0
-tally truncation = counted 0 0 1 0 0 0 0
-tally error = counted 0 0 0 1 0 0 0
-tally (nested n) = counted 0 0 0 0 n 0 0
-tally (root n) = counted 0 0 0 0 0 n 0
-tally implicit = counted 0 0 0 0 0 0 1
-tally over = counted 0 0 0 0 0 0 0
+abbrev pub countOf : Event → Counters
+countOf (number x) = counted 0 0 0 0 0 0 0
+countOf (element i) = counted 1 0 0 0 0 0 0
+countOf (leaf x) = counted 0 1 0 0 0 0 0
+countOf (pair x) = counted 0 1 0 0 0 0 0
+countOf truncation = counted 0 0 1 0 0 0 0
+countOf error = counted 0 0 0 1 0 0 0
+countOf (nested n) = counted 0 0 0 0 n 0 0
+countOf (root n) = counted 0 0 0 0 0 n 0
+countOf implicit = counted 0 0 0 0 0 0 1
+countOf over = counted 0 0 0 0 0 0 0
 
 abbrev pub counters : Trace → Counters
 counters [] = counted 0 0 0 0 0 0 0
-counters (e ∷ t) = sums (tally e) (counters t)
+counters (e ∷ t) = sums (countOf e) (counters t)
 
--- clean: the last five counters are 0
+-- clean: nothing but elements and fields was counted
 abbrev pub faults : Counters → ℕ
 faults c = c .truncations + c .errors + c .nestedBits + c .rootBits + c .implicits
 

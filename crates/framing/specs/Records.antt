@@ -1,15 +1,19 @@
 -- Leaves and pairs as records, path bytes and payload bytes (01, Tables and outputs).
-use Prim.Native.Nat.{ℕ, _+_}
+use Prim.Native.Nat.{ℕ, _+_, _/_}
 use mathlib.Core.List.{List, [], _∷_, _++_}
 use lib.ListN.{length}
 use Rattle.bits.specs.Runs.{bytesOf, bytesFor}
 use Rattle.framing.specs.Events.{Leaf, Pair}
 
--- a payload's bytes; padding bits are 0
+-- a payload's bytes, with zeros above its bits
 abbrev pub payloadOf : Leaf → List ℕ
 payloadOf x = bytesOf (bytesFor (x .width)) (x .payload)
 
 -- ---- records: the one place that says how many numbers a leaf and a pair have, and which
+
+-- the records in so many numbers: a part of one at the end doesn't count, and is never written
+abbrev pub wholeRecords : (words numbers : ℕ) → ℕ
+wholeRecords words numbers = numbers / words
 
 abbrev pub leafWords : ℕ
 leafWords = 5

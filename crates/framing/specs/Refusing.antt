@@ -9,7 +9,7 @@ use Rattle.framing.specs.Events.{leaves, overs, Trace}
 use Rattle.framing.specs.Counters.{Counters, counters}
 use Rattle.framing.specs.Records.{pathBytes, payloadBytes}
 
--- what a struct or exact walk needs of each output, or what is lent
+-- what a walk that gives leaves needs of each output, or what is lent, in records and bytes
 pub record Room : Type 0 where
   pub leaves : ℕ
   pub pathBytes : ℕ
@@ -29,7 +29,7 @@ needed t =
 abbrev pub within : (need lent : Room) → Bool
 within need lent = leb (need .leaves) (lent .leaves) && leb (need .pathBytes) (lent .pathBytes) && leb (need .payloadBytes) (lent .payloadBytes)
 
--- refused: 01's number, and the needs where it is 3, else none. accepted: the counters, and how much of each output is filled
+-- refused: 01's number, and where it is 3 the needs, else zeros. accepted: the counters, and how much of each output is filled
 pub data Answer (Need : Type 0) : Type 0 where
   refused : (number : ℕ) (need : Need) → Answer Need
   accepted : Counters → (need : Need) → Answer Need

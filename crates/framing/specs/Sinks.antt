@@ -1,6 +1,7 @@
 -- The three walks (array.rs; 01, Walking an array, rules 6, 8 and 9).
 use Prim.Native.Nat.{ℕ, zero, suc, _*_}
-use mathlib.Core.Bool.{Bool, true, false}
+use mathlib.Core.Path.{_≡_}
+use mathlib.Core.Bool.{Bool, true, false, _&&_}
 use mathlib.Core.List.{List, [], _∷_, _++_}
 use lib.ListN.{length}
 use lib.Dec.{ltb, eqb}
@@ -18,6 +19,20 @@ use Rattle.framing.specs.Events.{Event, number, pair, truncation, error,
 use Rattle.framing.specs.Counters.{Counters, isClean}
 use Rattle.framing.specs.Paths.{grownPath, overIfLong, leafOrOver}
 use Rattle.framing.specs.Walk.{Sink, numberAt, level}
+
+-- ---- what the walks differ in
+
+-- the walks that give leaves; the other gives pairs
+abbrev pub givesLeaves : Walk → Bool
+givesLeaves how.Struct = true
+givesLeaves how.Exact = true
+givesLeaves how.Object = false
+
+-- the walks that take a trailer
+abbrev pub takesTrailer : Walk → Bool
+takesTrailer how.Struct = true
+takesTrailer how.Exact = false
+takesTrailer how.Object = true
 
 -- ---- the struct walk
 
@@ -42,7 +57,7 @@ structSinkOver inside t trailer leftover lvl =
       field = λ i path first handle w. onChild t lvl inside path handle w (child (t .rows) lvl handle);
     }
 
--- too deep: one truncation, and the array as a leaf
+-- below the last level an array counts as a truncation and is given whole, as a leaf
 abbrev pub tooDeep : (below : ℕ) (path longer : List ℕ) (handle : ℕ) → Window → Trace
 tooDeep below path longer handle w = truncation ∷ leafOrOver (leafOf longer handle w)
 
@@ -54,8 +69,8 @@ structSink (suc deeper) t trailer leftover lvl =
 
 -- ---- the object walk
 
--- Rule 8. An element's first non-empty field is one packed number that fills its payload. Its pair stands here at the field that gives it; 01
--- gives it behind the element's fields, which makes no difference to any answer (proofs/PairOrder).
+-- Rule 8: the first field with a payload names the object, by one packed number and nothing behind it. Its pair stands here at the field that
+-- gives it; 01 gives it behind the element's fields, which makes no difference to any answer (proofs/PairOrder).
 abbrev pub guidOf : (index : ℕ) → Window → Reading → Trace
 guidOf index w failed = error ∷ []
 guidOf index w (got v b) =
@@ -68,7 +83,13 @@ objectField index first w =
     if eqb (w .size) 0 then [] else (if first then guidOf index w (reading w 0) else nested (w .size) ∷ [])
 
 abbrev pub objectSinkOver : (leftover : ℕ → Event) → Sink
-objectSinkOver leftover = record { trailer = true; flattens = false; leftover = leftover; field = λ i path first handle w. objectField i first w }
+objectSinkOver leftover =
+    record {
+      trailer = takesTrailer how.Object;
+      flattens = givesLeaves how.Object;
+      leftover = leftover;
+      field = λ i path first handle w. objectField i first w;
+    }
 
 unfoldable pub objectSink : Sink
 objectSink = objectSinkOver root
@@ -93,33 +114,15 @@ exact d n = walker how.Exact (declaredOnly d n) absent
 abbrev pub object : Walker
 object = walker how.Object noTables absent
 
--- the walks that give leaves; the other gives pairs
-abbrev pub givesLeaves : Walk → Bool
-givesLeaves how.Struct = true
-givesLeaves how.Exact = true
-givesLeaves how.Object = false
-
--- the walks that take a trailer
-abbrev pub takesTrailer : Walk → Bool
-takesTrailer how.Struct = true
-takesTrailer how.Exact = false
-takesTrailer how.Object = true
-
 abbrev pub Leafy : Walker → Type 0
-Leafy (walker how.Struct t lvl) = Unit
-Leafy (walker how.Exact t lvl) = Unit
-Leafy (walker how.Object t lvl) = ⊥
+Leafy (walker s t lvl) = givesLeaves s ≡ true
 
 unfoldable pub sinkOf : Walker → Sink
-sinkOf (walker how.Struct t lvl) = structSink levelsBelow t true root lvl
-sinkOf (walker how.Exact t lvl) = structSink levelsBelow t false root lvl
-sinkOf (walker how.Object t lvl) = objectSink
+sinkOf (walker s t lvl) = if givesLeaves s then structSink levelsBelow t (takesTrailer s) root lvl else objectSink
 
 -- Rule 9: a struct or exact walk of no bits counts nothing
 abbrev pub silent : Walker → (bits : ℕ) → Bool
-silent (walker how.Struct t lvl) n = eqb n 0
-silent (walker how.Exact t lvl) n = eqb n 0
-silent (walker how.Object t lvl) n = false
+silent (walker s t lvl) n = givesLeaves s && eqb n 0
 
 unfoldable pub walkWindow : Walker → Window → Trace
 walkWindow k w = if silent k (w .size) then [] else level (sinkOf k) w []

@@ -94,7 +94,7 @@ onField s w i path first more (closed e q) = done (number e ∷ []) q
 onField s w i path first more (present t h q width) =
     prepend (numbers t ++ s .field i path first h (part w q width)) (more (q + width) (first && eqb width 0))
 
--- after the last field that is allowed only a zero is taken
+-- Behind as many fields as are allowed only a zero is welcome; any other number is left where it is and begins the tail.
 abbrev pub onLastField : Sink → Window → (path : List ℕ) → (p : ℕ) → Lead → Run
 onLastField s w path p ends = stopped (implicit ∷ [])
 onLastField s w path p fails = stopped (error ∷ [])
@@ -145,7 +145,7 @@ onIndex s w path count more (opens e i q) =
     if beyond count i then number e ∷ error ∷ [] else
     number e ∷ element i ∷ (entering s path i ++ behind more (fields s w i (inItem s path i) maxFields q true))
 
--- after the last element that is allowed only a zero is taken
+-- The same behind as many elements as are allowed.
 abbrev pub onLastIndex : Sink → Window → (path : List ℕ) → (p : ℕ) → Lead → Trace
 onLastIndex s w path p ends = implicit ∷ []
 onLastIndex s w path p fails = error ∷ []

@@ -6,8 +6,8 @@ use Rattle.bits.specs.Packed.{packed}
 use Rattle.bits.specs.declared.Packed.{Packed}
 use Rattle.bits.specs.declared.Packed.the-variants.{Whole, Cut, GoesOn, Overflows}
 
--- A window of `size` bits is a number whose bit k is the window's bit k; its bits from `size` on count for nothing. origin: where it starts,
--- counted from the root window's first bit.
+-- A window of `size` bits is a number whose bit k is the window's bit k; its bits from `size` on count for nothing. origin: the bit of the root
+-- window at which it starts.
 pub record Window : Type 0 where
   pub bits : ℕ
   pub size : ℕ

@@ -4,7 +4,7 @@ use mathlib.Core.List.{[], _∷_}
 use Rattle.bits.specs.Bits.{num, field}
 use Rattle.bits.specs.Runs.{bytesOf}
 use Rattle.bits.specs.Packed.{after, earlierByte, fifthByte, packedFrom, packed}
-use Rattle.schema.specs.Tables.{noTables, absent, cell, fits, firstRow, rowOf, child, schemaName, declaredName}
+use Rattle.schema.specs.Tables.{noTables, absent, cell, rowMatches, firstRow, rowOf, child, schemaName, declaredName}
 use Rattle.bits.specs.Decimals.{digits, decimal}
 use Rattle.schema.specs.Labels.{bySchema, containerLabel, byDeclaration, leafLabel, labelBytes, atIndex, dot}
 use Rattle.schema.specs.Layout.{allFrom, nameFits, kindFits, rowFits, declaredFits, schemaSized, declaredSized, rootFits, schemaLaid, declaredLaid, laidOut}
@@ -34,6 +34,6 @@ pub case1-holds : (answer case1 enough ≡ accepted (counted 1 1 0 0 0 0 0) (rec
     × (final case1 scarce ≡ scarce)
 unfolding answer decided finalLeaves finalPaths finalPayloads leafRecords allFrom nameFits kindFits rowFits declaredFits schemaSized
     declaredSized rootFits schemaLaid declaredLaid laidOut needed pathBytes payloadBytes bytesOf num field after earlierByte fifthByte packedFrom
-    packed cell fits firstRow rowOf child schemaName declaredName digits decimal bySchema containerLabel byDeclaration leafLabel labelBytes
+    packed cell rowMatches firstRow rowOf child schemaName declaredName digits decimal bySchema containerLabel byDeclaration leafLabel labelBytes
     atIndex dot reading grownPath overIfLong leafOrOver lead fieldAt tail fields closing inItem entering elements level structSink sinkOf walkWindow walk
 case1-holds = (refl, refl, refl, refl)

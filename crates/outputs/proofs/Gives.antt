@@ -6,6 +6,7 @@ use Prim.Native.Nat.{ℕ, _+_, _≤_}
 use native.Mathlib.Omega.{arith}
 use lib.ListN.{length, length-append}
 use Rattle.bits.specs.Runs.{bytesOf, bytesFor}
+use Rattle.bits.proofs.Never.{never}
 use Rattle.bits.proofs.RunLaws.{length-bytesOf}
 use Rattle.framing.specs.Events.{Leaf, Event, leaf, leaves, pairs, overs, Trace}
 use Rattle.framing.specs.Sinks.{Walker, object, Leafy, walk}
@@ -18,12 +19,15 @@ use Rattle.framing.proofs.Weighed.{weigh, Weights, walk-weight}
 pub no-pairs : (k : Walker) → Leafy k → (bytes : List ℕ) (n : ℕ) → pairs (walk k bytes n) ≡ []
 no-pairs k leafy bytes n = each-never (λ x. Leafy k → ⊥) (λ x h. h leafy) (pairs (walk k bytes n)) (pairs-may k (walk k bytes n) (walk-may k bytes n))
 
+no-leafy : Leafy object → ⊥
+no-leafy e = never cc
+
 pub no-leaves : (bytes : List ℕ) (n : ℕ) → leaves (walk object bytes n) ≡ []
 no-leaves bytes n =
-    each-never (λ x. ⊥ × Sound x) (λ x h. h .0) (leaves (walk object bytes n)) (leaves-may object (walk object bytes n) (walk-may object bytes n))
+    each-never (λ x. Leafy object × Sound x) (λ x h. no-leafy (h .0)) (leaves (walk object bytes n)) (leaves-may object (walk object bytes n) (walk-may object bytes n))
 
 pub no-overs : (bytes : List ℕ) (n : ℕ) → overs (walk object bytes n) ≡ 0
-no-overs bytes n = overs-may object (walk object bytes n) (walk-may object bytes n) (λ z. z)
+no-overs bytes n = overs-may object (walk object bytes n) (walk-may object bytes n) no-leafy
 
 -- ---- payload bytes: at most a bit of the window each
 

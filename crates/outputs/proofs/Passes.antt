@@ -19,7 +19,7 @@ use Rattle.framing.specs.Refusing.{Room, noRoom, needed, within, Answer, refuse
 use Rattle.bits.proofs.ChoiceLaws.{and-true}
 use Rattle.framing.proofs.RefusingLaws.{decided-long, decided-broken, decided-over, decided-short, decided-fine}
 use Rattle.outputs.specs.World.{wrapping, plain, World, apply, fresh, traceRecords}
-use Rattle.outputs.specs.Answers.{Call, Lent, laid, traceOf, roomOf, answer, finalLeaves, finalPaths, finalPayloads, Answered, measured, final, pairTrace, pairAnswer, finalPairs, PairsAnswered}
+use Rattle.outputs.specs.Answers.{Call, Lent, laid, traceOf, roomOf, answer, finalLeaves, finalPaths, finalPayloads, Answered, measured, heldBy, final, pairTrace, pairAnswer, finalPairs, PairsAnswered}
 use Rattle.outputs.proofs.After.{counters-fresh, overs-after, records-at, paths-at, payloads-at, records-length, records-filled, paths-filled, payloads-filled, records-leaves, records-pairs}
 use Rattle.outputs.proofs.Gives.{no-pairs, no-leaves, no-overs}
 use Rattle.outputs.proofs.NoWrap.{word, walk-exact}
@@ -81,10 +81,6 @@ within-each need lent h =
     let ab = and-true (leb (need .leaves) (lent .leaves) && leb (need .pathBytes) (lent .pathBytes)) (leb (need .payloadBytes) (lent .payloadBytes)) h in
     let a = and-true (leb (need .leaves) (lent .leaves)) (leb (need .pathBytes) (lent .pathBytes)) (ab .0) in
     (leb-true (need .leaves) (lent .leaves) (a .0), leb-true (need .pathBytes) (lent .pathBytes) (a .1), leb-true (need .payloadBytes) (lent .payloadBytes) (ab .1))
-
--- the buffers as the writing pass leaves them
-abbrev pub heldBy : World → Lent
-heldBy v = record { leaves = v .records .held; paths = v .paths .held; payloads = v .payloads .held }
 
 module _ (c : Call) (b : Lent) where
   -- refusals: the buffers are as lent

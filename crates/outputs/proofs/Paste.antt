@@ -10,7 +10,7 @@ use Rattle.bits.specs.Runs.{put, store}
 use Rattle.bits.proofs.RunLaws.{put-put, put-none, store-fits, length-store}
 use Rattle.bits.specs.Packed.{Number}
 use Rattle.framing.specs.Events.{numbers, Event, number, element, leaf, pair, truncation, error, implicit, nested, root, over, leaves, overs, Trace}
-use Rattle.framing.specs.Counters.{Counters, counted, counters, sums, tally}
+use Rattle.framing.specs.Counters.{Counters, counted, counters, sums, countOf}
 use Rattle.framing.specs.Records.{leafRecord, pairRecord, payloadOf, pathBytes, payloadBytes}
 use Rattle.framing.proofs.TraceLaws.{sums-assoc}
 use Rattle.outputs.specs.World.{Adding, plain, World, count, onEvent, apply, traceRecords, Totals, totalsOf, tallied}
@@ -31,28 +31,28 @@ pub apply-numbers : (add : Adding) (ns : List Number) (t : Trace) (w : World) �
 apply-numbers add [] t w = refl
 apply-numbers add (x ∷ ns) t w = apply-number add x (numbers ns ++ t) w ∙ apply-numbers add ns t w
 
--- an event counts what `tally` says
+-- an event counts what `countOf` says
 same : (n : ℕ) → n ≡ n + 0
 same n = sym (add-zero n)
 
-pub count-tally : (e : Event) (c : Counters) → count plain e c ≡ sums c (tally e)
-count-tally (number x) c = λ i. counted (same (c .elements) i) (same (c .fields) i) (same (c .truncations) i) (same (c .errors) i) (same (c .nestedBits) i) (same (c .rootBits) i) (same (c .implicits) i)
-count-tally (element n) c = λ i. counted (c .elements + 1) (same (c .fields) i) (same (c .truncations) i) (same (c .errors) i) (same (c .nestedBits) i) (same (c .rootBits) i) (same (c .implicits) i)
-count-tally (leaf x) c = λ i. counted (same (c .elements) i) (c .fields + 1) (same (c .truncations) i) (same (c .errors) i) (same (c .nestedBits) i) (same (c .rootBits) i) (same (c .implicits) i)
-count-tally (pair x) c = λ i. counted (same (c .elements) i) (c .fields + 1) (same (c .truncations) i) (same (c .errors) i) (same (c .nestedBits) i) (same (c .rootBits) i) (same (c .implicits) i)
-count-tally truncation c = λ i. counted (same (c .elements) i) (same (c .fields) i) (c .truncations + 1) (same (c .errors) i) (same (c .nestedBits) i) (same (c .rootBits) i) (same (c .implicits) i)
-count-tally error c = λ i. counted (same (c .elements) i) (same (c .fields) i) (same (c .truncations) i) (c .errors + 1) (same (c .nestedBits) i) (same (c .rootBits) i) (same (c .implicits) i)
-count-tally implicit c = λ i. counted (same (c .elements) i) (same (c .fields) i) (same (c .truncations) i) (same (c .errors) i) (same (c .nestedBits) i) (same (c .rootBits) i) (c .implicits + 1)
-count-tally (nested n) c = λ i. counted (same (c .elements) i) (same (c .fields) i) (same (c .truncations) i) (same (c .errors) i) (c .nestedBits + n) (same (c .rootBits) i) (same (c .implicits) i)
-count-tally over c = λ i. counted (same (c .elements) i) (same (c .fields) i) (same (c .truncations) i) (same (c .errors) i) (same (c .nestedBits) i) (same (c .rootBits) i) (same (c .implicits) i)
-count-tally (root n) c = λ i. counted (same (c .elements) i) (same (c .fields) i) (same (c .truncations) i) (same (c .errors) i) (same (c .nestedBits) i) (c .rootBits + n) (same (c .implicits) i)
+pub count-adds : (e : Event) (c : Counters) → count plain e c ≡ sums c (countOf e)
+count-adds (number x) c = λ i. counted (same (c .elements) i) (same (c .fields) i) (same (c .truncations) i) (same (c .errors) i) (same (c .nestedBits) i) (same (c .rootBits) i) (same (c .implicits) i)
+count-adds (element n) c = λ i. counted (c .elements + 1) (same (c .fields) i) (same (c .truncations) i) (same (c .errors) i) (same (c .nestedBits) i) (same (c .rootBits) i) (same (c .implicits) i)
+count-adds (leaf x) c = λ i. counted (same (c .elements) i) (c .fields + 1) (same (c .truncations) i) (same (c .errors) i) (same (c .nestedBits) i) (same (c .rootBits) i) (same (c .implicits) i)
+count-adds (pair x) c = λ i. counted (same (c .elements) i) (c .fields + 1) (same (c .truncations) i) (same (c .errors) i) (same (c .nestedBits) i) (same (c .rootBits) i) (same (c .implicits) i)
+count-adds truncation c = λ i. counted (same (c .elements) i) (same (c .fields) i) (c .truncations + 1) (same (c .errors) i) (same (c .nestedBits) i) (same (c .rootBits) i) (same (c .implicits) i)
+count-adds error c = λ i. counted (same (c .elements) i) (same (c .fields) i) (same (c .truncations) i) (c .errors + 1) (same (c .nestedBits) i) (same (c .rootBits) i) (same (c .implicits) i)
+count-adds implicit c = λ i. counted (same (c .elements) i) (same (c .fields) i) (same (c .truncations) i) (same (c .errors) i) (same (c .nestedBits) i) (same (c .rootBits) i) (c .implicits + 1)
+count-adds (nested n) c = λ i. counted (same (c .elements) i) (same (c .fields) i) (same (c .truncations) i) (same (c .errors) i) (c .nestedBits + n) (same (c .rootBits) i) (same (c .implicits) i)
+count-adds over c = λ i. counted (same (c .elements) i) (same (c .fields) i) (same (c .truncations) i) (same (c .errors) i) (same (c .nestedBits) i) (same (c .rootBits) i) (same (c .implicits) i)
+count-adds (root n) c = λ i. counted (same (c .elements) i) (same (c .fields) i) (same (c .truncations) i) (same (c .errors) i) (same (c .nestedBits) i) (c .rootBits + n) (same (c .implicits) i)
 
 -- counters of an event and of a trace behind it
 count-then : (e : Event) (c : Counters) (t : Trace) → sums (count plain e c) (counters t) ≡ sums c (counters (e ∷ t))
-count-then e c t = ap (λ (x : Counters). sums x (counters t)) (count-tally e c) ∙ sums-assoc c (tally e) (counters t)
+count-then e c t = ap (λ (x : Counters). sums x (counters t)) (count-adds e c) ∙ sums-assoc c (countOf e) (counters t)
 
 sums-none : (c : Counters) → sums c (counted 0 0 0 0 0 0 0) ≡ c
-sums-none c = sym (count-tally (number (record { start = 0; bytes = 0; value = 0 })) c)
+sums-none c = sym (count-adds (number (record { start = 0; bytes = 0; value = 0 })) c)
 
 passes : (n : ℕ) (xs ys : List ℕ) → n + length xs + length ys ≡ n + length (xs ++ ys)
 passes n xs ys = let e = length-append xs ys in omega arith

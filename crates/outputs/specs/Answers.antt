@@ -1,17 +1,17 @@
 -- What a public walk answers and what it leaves in the lent buffers, as functions of the call's inputs alone
 -- (01, Refusal numbers; Tables and outputs).
-use Prim.Native.Nat.{ℕ, _/_}
+use Prim.Native.Nat.{ℕ}
 use mathlib.Core.Path.{_≡_}
 use mathlib.Core.Bool.{Bool, true}
 use mathlib.Core.List.{List}
 use lib.ListN.{length}
 use lib.Dec.{leb}
+use Rattle.bits.specs.Choice.{if_then_else_}
 use Rattle.bits.specs.Runs.{filled}
 use Rattle.schema.specs.Layout.{laidOut}
 use Rattle.framing.specs.Events.{Leaf, leaves, pairs, Trace}
-use Rattle.framing.specs.declared.Walk.the-variants as how
-use Rattle.framing.specs.Sinks.{Walker, walker, object, walk}
-use Rattle.framing.specs.Records.{leafWords, pairWords, pathBytes, payloadBytes, leafRecords, pairRecords}
+use Rattle.framing.specs.Sinks.{Walker, walker, object, givesLeaves, walk}
+use Rattle.framing.specs.Records.{leafWords, pairWords, wholeRecords, pathBytes, payloadBytes, leafRecords, pairRecords}
 use Rattle.framing.specs.Refusing.{Room, noRoom, needed, within, Answer, refused, accepted, decided}
 use Rattle.framing.specs.Demand.{dropTail, Opens}
 use Rattle.outputs.specs.World.{World}
@@ -36,22 +36,20 @@ pub record Lent : Type 0 where
 
 -- refusal 2: the tables that the walk has keep their layout; an exact call has no levels
 abbrev pub laid : Walker → (levels : ℕ) → Bool
-laid (walker how.Struct t root) levels = laidOut t levels root
-laid (walker how.Exact t root) levels = laidOut t levels root
-laid (walker how.Object t root) levels = true
+laid (walker s t root) levels = if givesLeaves s then laidOut t levels root else true
 
 abbrev pub traceOf : Call → Trace
 traceOf c = walk (c .how) (c .bytes) (c .bits)
 
--- room in whole records, of so many words each: a ragged end is never written
+-- room in records of so many numbers
 abbrev pub roomWith : (words numbers paths payloads : ℕ) → Room
-roomWith words numbers paths payloads = record { leaves = numbers / words; pathBytes = paths; payloadBytes = payloads }
+roomWith words numbers paths payloads = record { leaves = wholeRecords words numbers; pathBytes = paths; payloadBytes = payloads }
 
-abbrev pub roomBy : (numbers paths payloads : ℕ) → Room
-roomBy l p y = roomWith leafWords l p y
+abbrev pub roomOver : (words : ℕ) → Lent → Room
+roomOver words b = roomWith words (length (b .leaves)) (length (b .paths)) (length (b .payloads))
 
 abbrev pub roomOf : Lent → Room
-roomOf b = roomBy (length (b .leaves)) (length (b .paths)) (length (b .payloads))
+roomOf b = roomOver leafWords b
 
 unfoldable pub answer : Call → Lent → Answer Room
 answer c b =
@@ -76,12 +74,16 @@ pub record Answered (c : Call) (b : Lent) (r : Answer Room) (end : Lent) : Type 
   pub paths : end .paths ≡ finalPaths c b
   pub payloads : end .payloads ≡ finalPayloads c b
 
--- what a measuring pass found
+-- what a measuring pass found; its next write is due behind a whole record, so that the division leaves nothing
 abbrev pub measuredWith : (words : ℕ) → World → Room
 measuredWith words w = roomWith words (w .records .at) (w .paths .at) (w .payloads .at)
 
 abbrev pub measured : World → Room
 measured w = measuredWith leafWords w
+
+-- the buffers as a writing pass leaves them
+abbrev pub heldBy : World → Lent
+heldBy w = record { leaves = w .records .held; paths = w .paths .held; payloads = w .payloads .held }
 
 -- ---- the object walk: pairs only
 
@@ -91,7 +93,7 @@ pairTrace bytes bits = walk object bytes bits
 unfoldable pub pairAnswer : (bytes : List ℕ) (bits : ℕ) (lent : List ℕ) → Answer ℕ
 pairAnswer bytes bits lent =
     decided bits true (pairTrace bytes bits) 0 (length (pairs (pairTrace bytes bits)))
-    (leb (length (pairs (pairTrace bytes bits))) (length lent / pairWords))
+    (leb (length (pairs (pairTrace bytes bits))) (wholeRecords pairWords (length lent)))
 
 unfoldable pub finalPairs : (bytes : List ℕ) (bits : ℕ) (lent : List ℕ) → List ℕ
 finalPairs bytes bits lent = atExit (pairAnswer bytes bits lent) (pairRecords (pairs (pairTrace bytes bits))) lent

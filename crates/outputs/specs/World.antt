@@ -1,6 +1,6 @@
 -- What a walk's events do to the counters and the lent buffers.
--- The code is proved equal to `apply (wrapping m) events world`, m being 2 ^ 32, as many numbers as its words hold; the meaning is `apply plain events world`; proofs/NoWrap
--- shows that the two coincide.
+-- The code is proved equal to `apply (wrapping m) events world`, m being 2 ^ 32, one more than the largest u32; the meaning is
+-- `apply plain events world`; proofs/NoWrap shows that the two coincide.
 use Prim.Native.Nat.{ℕ, _+_, _%_}
 use mathlib.Core.List.{List, [], _∷_, _++_}
 use lib.ListN.{length}

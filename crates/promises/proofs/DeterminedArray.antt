@@ -25,9 +25,9 @@ pub one-decode-struct-array : (bytes : List ℕ) (bits : ℕ) (t : Tables) (leve
 one-decode-struct-array bytes bits t levels root b = one-struct (structCall bytes bits t levels root) b
 
 -- `decode_struct_array_exact` has one answer and leaves its three buffers in one state.
-pub one-decode-struct-array-exact : (bytes : List ℕ) (bits : ℕ) (declared pool : List ℕ) (b : Lent)
-    → DeterminesAll (Decodes (exactCall bytes bits declared pool) b)
-one-decode-struct-array-exact bytes bits declared pool b = one-struct (exactCall bytes bits declared pool) b
+pub one-decode-struct-array-exact : (bytes : List ℕ) (bits : ℕ) (declared declaredNames : List ℕ) (b : Lent)
+    → DeterminesAll (Decodes (exactCall bytes bits declared declaredNames) b)
+one-decode-struct-array-exact bytes bits declared declaredNames b = one-struct (exactCall bytes bits declared declaredNames) b
 
 -- `decode_object_ref_array` has one answer and leaves its pairs in one state.
 pub one-decode-object-ref-array : (bytes : List ℕ) (bits : ℕ) (pairs : List ℕ) → DeterminesAll (DecodesPairs bytes bits pairs)

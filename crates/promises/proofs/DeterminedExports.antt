@@ -17,7 +17,7 @@ use Rattle.geometry.specs.Rotations.{readRotation}
 use Rattle.geometry.specs.Vectors.{readVector, readNormal}
 use Rattle.exports.specs.MoveResults.{vectorResult, rotationResult, movementResult, rotationKind, locationKind}
 use Rattle.exports.specs.ReadResults.{cursorOf, bitsResult, packedResult, serializedResult, copyResult}
-use Rattle.exports.specs.WalkResults.{Walks, WalksPairs, countersIn, mergeResult, Judges, schemaResult, modeOf, DecodesBody}
+use Rattle.exports.specs.WalkResults.{Walks, WalksPairs, countersIn, mergeResult, JudgesByNumber, schemaResult, modeOf, DecodesBody}
 use Rattle.exports.specs.declared.VrfCounters.{VrfCounters}
 use Rattle.exports.specs.declared.VrfCursor.{VrfCursor}
 use Rattle.promises.specs.Determining.{Determines, DeterminesAll}
@@ -38,9 +38,9 @@ pub one-vrf-struct-array : (bytes : List ℕ) (bits : ℕ) (t : Tables) (levels 
 one-vrf-struct-array bytes bits t levels root b = one-walk (structCall bytes bits t levels root) b
 
 -- `vrf_struct_array_exact` has one answer and leaves its three buffers in one state.
-pub one-vrf-struct-array-exact : (bytes : List ℕ) (bits : ℕ) (declared pool : List ℕ) (b : Lent)
-    → DeterminesAll (Walks (exactCall bytes bits declared pool) b)
-one-vrf-struct-array-exact bytes bits declared pool b = one-walk (exactCall bytes bits declared pool) b
+pub one-vrf-struct-array-exact : (bytes : List ℕ) (bits : ℕ) (declared declaredNames : List ℕ) (b : Lent)
+    → DeterminesAll (Walks (exactCall bytes bits declared declaredNames) b)
+one-vrf-struct-array-exact bytes bits declared declaredNames b = one-walk (exactCall bytes bits declared declaredNames) b
 
 -- `vrf_object_array` has one answer and leaves its pairs in one state.
 pub one-vrf-object-array : (bytes : List ℕ) (bits : ℕ) (pairs : List ℕ) → DeterminesAll (WalksPairs bytes bits pairs)
@@ -51,7 +51,7 @@ pub one-vrf-merge : (left right : VrfCounters) → Determines (λ r. r ≡ merge
 one-vrf-merge left right = one-equal (mergeResult (merge (countersIn left) (countersIn right)))
 
 -- `vrf_verdict` has one answer: any walk and any number of bits tell its number.
-pub one-vrf-verdict : (counters : VrfCounters) → Determines (Judges (countersIn counters))
+pub one-vrf-verdict : (counters : VrfCounters) → Determines (JudgesByNumber (countersIn counters))
 one-vrf-verdict counters r s f g = f object 0 ∙ sym (g object 0)
 
 -- ---- the schema, and the fast array

@@ -63,9 +63,9 @@ pub kept-decode-struct-array : (bytes : List ℕ) (bits : ℕ) (t : Tables) (lev
 kept-decode-struct-array bytes bits t levels root = kept-leaves (structCall bytes bits t levels root)
 
 -- A refused exact walk leaves its three buffers as lent.
-pub kept-decode-struct-array-exact : (bytes : List ℕ) (bits : ℕ) (declared pool : List ℕ) (b : Lent) (r : StructArray) (x : Lent) (n : Numbered)
-    → Decodes (exactCall bytes bits declared pool) b r x → ofWalk (answerOf r) ≡ some n → x ≡ b
-kept-decode-struct-array-exact bytes bits declared pool = kept-leaves (exactCall bytes bits declared pool)
+pub kept-decode-struct-array-exact : (bytes : List ℕ) (bits : ℕ) (declared declaredNames : List ℕ) (b : Lent) (r : StructArray) (x : Lent) (n : Numbered)
+    → Decodes (exactCall bytes bits declared declaredNames) b r x → ofWalk (answerOf r) ≡ some n → x ≡ b
+kept-decode-struct-array-exact bytes bits declared declaredNames = kept-leaves (exactCall bytes bits declared declaredNames)
 
 -- A refused object walk leaves its pairs as lent.
 pub kept-decode-object-ref-array : (bytes : List ℕ) (bits : ℕ) (b : List ℕ) (r : ObjectArray) (x : List ℕ) (n : Numbered)
@@ -138,9 +138,9 @@ pub kept-vrf-struct-array : (bytes : List ℕ) (bits : ℕ) (t : Tables) (levels
 kept-vrf-struct-array bytes bits t levels root = kept-walk (structCall bytes bits t levels root)
 
 -- `vrf_struct_array_exact`, refused, leaves its three buffers as lent.
-pub kept-vrf-struct-array-exact : (bytes : List ℕ) (bits : ℕ) (declared pool : List ℕ) (b : Lent) (r : VrfWalk) (x : Lent)
-    → Walks (exactCall bytes bits declared pool) b r x → (r .refusal ≡ 0 → ⊥) → x ≡ b
-kept-vrf-struct-array-exact bytes bits declared pool = kept-walk (exactCall bytes bits declared pool)
+pub kept-vrf-struct-array-exact : (bytes : List ℕ) (bits : ℕ) (declared declaredNames : List ℕ) (b : Lent) (r : VrfWalk) (x : Lent)
+    → Walks (exactCall bytes bits declared declaredNames) b r x → (r .refusal ≡ 0 → ⊥) → x ≡ b
+kept-vrf-struct-array-exact bytes bits declared declaredNames = kept-walk (exactCall bytes bits declared declaredNames)
 
 -- `vrf_object_array`, refused, leaves its pairs as lent.
 pub kept-vrf-object-array : (bytes : List ℕ) (bits : ℕ) (b : List ℕ) (r : VrfObjects) (x : List ℕ) → WalksPairs bytes bits b r x → (r .refusal ≡ 0 → ⊥) → x ≡ b

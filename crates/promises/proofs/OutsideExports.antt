@@ -37,11 +37,11 @@ module _ (s t : List ℕ) (n : ℕ) (same : Hold s t n) where
   )
 
   -- `vrf_struct_array_exact` answers the same and leaves the same buffers.
-  pub outside-vrf-struct-array-exact : (declared pool : List ℕ) (b : Lent) (r q : VrfWalk) (x y : Lent)
-      → Walks (exactCall s n declared pool) b r x → Walks (exactCall t n declared pool) b q y → (r ≡ q) × (x ≡ y)
-  outside-vrf-struct-array-exact declared pool b r q x y f g = (
-    f .says ∙ ap (walkResult (exact declared pool) n) (same-answer s t n same (exact declared pool) 0 b) ∙ sym (g .says),
-    f .buffers ∙ same-final s t n same (exact declared pool) 0 b ∙ sym (g .buffers),
+  pub outside-vrf-struct-array-exact : (declared declaredNames : List ℕ) (b : Lent) (r q : VrfWalk) (x y : Lent)
+      → Walks (exactCall s n declared declaredNames) b r x → Walks (exactCall t n declared declaredNames) b q y → (r ≡ q) × (x ≡ y)
+  outside-vrf-struct-array-exact declared declaredNames b r q x y f g = (
+    f .says ∙ ap (walkResult (exact declared declaredNames) n) (same-answer s t n same (exact declared declaredNames) 0 b) ∙ sym (g .says),
+    f .buffers ∙ same-final s t n same (exact declared declaredNames) 0 b ∙ sym (g .buffers),
   )
 
   -- `vrf_object_array` answers the same and leaves the same buffers.

@@ -73,9 +73,9 @@ module _ (s t : List ℕ) (n : ℕ) (same : Hold s t n) where
   outside-decode-struct-array tables levels root = outside-walk (struct tables root) levels
 
   -- An exact walk answers the same and leaves the same buffers.
-  pub outside-decode-struct-array-exact : (declared pool : List ℕ) (b : Lent) (r q : StructArray) (x y : Lent)
-      → Decodes (exactCall s n declared pool) b r x → Decodes (exactCall t n declared pool) b q y → (r ≡ q) × (x ≡ y)
-  outside-decode-struct-array-exact declared pool = outside-walk (exact declared pool) 0
+  pub outside-decode-struct-array-exact : (declared declaredNames : List ℕ) (b : Lent) (r q : StructArray) (x y : Lent)
+      → Decodes (exactCall s n declared declaredNames) b r x → Decodes (exactCall t n declared declaredNames) b q y → (r ≡ q) × (x ≡ y)
+  outside-decode-struct-array-exact declared declaredNames = outside-walk (exact declared declaredNames) 0
 
   -- So are an object walk's answer and pairs.
   pub same-pairs : (b : List ℕ) → (pairAnswer s n b ≡ pairAnswer t n b) × (finalPairs s n b ≡ finalPairs t n b)

@@ -198,11 +198,11 @@ module _ (longer shorter : List ℕ) (n m : ℕ) (first : FirstBits longer short
         leaves-begin (structCall shorter m t levels root) (structCall longer n t levels root) (cut-call (struct t root) levels) b d x y st su v w e f p q
 
     -- DEMAND 3 OF THE EXACT WALK: the same.
-    pub prefix-decode-struct-array-exact : (declared pool : List ℕ) → Decodes (exactCall shorter m declared pool) b (structs.Decoded st v e) x
-        → Decodes (exactCall longer n declared pool) d (structs.Decoded su w f) y
-        → Begins (exactCall shorter m declared pool) (exactCall longer n declared pool) v w (roomIn e) (roomIn f) x y
-    prefix-decode-struct-array-exact declared pool p q =
-        leaves-begin (exactCall shorter m declared pool) (exactCall longer n declared pool) (cut-call (exact declared pool) 0) b d x y st su v w e f p q
+    pub prefix-decode-struct-array-exact : (declared declaredNames : List ℕ) → Decodes (exactCall shorter m declared declaredNames) b (structs.Decoded st v e) x
+        → Decodes (exactCall longer n declared declaredNames) d (structs.Decoded su w f) y
+        → Begins (exactCall shorter m declared declaredNames) (exactCall longer n declared declaredNames) v w (roomIn e) (roomIn f) x y
+    prefix-decode-struct-array-exact declared declaredNames p q =
+        leaves-begin (exactCall shorter m declared declaredNames) (exactCall longer n declared declaredNames) (cut-call (exact declared declaredNames) 0) b d x y st su v w e f p q
 
 -- ---- the object walk
 
@@ -243,10 +243,10 @@ module _ (longer shorter : List ℕ) (n m : ℕ) (first : FirstBits longer short
 -- ---- the excuses, by walk
 
 -- The exact walk takes no trailer: only a window of no bits is excused.
-pub exact-excused : (declared pool : List ℕ) (w : Window) (m : ℕ) → Excused (exact declared pool) w m → m ≡ 0
+pub exact-excused : (declared declaredNames : List ℕ) (w : Window) (m : ℕ) → Excused (exact declared declaredNames) w m → m ≡ 0
 unfolding sinkOf structSink
-exact-excused declared pool w m (nothing-sent e) = eqb-true m 0 e
-exact-excused declared pool w m (lacks-trailer t h z) = let y : _≡_ {A = ℕ} 0 1 = cc in never y
+exact-excused declared declaredNames w m (nothing-sent e) = eqb-true m 0 e
+exact-excused declared declaredNames w m (lacks-trailer t h z) = let y : _≡_ {A = ℕ} 0 1 = cc in never y
 
 -- An object walk of no bits is never silent: only the zero trailer is excused.
 pub object-excused : (w : Window) (m : ℕ) → Excused object w m → (m + trailerBits ≡ w .size) × (field (w .bits) m trailerBits ≡ 0)

@@ -214,9 +214,9 @@ pub refused-vrf-struct-array : (bytes : List ℕ) (bits : ℕ) (t : Tables) (lev
 refused-vrf-struct-array bytes bits t levels root b r x f = ap inWalk (f .says) ∙ walk-in (structCall bytes bits t levels root) b
 
 -- `vrf_struct_array_exact` gives 1, 2, 5, 3.
-pub refused-vrf-struct-array-exact : (bytes : List ℕ) (bits : ℕ) (declared pool : List ℕ) (b : Lent) (r : VrfWalk) (x : Lent)
-    → Walks (exactCall bytes bits declared pool) b r x → inWalk r ≡ firstOf (walkRules (exactCall bytes bits declared pool) b)
-refused-vrf-struct-array-exact bytes bits declared pool b r x f = ap inWalk (f .says) ∙ walk-in (exactCall bytes bits declared pool) b
+pub refused-vrf-struct-array-exact : (bytes : List ℕ) (bits : ℕ) (declared declaredNames : List ℕ) (b : Lent) (r : VrfWalk) (x : Lent)
+    → Walks (exactCall bytes bits declared declaredNames) b r x → inWalk r ≡ firstOf (walkRules (exactCall bytes bits declared declaredNames) b)
+refused-vrf-struct-array-exact bytes bits declared declaredNames b r x f = ap inWalk (f .says) ∙ walk-in (exactCall bytes bits declared declaredNames) b
 
 -- `vrf_object_array` gives 1, 3.
 pub refused-vrf-object-array : (bytes : List ℕ) (bits : ℕ) (b : List ℕ) (r : VrfObjects) (x : List ℕ)

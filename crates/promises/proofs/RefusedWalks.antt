@@ -60,10 +60,10 @@ refused-decode-struct-array bytes bits t levels root b r x f =
     ap ofWalk (f .answered .says) ∙ walk-order ofWalk (λ k n. refl) (λ k n e. refl) (structCall bytes bits t levels root) b
 
 -- An exact walk gives 1, 2, 5, 3.
-pub refused-decode-struct-array-exact : (bytes : List ℕ) (bits : ℕ) (declared pool : List ℕ) (b : Lent) (r : StructArray) (x : Lent)
-    → Decodes (exactCall bytes bits declared pool) b r x → ofWalk (answerOf r) ≡ firstOf (walkRules (exactCall bytes bits declared pool) b)
-refused-decode-struct-array-exact bytes bits declared pool b r x f =
-    ap ofWalk (f .answered .says) ∙ walk-order ofWalk (λ k n. refl) (λ k n e. refl) (exactCall bytes bits declared pool) b
+pub refused-decode-struct-array-exact : (bytes : List ℕ) (bits : ℕ) (declared declaredNames : List ℕ) (b : Lent) (r : StructArray) (x : Lent)
+    → Decodes (exactCall bytes bits declared declaredNames) b r x → ofWalk (answerOf r) ≡ firstOf (walkRules (exactCall bytes bits declared declaredNames) b)
+refused-decode-struct-array-exact bytes bits declared declaredNames b r x f =
+    ap ofWalk (f .answered .says) ∙ walk-order ofWalk (λ k n. refl) (λ k n e. refl) (exactCall bytes bits declared declaredNames) b
 
 -- ---- the object walk: 1, 3. It grows no path, so that 5 is never given.
 

@@ -19,15 +19,15 @@ pub data Outcome : Type 0 where
   moves : Movement → (used : ℕ) → Outcome
   refuses : Numbered → Outcome
 
-pub record Row : Type 0 where
+pub record CaseRow : Type 0 where
   pub number : ℕ
   pub given : Outcome
   pub stated : Outcome
 
-abbrev pub walkRow : (number : ℕ) → Case → Row
+abbrev pub walkRow : (number : ℕ) → Case → CaseRow
 walkRow n c = record { number = n; given = walked (found c); stated = walked (c .answer) }
 
-abbrev pub walkRows : (numbers : List ℕ) → List Case → List Row
+abbrev pub walkRows : (numbers : List ℕ) → List Case → List CaseRow
 walkRows [] cs = []
 walkRows (n ∷ ns) [] = []
 walkRows (n ∷ ns) (c ∷ cs) = walkRow n c ∷ walkRows ns cs
@@ -37,10 +37,10 @@ outcome (M.Value m used) = moves m used
 outcome (M.Refused r) = refuses (numbered r)
 
 -- scale 1, width 8
-abbrev pub moveRow : (number bits : ℕ) → Outcome → Row
+abbrev pub moveRow : (number bits : ℕ) → Outcome → CaseRow
 moveRow n bits o = record { number = n; given = outcome (readMovement bytes bits ByteComponents RoundWholeNumber); stated = o }
 
-abbrev pub table : List Row
+abbrev pub table : List CaseRow
 table =
     walkRows (1 ∷ 2 ∷ 3 ∷ 4 ∷ 5 ∷ 6 ∷ 7 ∷ 8 ∷ 9 ∷ 10 ∷ 11 ∷ 11 ∷ 12 ∷ 13 ∷ []) cases ++
     (moveRow 14 27 (moves moved 27) ∷ moveRow 14 26 (refuses (refusal 7 24 26 3)) ∷ [])

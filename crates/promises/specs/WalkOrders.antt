@@ -1,6 +1,6 @@
 -- The order of the refusals of the walks, a merge, the tables and the schema (01, Refusal numbers): the first whose condition holds is given, and
 -- none if none holds. And the refusal that an answer is, if it is one.
-use Prim.Native.Nat.{ℕ, _/_}
+use Prim.Native.Nat.{ℕ}
 use mathlib.Core.Bool.{not}
 use mathlib.Core.List.{List, [], _∷_}
 use mathlib.Core.Option.{Option, none, some}
@@ -13,7 +13,7 @@ use Rattle.schema.specs.Tables.{Tables}
 use Rattle.schema.specs.TwelveLevels.{enough, rowNumbers, nameBytes}
 use Rattle.framing.specs.Counters.{Counters, sums}
 use Rattle.framing.specs.Events.{overs, pairs}
-use Rattle.framing.specs.Records.{pairWords}
+use Rattle.framing.specs.Records.{pairWords, wholeRecords}
 use Rattle.framing.specs.Refusing.{Room, needed, within, Answer, refused, accepted}
 use Rattle.outputs.specs.Answers.{Call, Lent, laid, traceOf, roomOf, pairTrace}
 use Rattle.array.specs.Merges.{Sums, summed, overflowing, bounded}
@@ -47,7 +47,7 @@ walkRules c b =
 abbrev pub pairRules : (bytes : List ℕ) (bits : ℕ) (lent : List ℕ) → List (Rule Numbered)
 pairRules bytes bits lent =
     tooLong bits ∷
-    when (ltb (length lent / pairWords) (length (pairs (pairTrace bytes bits)))) (refusal 3 (length (pairs (pairTrace bytes bits))) 0 0) ∷ []
+    when (ltb (wholeRecords pairWords (length lent)) (length (pairs (pairTrace bytes bits)))) (refusal 3 (length (pairs (pairTrace bytes bits))) 0 0) ∷ []
 
 -- ---- a merge: 4, with the left counters
 

@@ -9,7 +9,7 @@ use lib.Seq.{length-take-le}
 use borrow.Author.Tests.{ltb-true, leb-true, eqb-true}
 use Rattle.bits.specs.Choice.{if_then_else_}
 use Rattle.bits.specs.Sizes.{maxLevels, maxRows, maxHandles, maxName, maxPool}
-use Rattle.schema.specs.Tables.{Tables, absent, nameKind, cell, fits, rowCount, rowOf, nameAt, schemaName, declaredName}
+use Rattle.schema.specs.Tables.{Tables, absent, nameKind, cell, rowMatches, rowCount, rowOf, nameAt, schemaName, declaredName}
 use Rattle.schema.specs.Layout.{allFrom, nameFits, kindFits, rowFits, declaredFits, schemaSized, declaredSized, rootFits, schemaLaid, declaredLaid, laidOut}
 use Rattle.schema.specs.Labels.{bySchema, byDeclaration, containerLabel, leafLabel, labelBytes, labelLength, labelPart, NameLies, LabelLies}
 use Rattle.schema.specs.declared.Row.{Row}
@@ -18,7 +18,7 @@ use Rattle.schema.specs.declared.Name.{Name}
 use Rattle.schema.specs.declared.Name.the-variants.{At, Unnamed}
 use Rattle.schema.specs.declared.Label.{Label}
 use Rattle.schema.specs.declared.Label.the-variants.{Declared, Named, Plain}
-use Rattle.schema.proofs.RowLaws.{found, found-fits}
+use Rattle.schema.proofs.RowLaws.{found, found-matches}
 use Rattle.schema.proofs.LayoutLaws.{and-left, and-right, and-three, and-four, all-at}
 use Rattle.schema.proofs.LabelLaws.{declared-bytes, named-bytes}
 use Rattle.bits.proofs.DecimalLaws.{decimal-some}
@@ -95,11 +95,11 @@ module _ (t : Tables) (levels root : ℕ) (l : Laid t levels root) where
   -- a row that was found has what its kind asks
   of-kind : (level kind handle j : ℕ) → rowOf (t .rows) level kind handle ≡ Row.At j
       → kindFits levels (length (t .names)) kind (cell (t .rows) j 3) (cell (t .rows) j 4) ≡ true
-  unfolding rowOf fits rowFits
+  unfolding rowOf rowMatches rowFits
   of-kind level kind handle j e =
       let n = rowCount (t .rows) in
       let b = found (t .rows) level kind handle n 0 j e in
-      let f = found-fits (t .rows) level kind handle n 0 j e in
+      let f = found-matches (t .rows) level kind handle n 0 j e in
       let e₀ = eqb (cell (t .rows) j 0) level in
       let e₁ = eqb (cell (t .rows) j 1) kind in
       let e₂ = eqb (cell (t .rows) j 2) handle in

@@ -1,5 +1,5 @@
 -- A look-up in a level's span finds what one in the whole table finds, whatever the table: each row of the level lies in the span, and a row of
--- another level does not fit.
+-- another level does not match.
 use mathlib.Core.Path.{_≡_, refl, sym, ap, _∙_}
 use mathlib.Core.Bool.{Bool, true, false}
 use mathlib.Core.List.{List}
@@ -11,7 +11,7 @@ use lib.ListN.{length, getD, set, length-set, length-replicate, getD-replicate}
 use lib.Seq.{getD-set-same, getD-set-other}
 use borrow.Author.Tests.{eq-eqb, ne-eqb, eqb-true, eqb-false, leb-true, leb-false}
 use Rattle.bits.specs.Sizes.{maxLevels}
-use Rattle.schema.specs.Tables.{cell, fits, arrayKind, nameKind, childAt, nameAt, firstRow, rowCount, rowIn, rowOf, child, schemaName}
+use Rattle.schema.specs.Tables.{cell, rowMatches, arrayKind, nameKind, childAt, nameAt, firstRow, rowCount, rowIn, rowOf, child, schemaName}
 use Rattle.schema.specs.Spans.{entry, entryIn, spanNumbers, noSpans, spanPlace, widened, spansFrom, spansOf, entryAt}
 use Rattle.schema.proofs.RowLaws.{skip-front, skip-back, none-left, other-level}
 
@@ -191,7 +191,7 @@ covers-all rows level =
 -- where each row of the level lies from f to before l, a look-up there is one in all n rows
 module _ (rows : List ℕ) (level kind handle f l n : ℕ) (last-le : l ≤ n)
     (covered : (j : ℕ) → j < n → cell rows j 0 ≡ level → (f ≤ j) × (j < l)) where
-  out : (j : ℕ) → j < n → (f ≤ j → j < l → ⊥) → fits rows level kind handle j ≡ false
+  out : (j : ℕ) → j < n → (f ≤ j → j < l → ⊥) → rowMatches rows level kind handle j ≡ false
   out j lt h = sym (other-level rows level handle j kind (cell rows j 0) refl (λ q. let w = covered j lt q in h (w .0) (w .1)))
 
   in-cover : firstRow (min l n - f) rows level kind handle f ≡ firstRow n rows level kind handle 0

@@ -9,7 +9,7 @@ use lib.ListN.{length}
 use borrow.Author.Tests.{le-leb, lt-leb, lt-ltb, eqb-true}
 use Rattle.bits.specs.Choice.{if_then_else_}
 use Rattle.bits.specs.Runs.{put}
-use Rattle.schema.specs.Tables.{absent, cell, fits, arrayKind, nameKind, childAt, nameAt, firstRow, rowOf, rowCount, child, schemaName}
+use Rattle.schema.specs.Tables.{absent, cell, rowMatches, arrayKind, nameKind, childAt, nameAt, firstRow, rowOf, rowCount, child, schemaName}
 use Rattle.schema.specs.Layout.{allFrom, nameFits, kindFits, rowFits, declaredFits, schemaSized, declaredSized, rootFits, schemaLaid, declaredLaid, laidOut}
 use Rattle.schema.specs.Labels.{bySchema, containerLabel, labelBytes, unnamed}
 use Rattle.schema.specs.SchemaFile.{Stated, stated, about, ofStated, isStated, childStated, labelStated}
@@ -67,11 +67,11 @@ abbrev labelAt : (level handle : ℕ) → List ℕ
 labelAt level handle = labelBytes twelveLevels handle (containerLabel twelveLevels level handle)
 
 children-stated : map (λ s. child schemaRows (s .level) (s .handle)) stated ≡ map (λ s. s .child) stated
-unfolding child rowOf firstRow fits cell schemaRows
+unfolding child rowOf firstRow rowMatches cell schemaRows
 children-stated = refl
 
 labels-stated : map (λ s. labelAt (s .level) (s .handle)) stated ≡ map (λ s. s .name) stated
-unfolding schemaName rowOf firstRow fits cell containerLabel bySchema labelBytes schemaRows schemaNames ascii
+unfolding schemaName rowOf firstRow rowMatches cell containerLabel bySchema labelBytes schemaRows schemaNames ascii
 labels-stated = refl
 
 abbrev rowStated : ℕ → Bool
@@ -100,13 +100,13 @@ module _ {A : Type 0} (f : ℕ → ℕ → A) (what : Stated → A) (none : A) (
           ap₂ f (sym a) (sym b) ∙ h
       go false q more other = more other
 
--- where nothing is stated no row fits
+-- where nothing is stated no row matches
 module _ (level handle : ℕ) (h : isStated level handle ≡ false) where
-  no-row : (kind i : ℕ) → i < rowCount schemaRows → fits schemaRows level kind handle i ≡ false
-  unfolding fits
-  no-row kind i k = go (fits schemaRows level kind handle i) refl
+  no-row : (kind i : ℕ) → i < rowCount schemaRows → rowMatches schemaRows level kind handle i ≡ false
+  unfolding rowMatches
+  no-row kind i k = go (rowMatches schemaRows level kind handle i) refl
     where
-      go : (b : Bool) → fits schemaRows level kind handle i ≡ b → fits schemaRows level kind handle i ≡ false
+      go : (b : Bool) → rowMatches schemaRows level kind handle i ≡ b → rowMatches schemaRows level kind handle i ≡ false
       go false e = e
       go true e =
           let p = and-three (eqb (cell schemaRows i 0) level) (eqb (cell schemaRows i 1) kind) (eqb (cell schemaRows i 2) handle) e in

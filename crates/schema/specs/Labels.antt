@@ -48,11 +48,16 @@ labelLength handle Plain = 2 + length (decimal handle)
 abbrev pub NameLies : (pool start len : ℕ) → Type 0
 NameLies pool start len = (len ≤ maxName) × (start + len ≤ pool)
 
--- a label's name, if it has one, lies in its pool; so it does where the tables keep their layout
+-- a label's name, if it has one, is no longer than a name may be and lies in its pool; so it does where the tables keep their layout
 unfoldable pub LabelLies : Tables → Label → Type 0
 LabelLies t (Declared start len) = NameLies (length (t .declaredNames)) start len
 LabelLies t (Named start len) = NameLies (length (t .names)) start len
 LabelLies t Plain = Unit
+
+-- all of them do
+pub record LabelsLie (t : Tables) : Type 0 where
+  pub leaf : (level handle : ℕ) → LabelLies t (leafLabel t level handle)
+  pub container : (level handle : ℕ) → LabelLies t (containerLabel t level handle)
 
 -- the bytes of a name in its pool; none where it does not lie there
 unfoldable pub nameIn : (pool : List ℕ) (start len : ℕ) → List ℕ

@@ -47,19 +47,20 @@ nameKind = 1
 unfoldable pub cell : (rows : List ℕ) (i j : ℕ) → ℕ
 cell rows i j = getD rows (rowSize * i + j) 0
 
-unfoldable pub fits : (rows : List ℕ) (level kind handle i : ℕ) → Bool
-fits rows level kind handle i = eqb (cell rows i 0) level && eqb (cell rows i 1) kind && eqb (cell rows i 2) handle
+-- whether row i is of this level, kind and handle
+unfoldable pub rowMatches : (rows : List ℕ) (level kind handle i : ℕ) → Bool
+rowMatches rows level kind handle i = eqb (cell rows i 0) level && eqb (cell rows i 1) kind && eqb (cell rows i 2) handle
 
--- the first of the `left` rows from i on that fits
+-- the first of the `left` rows from i on that matches
 unfoldable pub firstRow : (left : ℕ) (rows : List ℕ) (level kind handle i : ℕ) → Row
 firstRow zero rows level kind handle i = Row.Missing
 firstRow (suc left) rows level kind handle i =
-    if fits rows level kind handle i then Row.At i else firstRow left rows level kind handle (i + 1)
+    if rowMatches rows level kind handle i then Row.At i else firstRow left rows level kind handle (i + 1)
 
 abbrev pub rowCount : List ℕ → ℕ
 rowCount rows = length rows / rowSize
 
--- the first that fits of the rows from `first` to before `last`, and of the whole table
+-- the first that matches of the rows from `first` to before `last`, and of the whole table
 unfoldable pub rowIn : (rows : List ℕ) (first last level kind handle : ℕ) → Row
 rowIn rows first last level kind handle = firstRow (min last (rowCount rows) - first) rows level kind handle first
 

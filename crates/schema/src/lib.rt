@@ -22,7 +22,7 @@ pub const NAME_KIND: u32 = 1;
 // The root level that means no schema, and the start that means no declared name.
 pub const ABSENT: u32 = 4294967295;
 
-// The first row that fits.
+// The first row that matches.
 pub enum Row {
     At(usize),
     Missing,

@@ -1,8 +1,8 @@
-// Look-ups in the schema's rows and in the declared table: the first row that fits counts.
+// Look-ups in the schema's rows and in the declared table: the first row that matches counts.
 ghost use mathlib.Core.Path.{_≡_};
 ghost use Prim.Native.Nat.{_+_, _*_, _≤_, _<_, min};
 ghost use lib.ListN.{length};
-ghost use Rattle.schema.specs.Tables.{rowSize, cell, fits, rowCount, rowIn, rowOf, child, schemaName, declaredName};
+ghost use Rattle.schema.specs.Tables.{rowSize, cell, rowMatches, rowCount, rowIn, rowOf, child, schemaName, declaredName};
 use crate::ABSENT;
 use crate::ARRAY_KIND;
 use crate::Child;
@@ -20,10 +20,10 @@ pub(crate) fn cell_at(rows: &[u32], i: usize, j: usize) -> u32
     rows[at]
 }
 
-// Whether row i fits.
-fn row_fits(rows: &[u32], i: usize, level: u32, kind: u32, handle: u32) -> bool
+// Whether row i is of this level, kind and handle.
+fn row_matches(rows: &[u32], i: usize, level: u32, kind: u32, handle: u32) -> bool
     requires { ⌜ rowSize * i + rowSize ≤ length (now rows) ⌝ }
-    ensures { λ r. ⌜ r ≡ fits (now (rows .entry)) level kind handle i ⌝ }
+    ensures { λ r. ⌜ r ≡ rowMatches (now (rows .entry)) level kind handle i ⌝ }
 {
     if cell_at(rows, i, 0) != level {
         return false;
@@ -42,14 +42,14 @@ pub(crate) fn clipped(rows: &[u32], last: usize) -> usize
     if last < n { last } else { n }
 }
 
-// The first row that fits, of those from first to before last.
+// The first row that matches, of those from first to before last.
 pub fn first_row(rows: &[u32], first: usize, last: usize, level: u32, kind: u32, handle: u32) -> Row
     ensures { λ r. ⌜ r ≡ rowIn (now (rows .entry)) first last level kind handle ⌝ }
 {
     let end = clipped(rows, last);
     let mut i = first;
     while i < end {
-        if row_fits(rows, i, level, kind, handle) {
+        if row_matches(rows, i, level, kind, handle) {
             return Row::At(i);
         }
         i += 1;
@@ -57,7 +57,7 @@ pub fn first_row(rows: &[u32], first: usize, last: usize, level: u32, kind: u32,
     Row::Missing
 }
 
-// The first row that fits.
+// The first row that matches.
 pub fn row_of(rows: &[u32], level: u32, kind: u32, handle: u32) -> Row
     ensures { λ r. ⌜ r ≡ rowOf (now (rows .entry)) level kind handle ⌝ }
 {

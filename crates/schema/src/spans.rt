@@ -4,7 +4,7 @@ ghost use Prim.Native.Nat.{_+_, _-_, _*_, _^_, _≤_, _<_};
 ghost use lib.Dec.{eqb};
 ghost use lib.ListN.{length};
 ghost use Rattle.bits.specs.Sizes.{maxLevels};
-ghost use Rattle.schema.specs.Tables.{rowSize, fits, arrayKind, nameKind};
+ghost use Rattle.schema.specs.Tables.{rowSize, rowMatches, arrayKind, nameKind};
 ghost use Rattle.schema.specs.Spans.{spanPlace, widened, spansOf, entryIn, entryAt};
 use crate::ARRAY_KIND;
 use crate::Child;
@@ -69,8 +69,8 @@ pub fn level_spans(rows: &[u32]) -> [usize; SPAN_NUMBERS]
 // The kind of row i where its level and handle are these; else none.
 fn kind_at(rows: &[u32], i: usize, level: u32, handle: u32) -> u32
     requires { ⌜ rowSize * i + rowSize ≤ length (now rows) ⌝ }
-    ensures { λ r. ⌜ (eqb r arrayKind ≡ fits (now (rows .entry)) level arrayKind handle i)
-        × (eqb r nameKind ≡ fits (now (rows .entry)) level nameKind handle i) ⌝ }
+    ensures { λ r. ⌜ (eqb r arrayKind ≡ rowMatches (now (rows .entry)) level arrayKind handle i)
+        × (eqb r nameKind ≡ rowMatches (now (rows .entry)) level nameKind handle i) ⌝ }
 {
     if cell_at(rows, i, 2) != handle {
         return NO_KIND;
@@ -82,7 +82,7 @@ fn kind_at(rows: &[u32], i: usize, level: u32, handle: u32) -> u32
 }
 
 // What the rows from first to before last say of a handle of a level. From the last row to the first, so that the first
-// that fits stays.
+// that matches stays.
 pub fn entry_in(rows: &[u32], first: usize, last: usize, level: u32, handle: u32) -> Entry
     ensures { λ r. ⌜ r ≡ entryIn (now (rows .entry)) first last level handle ⌝ }
 {

@@ -14,7 +14,7 @@ use Rattle.outputs.specs.World.{World}
 use Rattle.steps.specs.Tally.{played}
 use Rattle.steps.specs.Views.{inner, upTo, leftoverOf}
 use Rattle.steps.specs.Heads.{numberOf}
-use Rattle.steps.specs.declared.Number.the-variants as number
+use Rattle.steps.specs.declared.NumberRead.the-variants as number
 use Rattle.steps.proofs.TallyLaws.{played-number}
 use Rattle.steps.proofs.HeadLaws.{number-got, number-failed}
 use Rattle.steps.proofs.ViewLaws.{reading-start}

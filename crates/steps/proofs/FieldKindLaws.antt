@@ -51,25 +51,25 @@ item-over s t below inside lvl path i = rw (sink-alike s t below inside lvl .fla
 
 -- ---- what a label's bytes and place depend on
 
-pub pool-bytes : (rows names declared pool : List ℕ) (handle : ℕ) (x : Label) → labelBytes (pools names pool) handle x ≡ labelBytes (tables rows names declared pool) handle x
+pub pool-bytes : (rows names declared declaredNames : List ℕ) (handle : ℕ) (x : Label) → labelBytes (pools names declaredNames) handle x ≡ labelBytes (tables rows names declared declaredNames) handle x
 unfolding labelBytes
-pool-bytes rows names declared pool handle (label.Declared a n) = refl
-pool-bytes rows names declared pool handle (label.Named a n) = refl
-pool-bytes rows names declared pool handle label.Plain = refl
+pool-bytes rows names declared declaredNames handle (label.Declared a n) = refl
+pool-bytes rows names declared declaredNames handle (label.Named a n) = refl
+pool-bytes rows names declared declaredNames handle label.Plain = refl
 
-pub pool-lies : (rows names declared pool : List ℕ) (x : Label) → LabelLies (tables rows names declared pool) x → LabelLies (pools names pool) x
+pub pool-lies : (rows names declared declaredNames : List ℕ) (x : Label) → LabelLies (tables rows names declared declaredNames) x → LabelLies (pools names declaredNames) x
 unfolding LabelLies
-pool-lies rows names declared pool (label.Declared a n) h = h
-pool-lies rows names declared pool (label.Named a n) h = h
-pool-lies rows names declared pool label.Plain h = tt
+pool-lies rows names declared declaredNames (label.Declared a n) h = h
+pool-lies rows names declared declaredNames (label.Named a n) h = h
+pool-lies rows names declared declaredNames label.Plain h = tt
 
-pub kind-tables : (s : Walk) (rows names declared pool : List ℕ) (below lvl handle width : ℕ)
-    → kindOf s (lookUps rows declared) below lvl handle width ≡ kindOf s (tables rows names declared pool) below lvl handle width
+pub kind-tables : (s : Walk) (rows names declared declaredNames : List ℕ) (below lvl handle width : ℕ)
+    → kindOf s (lookUps rows declared) below lvl handle width ≡ kindOf s (tables rows names declared declaredNames) below lvl handle width
 unfolding kindOf
-kind-tables s rows names declared pool below lvl handle width = ap (λ (k : Kind). if givesLeaves s then k else kind.Object) (go (child rows lvl handle))
+kind-tables s rows names declared declaredNames below lvl handle width = ap (λ (k : Kind). if givesLeaves s then k else kind.Object) (go (child rows lvl handle))
   where
     t : Tables
-    t = tables rows names declared pool
+    t = tables rows names declared declaredNames
 
     bare : Tables
     bare = lookUps rows declared
@@ -99,21 +99,21 @@ kind-lies s t below lvl handle width leaves containers = by-walk (givesLeaves s)
     by-walk true = go (child (t .rows) lvl handle)
     by-walk false = tt
 
-pub kind-pools : (rows names declared pool : List ℕ) (k : Kind) → KindLies (tables rows names declared pool) k → KindLies (pools names pool) k
-kind-pools rows names declared pool kind.Object h = tt
-kind-pools rows names declared pool kind.Nothing h = tt
-kind-pools rows names declared pool (kind.Leaf x) h = pool-lies rows names declared pool x h
-kind-pools rows names declared pool (kind.Deep x) h = pool-lies rows names declared pool x h
-kind-pools rows names declared pool (kind.Array lower x) h = pool-lies rows names declared pool x h
+pub kind-pools : (rows names declared declaredNames : List ℕ) (k : Kind) → KindLies (tables rows names declared declaredNames) k → KindLies (pools names declaredNames) k
+kind-pools rows names declared declaredNames kind.Object h = tt
+kind-pools rows names declared declaredNames kind.Nothing h = tt
+kind-pools rows names declared declaredNames (kind.Leaf x) h = pool-lies rows names declared declaredNames x h
+kind-pools rows names declared declaredNames (kind.Deep x) h = pool-lies rows names declared declaredNames x h
+kind-pools rows names declared declaredNames (kind.Array lower x) h = pool-lies rows names declared declaredNames x h
 
-pub flat-pools : (rows names declared pool : List ℕ) (i : ℕ) (path : List ℕ) (first : Bool) (handle : ℕ) (w : Window) (k : Kind)
-    → flatField (pools names pool) i path first handle w k ≡ flatField (tables rows names declared pool) i path first handle w k
+pub flat-pools : (rows names declared declaredNames : List ℕ) (i : ℕ) (path : List ℕ) (first : Bool) (handle : ℕ) (w : Window) (k : Kind)
+    → flatField (pools names declaredNames) i path first handle w k ≡ flatField (tables rows names declared declaredNames) i path first handle w k
 unfolding flatField taggedLeaf
-flat-pools rows names declared pool i path first handle w kind.Object = refl
-flat-pools rows names declared pool i path first handle w kind.Nothing = refl
-flat-pools rows names declared pool i path first handle w (kind.Leaf x) = ap (λ (b : List ℕ). leafOrOver (leafOf (dot path b) handle w)) (pool-bytes rows names declared pool handle x)
-flat-pools rows names declared pool i path first handle w (kind.Deep x) = ap (λ (b : List ℕ). truncation ∷ leafOrOver (leafOf (dot path b) handle w)) (pool-bytes rows names declared pool handle x)
-flat-pools rows names declared pool i path first handle w (kind.Array lower x) = refl
+flat-pools rows names declared declaredNames i path first handle w kind.Object = refl
+flat-pools rows names declared declaredNames i path first handle w kind.Nothing = refl
+flat-pools rows names declared declaredNames i path first handle w (kind.Leaf x) = ap (λ (b : List ℕ). leafOrOver (leafOf (dot path b) handle w)) (pool-bytes rows names declared declaredNames handle x)
+flat-pools rows names declared declaredNames i path first handle w (kind.Deep x) = ap (λ (b : List ℕ). truncation ∷ leafOrOver (leafOf (dot path b) handle w)) (pool-bytes rows names declared declaredNames handle x)
+flat-pools rows names declared declaredNames i path first handle w (kind.Array lower x) = refl
 
 -- ---- a field
 

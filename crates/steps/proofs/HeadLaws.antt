@@ -20,7 +20,7 @@ use Rattle.framing.specs.Walk.{numberAt, closes, opens, lead, withWidth, fieldO
 use Rattle.framing.proofs.StepLaws.{lead-ends, lead-fails, lead-zero, lead-more, fieldAt-lead}
 use Rattle.steps.specs.Views.{upTo}
 use Rattle.steps.specs.Heads.{numberOf, countHead, levelHead, indexHead, elementHead, lastHead, dueHead, fieldHead, sizedHead, widthHead}
-use Rattle.steps.specs.declared.Number.the-variants as number
+use Rattle.steps.specs.declared.NumberRead.the-variants as number
 use Rattle.steps.specs.declared.Head.the-variants as head
 
 -- a packed number of the bytes is the number of all bits before the end

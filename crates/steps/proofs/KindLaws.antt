@@ -82,31 +82,31 @@ module _ (t : Tables) (index : ℕ) (path : List ℕ) (first : Bool) (handle : �
 
 -- ---- what one gives that holds the label of a leaf
 
--- The kind k holds the label l, and what it counts before its leaf makes c₁ of the numbers c: nothing, or the truncation of an array
+-- The kind k holds the label l, and what it counts before its leaf makes tally₁ of tally: nothing, or the truncation of an array
 -- below the last level.
-abbrev pub Labelled : Kind → (c c₁ : List ℕ) → Label → Type 0
-Labelled k c c₁ l = ((k ≡ kind.Leaf l) × (c₁ ≡ c)) ⊎ ((k ≡ kind.Deep l) × (length c ≡ slots) × (c₁ ≡ bumped c truncationsSlot 1))
+abbrev pub Labelled : Kind → (tally tally₁ : List ℕ) → Label → Type 0
+Labelled k tally tally₁ l = ((k ≡ kind.Leaf l) × (tally₁ ≡ tally)) ⊎ ((k ≡ kind.Deep l) × (length tally ≡ slots) × (tally₁ ≡ bumped tally truncationsSlot 1))
 
-module _ (k : Kind) (c c₁ : List ℕ) (l : Label) where
-  pub labelled-leaf : (x : Label) → k ≡ kind.Leaf x → l ≡ x → c₁ ≡ c → Labelled k c c₁ l
+module _ (k : Kind) (tally tally₁ : List ℕ) (l : Label) where
+  pub labelled-leaf : (x : Label) → k ≡ kind.Leaf x → l ≡ x → tally₁ ≡ tally → Labelled k tally tally₁ l
   labelled-leaf x e q ec = inl (e ∙ ap (λ (n : Label). kind.Leaf n) (sym q), ec)
 
-  pub labelled-deep : (x : Label) (c₂ : List ℕ) → k ≡ kind.Deep x → l ≡ x → length c ≡ slots → c₂ ≡ bumped c truncationsSlot 1 → c₁ ≡ c₂ → Labelled k c c₁ l
-  labelled-deep x c₂ e q sized ec e₂ = inr (e ∙ ap (λ (n : Label). kind.Deep n) (sym q), sized, e₂ ∙ ec)
+  pub labelled-deep : (x : Label) (tally₂ : List ℕ) → k ≡ kind.Deep x → l ≡ x → length tally ≡ slots → tally₂ ≡ bumped tally truncationsSlot 1 → tally₁ ≡ tally₂ → Labelled k tally tally₁ l
+  labelled-deep x tally₂ e q sized ec e₂ = inr (e ∙ ap (λ (n : Label). kind.Deep n) (sym q), sized, e₂ ∙ ec)
 
-  pub labelled-lies : (t : Tables) → Labelled k c c₁ l → KindLies t k → LabelLies t l
+  pub labelled-lies : (t : Tables) → Labelled k tally tally₁ l → KindLies t k → LabelLies t l
   labelled-lies t (inl w) h = subst (KindLies t) (w .0) h
   labelled-lies t (inr w) h = subst (KindLies t) (w .0) h
 
   pub flat-labelled : (t : Tables) (index : ℕ) (path : List ℕ) (first : Bool) (handle : ℕ) (w : Window) (records paths payloads : List ℕ) (v′ : World)
-      → Labelled k c c₁ l → v′ ≡ played (taggedLeaf t path handle (tag.Label l) w) (worldOf c₁ records paths payloads)
-      → v′ ≡ played (flatField t index path first handle w k) (worldOf c records paths payloads)
+      → Labelled k tally tally₁ l → v′ ≡ played (taggedLeaf t path handle (tag.Label l) w) (worldOf tally₁ records paths payloads)
+      → v′ ≡ played (flatField t index path first handle w k) (worldOf tally records paths payloads)
   unfolding flatField
   flat-labelled t index path first handle w records paths payloads v′ (inl (e, ec)) r =
-      flat-by t index path first handle w k (kind.Leaf l) (worldOf c records paths payloads) v′ e
+      flat-by t index path first handle w k (kind.Leaf l) (worldOf tally records paths payloads) v′ e
       (r ∙ ap (λ (n : List ℕ). played (taggedLeaf t path handle (tag.Label l) w) (worldOf n records paths payloads)) ec)
   flat-labelled t index path first handle w records paths payloads v′ (inr (e, sized, ec)) r =
-      flat-by t index path first handle w k (kind.Deep l) (worldOf c records paths payloads) v′ e
+      flat-by t index path first handle w k (kind.Deep l) (worldOf tally records paths payloads) v′ e
       (r
-      ∙ ap (played (taggedLeaf t path handle (tag.Label l) w)) (ap (λ (n : List ℕ). worldOf n records paths payloads) ec ∙ count-truncation records paths payloads c sized)
-      ∙ played-then truncation (taggedLeaf t path handle (tag.Label l) w) (worldOf c records paths payloads))
+      ∙ ap (played (taggedLeaf t path handle (tag.Label l) w)) (ap (λ (n : List ℕ). worldOf n records paths payloads) ec ∙ count-truncation records paths payloads tally sized)
+      ∙ played-then truncation (taggedLeaf t path handle (tag.Label l) w) (worldOf tally records paths payloads))

@@ -65,22 +65,22 @@ module _ (t : Tables) (handle : ℕ) (x : Tag) (path : List ℕ) (plen n : ℕ)
       let l = path-length in
       ed ∙ ap (put d at) m ∙ sym (store-fits d at (take plen path ++ (46 ∷ tagBytes t handle x)) (omega arith))
 
-  module _ (bytes : List ℕ) («from» end origin : ℕ) (c c′ records paths payloads : List ℕ) (counted : length c ≡ slots) where
-    pub leaf-over : longestPath < n → c′ ≡ bumped c oversSlot 1
-        → worldOf c′ records paths payloads ≡ played (taggedLeaf t (take plen path) handle x (inner bytes «from» end origin)) (worldOf c records paths payloads)
+  module _ (bytes : List ℕ) («from» end origin : ℕ) (tally tally′ records paths payloads : List ℕ) (counted : length tally ≡ slots) where
+    pub leaf-over : longestPath < n → tally′ ≡ bumped tally oversSlot 1
+        → worldOf tally′ records paths payloads ≡ played (taggedLeaf t (take plen path) handle x (inner bytes «from» end origin)) (worldOf tally records paths payloads)
     unfolding taggedLeaf
     leaf-over h e =
         let l = path-length in
         let w : Window = inner bytes «from» end origin in
         ap (λ (k : List ℕ). worldOf k records paths payloads) e
-        ∙ count-over records paths payloads c counted
-        ∙ ap (λ (u : Trace). played u (worldOf c records paths payloads)) (sym (given-long (leafOf (dot (take plen path) (tagBytes t handle x)) handle w) (omega arith)))
+        ∙ count-over records paths payloads tally counted
+        ∙ ap (λ (u : Trace). played u (worldOf tally records paths payloads)) (sym (given-long (leafOf (dot (take plen path) (tagBytes t handle x)) handle w) (omega arith)))
 
-    pub leaf-put : (records′ paths′ payloads′ : List ℕ) → n ≤ longestPath → c′ ≡ reserved c leafWords n (bytesFor (end - «from»))
-        → records′ ≡ store records (slot c recordsSlot) (leafNumbers (slot c pathsSlot) n handle (end - «from») (slot c payloadsSlot))
-        → paths′ ≡ store paths (slot c pathsSlot) (dot (take plen path) (tagBytes t handle x))
-        → payloads′ ≡ store payloads (slot c payloadsSlot) (bytesOf (bytesFor (end - «from»)) (field (num bytes) «from» (end - «from»)))
-        → worldOf c′ records′ paths′ payloads′ ≡ played (taggedLeaf t (take plen path) handle x (inner bytes «from» end origin)) (worldOf c records paths payloads)
+    pub leaf-put : (records′ paths′ payloads′ : List ℕ) → n ≤ longestPath → tally′ ≡ reserved tally leafWords n (bytesFor (end - «from»))
+        → records′ ≡ store records (slot tally recordsSlot) (leafNumbers (slot tally pathsSlot) n handle (end - «from») (slot tally payloadsSlot))
+        → paths′ ≡ store paths (slot tally pathsSlot) (dot (take plen path) (tagBytes t handle x))
+        → payloads′ ≡ store payloads (slot tally payloadsSlot) (bytesOf (bytesFor (end - «from»)) (field (num bytes) «from» (end - «from»)))
+        → worldOf tally′ records′ paths′ payloads′ ≡ played (taggedLeaf t (take plen path) handle x (inner bytes «from» end origin)) (worldOf tally records paths payloads)
     unfolding taggedLeaf inner
     leaf-put records′ paths′ payloads′ h ec ew et el =
         let l = path-length in
@@ -88,6 +88,6 @@ module _ (t : Tables) (handle : ℕ) (x : Tag) (path : List ℕ) (plen n : ℕ)
         let s : bytesFor (end - «from») ≡ length (bytesOf (bytesFor (end - «from»)) (field (num bytes) «from» (end - «from»))) =
         sym (length-bytesOf (bytesFor (end - «from»)) (field (num bytes) «from» (end - «from»))) in
         ap (λ (k : List ℕ). worldOf k records′ paths′ payloads′) ec
-        ∙ leaf-counted c records paths payloads counted y n (bytesFor (end - «from»)) records′ paths′ payloads′ (sym l) s
-        (ew ∙ ap (λ (k : ℕ). store records (slot c recordsSlot) (leafNumbers (slot c pathsSlot) k handle (end - «from») (slot c payloadsSlot))) (sym l)) et el
-        ∙ ap (λ (u : Trace). played u (worldOf c records paths payloads)) (sym (given-short y (omega arith)))
+        ∙ leaf-counted tally records paths payloads counted y n (bytesFor (end - «from»)) records′ paths′ payloads′ (sym l) s
+        (ew ∙ ap (λ (k : ℕ). store records (slot tally recordsSlot) (leafNumbers (slot tally pathsSlot) k handle (end - «from») (slot tally payloadsSlot))) (sym l)) et el
+        ∙ ap (λ (u : Trace). played u (worldOf tally records paths payloads)) (sym (given-short y (omega arith)))

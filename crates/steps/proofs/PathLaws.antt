@@ -134,13 +134,13 @@ module _ (path longer : List ℕ) where
   noted-long h = rw (lt-leb (length longer) longestPath h)
 
 -- a run that fits was written behind the path
-pub grew-more : (c path path′ run : List ℕ) (n r : ℕ) → n ≤ length path → r ≡ n + length run → r ≤ longestPath → path′ ≡ put path n run
-    → Grew (take n path ++ run) c c n r path path′
-grew-more c path path′ run n r h e l q =
+pub grew-more : (tally path path′ run : List ℕ) (n r : ℕ) → n ≤ length path → r ≡ n + length run → r ≤ longestPath → path′ ≡ put path n run
+    → Grew (take n path ++ run) tally tally n r path path′
+grew-more tally path path′ run n r h e l q =
     let m = length-longer path run n h in
     let short : length (take n path ++ run) ≤ longestPath = omega arith in
     record {
-      counts = λ records paths payloads. played-none (worldOf c records paths payloads) ∙ ap (λ (t : Trace). played t (worldOf c records paths payloads)) (sym (noted-short path (take n path ++ run) short));
+      counts = λ records paths payloads. played-none (worldOf tally records paths payloads) ∙ ap (λ (t : Trace). played t (worldOf tally records paths payloads)) (sym (noted-short path (take n path ++ run) short));
       is = ap (take r) q ∙ take-put path run n r h e ∙ sym (grown-short (take n path) (take n path ++ run) short);
       more = omega arith;
       within = l;
@@ -148,16 +148,16 @@ grew-more c path path′ run n r h e l q =
     }
 
 -- one that does not fit was counted instead
-pub grew-over : (c c′ path run : List ℕ) (n : ℕ) → length c ≡ slots → c′ ≡ bumped c oversSlot 1 → n ≤ length path → n ≤ longestPath → longestPath < n + length run
-    → Grew (take n path ++ run) c c′ n n path path
-grew-over c c′ path run n sized e h l past =
+pub grew-over : (tally tally′ path run : List ℕ) (n : ℕ) → length tally ≡ slots → tally′ ≡ bumped tally oversSlot 1 → n ≤ length path → n ≤ longestPath → longestPath < n + length run
+    → Grew (take n path ++ run) tally tally′ n n path path
+grew-over tally tally′ path run n sized e h l past =
     let m = length-longer path run n h in
     let long : longestPath < length (take n path ++ run) = omega arith in
     record {
       counts = λ records paths payloads.
           ap (λ (x : List ℕ). worldOf x records paths payloads) e
-          ∙ count-over records paths payloads c sized
-          ∙ ap (λ (t : Trace). played t (worldOf c records paths payloads)) (sym (noted-long path (take n path ++ run) long));
+          ∙ count-over records paths payloads tally sized
+          ∙ ap (λ (t : Trace). played t (worldOf tally records paths payloads)) (sym (noted-long path (take n path ++ run) long));
       is = sym (grown-long (take n path) (take n path ++ run) long);
       more = omega arith;
       within = l;
@@ -167,33 +167,33 @@ grew-over c c′ path run n sized e h l past =
 -- ---- entering an element
 
 -- an element was counted first
-counted-first : (t : Trace) (new c c₁ c′ path path′ : List ℕ) (i n r : ℕ) → length c ≡ slots → c₁ ≡ bumped c elementsSlot 1
-    → Longer t new c₁ c′ n r path path′ → Longer (element i ∷ t) new c c′ n r path path′
-counted-first t new c c₁ c′ path path′ i n r sized e g =
+counted-first : (t : Trace) (new tally tally₁ tally′ path path′ : List ℕ) (i n r : ℕ) → length tally ≡ slots → tally₁ ≡ bumped tally elementsSlot 1
+    → Longer t new tally₁ tally′ n r path path′ → Longer (element i ∷ t) new tally tally′ n r path path′
+counted-first t new tally tally₁ tally′ path path′ i n r sized e g =
     record {
       counts = λ records paths payloads.
           g .counts records paths payloads
-          ∙ ap (played t) (ap (λ (x : List ℕ). worldOf x records paths payloads) e ∙ count-element records paths payloads c i sized)
-          ∙ played-then (element i) t (worldOf c records paths payloads);
+          ∙ ap (played t) (ap (λ (x : List ℕ). worldOf x records paths payloads) e ∙ count-element records paths payloads tally i sized)
+          ∙ played-then (element i) t (worldOf tally records paths payloads);
       is = g .is;
       more = g .more;
       within = g .within;
       kept = g .kept;
     }
 
-module _ (s : Walk) (i : ℕ) (c c₁ path : List ℕ) (n : ℕ) (sized : length c ≡ slots) (counts : c₁ ≡ bumped c elementsSlot 1) where
+module _ (s : Walk) (i : ℕ) (tally tally₁ path : List ℕ) (n : ℕ) (sized : length tally ≡ slots) (counts : tally₁ ≡ bumped tally elementsSlot 1) where
   -- the object walk has no paths
-  pub entered-object : givesLeaves s ≡ false → n ≤ longestPath → Entered s i c c₁ n n path path
+  pub entered-object : givesLeaves s ≡ false → n ≤ longestPath → Entered s i tally tally₁ n n path path
   entered-object e l =
       rw e
-      (counted-first [] (take n path) c c₁ c₁ path path i n n sized counts
-      (record { counts = λ records paths payloads. played-none (worldOf c₁ records paths payloads); is = refl; more = omega arith; within = l; kept = refl }))
+      (counted-first [] (take n path) tally tally₁ tally₁ path path i n n sized counts
+      (record { counts = λ records paths payloads. played-none (worldOf tally₁ records paths payloads); is = refl; more = omega arith; within = l; kept = refl }))
 
-  pub entered-leafy : (c′ path′ : List ℕ) (r : ℕ) → givesLeaves s ≡ true → Grew (atIndex (take n path) i) c₁ c′ n r path path′
-      → Entered s i c c′ n r path path′
-  entered-leafy c′ path′ r e g =
+  pub entered-leafy : (tally′ path′ : List ℕ) (r : ℕ) → givesLeaves s ≡ true → Grew (atIndex (take n path) i) tally₁ tally′ n r path path′
+      → Entered s i tally tally′ n r path path′
+  entered-leafy tally′ path′ r e g =
       rw e
-      (counted-first (overIfLong (atIndex (take n path) i)) (grownPath (take n path) (atIndex (take n path) i)) c c₁ c′ path path′ i n r sized counts g)
+      (counted-first (overIfLong (atIndex (take n path) i)) (grownPath (take n path) (atIndex (take n path) i)) tally tally₁ tally′ path path′ i n r sized counts g)
 
 -- how long `[index]` is
 pub index-length : (i : ℕ) → length (91 ∷ decimal i ++ (93 ∷ [])) ≡ length (decimal i) + 2

@@ -66,28 +66,28 @@ module _ (s : Walk) (inside : Bool) (bytes : List ℕ) (at end origin : ℕ) (pa
 
 -- ---- an element's fields that don't close
 
-module _ (s : W.Sink) (bytes : List ℕ) (end origin : ℕ) (path : List ℕ) (h : Head) (c c₁ records paths payloads : List ℕ) where
+module _ (s : W.Sink) (bytes : List ℕ) (end origin : ℕ) (path : List ℕ) (h : Head) (tally tally₁ records paths payloads : List ℕ) where
   fields-by : (h′ : Head) (w w′ : World) → h ≡ h′ → w′ ≡ played (fieldsStop s bytes end origin path h′) w → w′ ≡ played (fieldsStop s bytes end origin path h) w
   fields-by h′ w w′ e q = q ∙ ap (λ (x : Head). played (fieldsStop s bytes end origin path x) w) (sym e)
 
-  pub fields-ended : h ≡ head.Ended → length c ≡ slots → c₁ ≡ bumped c implicitSlot 1 → worldOf c₁ records paths payloads ≡ played (fieldsStop s bytes end origin path h) (worldOf c records paths payloads)
+  pub fields-ended : h ≡ head.Ended → length tally ≡ slots → tally₁ ≡ bumped tally implicitSlot 1 → worldOf tally₁ records paths payloads ≡ played (fieldsStop s bytes end origin path h) (worldOf tally records paths payloads)
   unfolding fieldsStop
   fields-ended e sized q =
-      fields-by head.Ended (worldOf c records paths payloads) (worldOf c₁ records paths payloads) e (ap (λ (x : List ℕ). worldOf x records paths payloads) q ∙ count-implicit records paths payloads c sized)
+      fields-by head.Ended (worldOf tally records paths payloads) (worldOf tally₁ records paths payloads) e (ap (λ (x : List ℕ). worldOf x records paths payloads) q ∙ count-implicit records paths payloads tally sized)
 
-  pub fields-failed : h ≡ head.Failed → length c ≡ slots → c₁ ≡ bumped c errorsSlot 1 → worldOf c₁ records paths payloads ≡ played (fieldsStop s bytes end origin path h) (worldOf c records paths payloads)
+  pub fields-failed : h ≡ head.Failed → length tally ≡ slots → tally₁ ≡ bumped tally errorsSlot 1 → worldOf tally₁ records paths payloads ≡ played (fieldsStop s bytes end origin path h) (worldOf tally records paths payloads)
   unfolding fieldsStop
   fields-failed e sized q =
-      fields-by head.Failed (worldOf c records paths payloads) (worldOf c₁ records paths payloads) e (ap (λ (x : List ℕ). worldOf x records paths payloads) q ∙ count-error records paths payloads c sized)
+      fields-by head.Failed (worldOf tally records paths payloads) (worldOf tally₁ records paths payloads) e (ap (λ (x : List ℕ). worldOf x records paths payloads) q ∙ count-error records paths payloads tally sized)
 
-  pub fields-limit : (n : ℕ) (w′ : World) → h ≡ head.Limit n → length c ≡ slots → c₁ ≡ bumped c truncationsSlot 1
-      → w′ ≡ played (tail s (inner bytes n end origin) path 0) (worldOf c₁ records paths payloads) → w′ ≡ played (fieldsStop s bytes end origin path h) (worldOf c records paths payloads)
+  pub fields-limit : (n : ℕ) (w′ : World) → h ≡ head.Limit n → length tally ≡ slots → tally₁ ≡ bumped tally truncationsSlot 1
+      → w′ ≡ played (tail s (inner bytes n end origin) path 0) (worldOf tally₁ records paths payloads) → w′ ≡ played (fieldsStop s bytes end origin path h) (worldOf tally records paths payloads)
   unfolding fieldsStop
   fields-limit n w′ e sized q r =
-      fields-by (head.Limit n) (worldOf c records paths payloads) w′ e
+      fields-by (head.Limit n) (worldOf tally records paths payloads) w′ e
       (r
-      ∙ ap (played (tail s (inner bytes n end origin) path 0)) (ap (λ (x : List ℕ). worldOf x records paths payloads) q ∙ count-truncation records paths payloads c sized)
-      ∙ played-then truncation (tail s (inner bytes n end origin) path 0) (worldOf c records paths payloads))
+      ∙ ap (played (tail s (inner bytes n end origin) path 0)) (ap (λ (x : List ℕ). worldOf x records paths payloads) q ∙ count-truncation records paths payloads tally sized)
+      ∙ played-then truncation (tail s (inner bytes n end origin) path 0) (worldOf tally records paths payloads))
 
 module _ (s : W.Sink) (bytes : List ℕ) (end origin : ℕ) (path : List ℕ) (h : Head) (w : World) where
   -- the heads that give nothing here

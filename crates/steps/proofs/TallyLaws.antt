@@ -18,14 +18,14 @@ use Rattle.steps.specs.Tally.{slots, slot, elementsSlot, fieldsSlot, tru
 
 -- ---- the code's sums
 
-pub bump-is : (c : List ℕ) (place n r : ℕ) → r ≡ (slot c place + n) % 2 ^ 32 → set c place r ≡ bumped c place n
+pub bump-is : (tally : List ℕ) (place n r : ℕ) → r ≡ (slot tally place + n) % 2 ^ 32 → set tally place r ≡ bumped tally place n
 unfolding bumped
-bump-is c place n r e = ap (set c place) e
+bump-is tally place n r e = ap (set tally place) e
 
-pub reserve-is : (c c1 c2 c3 c4 : List ℕ) (records paths payloads : ℕ) → c1 ≡ bumped c fieldsSlot 1 → c2 ≡ bumped c1 recordsSlot records
-    → c3 ≡ bumped c2 pathsSlot paths → c4 ≡ bumped c3 payloadsSlot payloads → c4 ≡ reserved c records paths payloads
+pub reserve-is : (tally tally₁ tally₂ tally₃ tally₄ : List ℕ) (records paths payloads : ℕ) → tally₁ ≡ bumped tally fieldsSlot 1 → tally₂ ≡ bumped tally₁ recordsSlot records
+    → tally₃ ≡ bumped tally₂ pathsSlot paths → tally₄ ≡ bumped tally₃ payloadsSlot payloads → tally₄ ≡ reserved tally records paths payloads
 unfolding reserved
-reserve-is c c1 c2 c3 c4 records paths payloads e1 e2 e3 e4 =
+reserve-is tally tally₁ tally₂ tally₃ tally₄ records paths payloads e1 e2 e3 e4 =
     e4
     ∙ ap (λ (l : List ℕ). bumped l payloadsSlot payloads)
     (e3 ∙ ap (λ (l : List ℕ). bumped l pathsSlot paths) (e2 ∙ ap (λ (l : List ℕ). bumped l recordsSlot records) e1))
@@ -36,63 +36,63 @@ reserve-is c c1 c2 c3 c4 records paths payloads e1 e2 e3 e4 =
 abbrev more : (at : ℕ → ℕ) (place n : ℕ) → ℕ → ℕ
 more at place n k = if eqb k place then (at place + n) % 2 ^ 32 else at k
 
-bumped-at : (c : List ℕ) (place n : ℕ) → place < length c → (k : ℕ) → slot (bumped c place n) k ≡ more (slot c) place n k
+bumped-at : (tally : List ℕ) (place n : ℕ) → place < length tally → (k : ℕ) → slot (bumped tally place n) k ≡ more (slot tally) place n k
 unfolding bumped
-bumped-at c place n h k = go (eqb k place) refl
+bumped-at tally place n h k = go (eqb k place) refl
   where
-    go : (b : Bool) → eqb k place ≡ b → slot (bumped c place n) k ≡ more (slot c) place n k
+    go : (b : Bool) → eqb k place ≡ b → slot (bumped tally place n) k ≡ more (slot tally) place n k
     go true e =
         let same = eqb-true k place e in
-        rw e (ap (slot (set c place ((slot c place + n) % 2 ^ 32))) same ∙ getD-set-same c place ((slot c place + n) % 2 ^ 32) 0 h)
-    go false e = rw e (getD-set-other c place k ((slot c place + n) % 2 ^ 32) 0 (eqb-false k place e))
+        rw e (ap (slot (set tally place ((slot tally place + n) % 2 ^ 32))) same ∙ getD-set-same tally place ((slot tally place + n) % 2 ^ 32) 0 h)
+    go false e = rw e (getD-set-other tally place k ((slot tally place + n) % 2 ^ 32) 0 (eqb-false k place e))
 
-bumped-slots : (c : List ℕ) (place n : ℕ) → place < length c → slot (bumped c place n) ≡ more (slot c) place n
-bumped-slots c place n h = λ i k. bumped-at c place n h k i
+bumped-slots : (tally : List ℕ) (place n : ℕ) → place < length tally → slot (bumped tally place n) ≡ more (slot tally) place n
+bumped-slots tally place n h = λ i k. bumped-at tally place n h k i
 
-bumped-length : (c : List ℕ) (place n : ℕ) → length (bumped c place n) ≡ length c
+bumped-length : (tally : List ℕ) (place n : ℕ) → length (bumped tally place n) ≡ length tally
 unfolding bumped
-bumped-length c place n = length-set c place ((slot c place + n) % 2 ^ 32)
+bumped-length tally place n = length-set tally place ((slot tally place + n) % 2 ^ 32)
 
 -- ---- one event counted
 
 module _ (records paths payloads : List ℕ) where
-  at-slot : (c : List ℕ) (place n : ℕ) → place < length c → worldOf (bumped c place n) records paths payloads ≡ worldBy (more (slot c) place n) records paths payloads
+  at-slot : (tally : List ℕ) (place n : ℕ) → place < length tally → worldOf (bumped tally place n) records paths payloads ≡ worldBy (more (slot tally) place n) records paths payloads
   unfolding worldOf
-  at-slot c place n h = ap (λ (at : ℕ → ℕ). worldBy at records paths payloads) (bumped-slots c place n h)
+  at-slot tally place n h = ap (λ (at : ℕ → ℕ). worldBy at records paths payloads) (bumped-slots tally place n h)
 
-  pub count-element : (c : List ℕ) (n : ℕ) → length c ≡ slots → worldOf (bumped c elementsSlot 1) records paths payloads ≡ played (element n ∷ []) (worldOf c records paths payloads)
+  pub count-element : (tally : List ℕ) (n : ℕ) → length tally ≡ slots → worldOf (bumped tally elementsSlot 1) records paths payloads ≡ played (element n ∷ []) (worldOf tally records paths payloads)
   unfolding worldOf worldBy played apply
-  count-element c n sized = at-slot c elementsSlot 1 (omega arith)
+  count-element tally n sized = at-slot tally elementsSlot 1 (omega arith)
 
-  pub count-truncation : (c : List ℕ) → length c ≡ slots → worldOf (bumped c truncationsSlot 1) records paths payloads ≡ played (truncation ∷ []) (worldOf c records paths payloads)
+  pub count-truncation : (tally : List ℕ) → length tally ≡ slots → worldOf (bumped tally truncationsSlot 1) records paths payloads ≡ played (truncation ∷ []) (worldOf tally records paths payloads)
   unfolding worldOf worldBy played apply
-  count-truncation c sized = at-slot c truncationsSlot 1 (omega arith)
+  count-truncation tally sized = at-slot tally truncationsSlot 1 (omega arith)
 
-  pub count-error : (c : List ℕ) → length c ≡ slots → worldOf (bumped c errorsSlot 1) records paths payloads ≡ played (error ∷ []) (worldOf c records paths payloads)
+  pub count-error : (tally : List ℕ) → length tally ≡ slots → worldOf (bumped tally errorsSlot 1) records paths payloads ≡ played (error ∷ []) (worldOf tally records paths payloads)
   unfolding worldOf worldBy played apply
-  count-error c sized = at-slot c errorsSlot 1 (omega arith)
+  count-error tally sized = at-slot tally errorsSlot 1 (omega arith)
 
-  pub count-nested : (c : List ℕ) (n : ℕ) → length c ≡ slots → worldOf (bumped c nestedSlot n) records paths payloads ≡ played (nested n ∷ []) (worldOf c records paths payloads)
+  pub count-nested : (tally : List ℕ) (n : ℕ) → length tally ≡ slots → worldOf (bumped tally nestedSlot n) records paths payloads ≡ played (nested n ∷ []) (worldOf tally records paths payloads)
   unfolding worldOf worldBy played apply
-  count-nested c n sized = at-slot c nestedSlot n (omega arith)
+  count-nested tally n sized = at-slot tally nestedSlot n (omega arith)
 
-  pub count-root : (c : List ℕ) (n : ℕ) → length c ≡ slots → worldOf (bumped c rootSlot n) records paths payloads ≡ played (root n ∷ []) (worldOf c records paths payloads)
+  pub count-root : (tally : List ℕ) (n : ℕ) → length tally ≡ slots → worldOf (bumped tally rootSlot n) records paths payloads ≡ played (root n ∷ []) (worldOf tally records paths payloads)
   unfolding worldOf worldBy played apply
-  count-root c n sized = at-slot c rootSlot n (omega arith)
+  count-root tally n sized = at-slot tally rootSlot n (omega arith)
 
-  pub count-implicit : (c : List ℕ) → length c ≡ slots → worldOf (bumped c implicitSlot 1) records paths payloads ≡ played (implicit ∷ []) (worldOf c records paths payloads)
+  pub count-implicit : (tally : List ℕ) → length tally ≡ slots → worldOf (bumped tally implicitSlot 1) records paths payloads ≡ played (implicit ∷ []) (worldOf tally records paths payloads)
   unfolding worldOf worldBy played apply
-  count-implicit c sized = at-slot c implicitSlot 1 (omega arith)
+  count-implicit tally sized = at-slot tally implicitSlot 1 (omega arith)
 
-  pub count-over : (c : List ℕ) → length c ≡ slots → worldOf (bumped c oversSlot 1) records paths payloads ≡ played (over ∷ []) (worldOf c records paths payloads)
+  pub count-over : (tally : List ℕ) → length tally ≡ slots → worldOf (bumped tally oversSlot 1) records paths payloads ≡ played (over ∷ []) (worldOf tally records paths payloads)
   unfolding worldOf worldBy played apply
-  count-over c sized = at-slot c oversSlot 1 (omega arith)
+  count-over tally sized = at-slot tally oversSlot 1 (omega arith)
 
 -- the code's count of it: what `count` ensures, and one of the laws above
-pub by-count : (c c′ records paths payloads : List ℕ) (place n : ℕ) (e : Event) → (c′ ≡ bumped c place n) × (length c ≡ slots)
-    → (length c ≡ slots → worldOf (bumped c place n) records paths payloads ≡ played (e ∷ []) (worldOf c records paths payloads))
-    → worldOf c′ records paths payloads ≡ played (e ∷ []) (worldOf c records paths payloads)
-by-count c c′ records paths payloads place n e did law = ap (λ (l : List ℕ). worldOf l records paths payloads) (did .0) ∙ law (did .1)
+pub by-count : (tally tally′ records paths payloads : List ℕ) (place n : ℕ) (e : Event) → (tally′ ≡ bumped tally place n) × (length tally ≡ slots)
+    → (length tally ≡ slots → worldOf (bumped tally place n) records paths payloads ≡ played (e ∷ []) (worldOf tally records paths payloads))
+    → worldOf tally′ records paths payloads ≡ played (e ∷ []) (worldOf tally records paths payloads)
+by-count tally tally′ records paths payloads place n e did law = ap (λ (l : List ℕ). worldOf l records paths payloads) (did .0) ∙ law (did .1)
 
 -- ---- traces
 
@@ -111,56 +111,56 @@ played-number x t w = refl
 
 -- ---- a leaf or a pair, written and counted
 
-module _ (c records paths payloads : List ℕ) (sized : length c ≡ slots) where
+module _ (tally records paths payloads : List ℕ) (sized : length tally ≡ slots) where
   -- a leaf's four numbers, of whichever tally
   reserved-slots : (n p y : ℕ)
-      → slot (reserved c n p y) ≡ more (more (more (more (slot c) fieldsSlot 1) recordsSlot n) pathsSlot p) payloadsSlot y
+      → slot (reserved tally n p y) ≡ more (more (more (more (slot tally) fieldsSlot 1) recordsSlot n) pathsSlot p) payloadsSlot y
   unfolding reserved
   reserved-slots n p y =
-      let c1 = bumped c fieldsSlot 1 in
-      let c2 = bumped c1 recordsSlot n in
-      let c3 = bumped c2 pathsSlot p in
-      let n1 = bumped-length c fieldsSlot 1 in
-      let n2 = bumped-length c1 recordsSlot n in
-      let n3 = bumped-length c2 pathsSlot p in
-      bumped-slots c3 payloadsSlot y (omega arith)
+      let tally₁ = bumped tally fieldsSlot 1 in
+      let tally₂ = bumped tally₁ recordsSlot n in
+      let tally₃ = bumped tally₂ pathsSlot p in
+      let n1 = bumped-length tally fieldsSlot 1 in
+      let n2 = bumped-length tally₁ recordsSlot n in
+      let n3 = bumped-length tally₂ pathsSlot p in
+      bumped-slots tally₃ payloadsSlot y (omega arith)
       ∙ ap (λ (at : ℕ → ℕ). more at payloadsSlot y)
-      (bumped-slots c2 pathsSlot p (omega arith)
+      (bumped-slots tally₂ pathsSlot p (omega arith)
       ∙ ap (λ (at : ℕ → ℕ). more at pathsSlot p)
-      (bumped-slots c1 recordsSlot n (omega arith) ∙ ap (λ (at : ℕ → ℕ). more at recordsSlot n) (bumped-slots c fieldsSlot 1 (omega arith))))
+      (bumped-slots tally₁ recordsSlot n (omega arith) ∙ ap (λ (at : ℕ → ℕ). more at recordsSlot n) (bumped-slots tally fieldsSlot 1 (omega arith))))
 
   leaf-here : (x : Leaf)
-      → worldOf (reserved c leafWords (length (x .path)) (length (payloadOf x)))
-      (store records (slot c recordsSlot) (leafRecord (slot c pathsSlot) (slot c payloadsSlot) x))
-      (store paths (slot c pathsSlot) (x .path)) (store payloads (slot c payloadsSlot) (payloadOf x))
-      ≡ played (leaf x ∷ []) (worldOf c records paths payloads)
+      → worldOf (reserved tally leafWords (length (x .path)) (length (payloadOf x)))
+      (store records (slot tally recordsSlot) (leafRecord (slot tally pathsSlot) (slot tally payloadsSlot) x))
+      (store paths (slot tally pathsSlot) (x .path)) (store payloads (slot tally payloadsSlot) (payloadOf x))
+      ≡ played (leaf x ∷ []) (worldOf tally records paths payloads)
   unfolding worldOf worldBy played apply
   leaf-here x =
       ap
-      (λ (at : ℕ → ℕ). worldBy at (store records (slot c recordsSlot) (leafRecord (slot c pathsSlot) (slot c payloadsSlot) x))
-      (store paths (slot c pathsSlot) (x .path)) (store payloads (slot c payloadsSlot) (payloadOf x)))
+      (λ (at : ℕ → ℕ). worldBy at (store records (slot tally recordsSlot) (leafRecord (slot tally pathsSlot) (slot tally payloadsSlot) x))
+      (store paths (slot tally pathsSlot) (x .path)) (store payloads (slot tally payloadsSlot) (payloadOf x)))
       (reserved-slots leafWords (length (x .path)) (length (payloadOf x)))
 
   pub leaf-counted : (x : Leaf) (n size : ℕ) (records′ paths′ payloads′ : List ℕ) → n ≡ length (x .path) → size ≡ length (payloadOf x)
-      → records′ ≡ store records (slot c recordsSlot) (leafRecord (slot c pathsSlot) (slot c payloadsSlot) x)
-      → paths′ ≡ store paths (slot c pathsSlot) (x .path)
-      → payloads′ ≡ store payloads (slot c payloadsSlot) (payloadOf x)
-      → worldOf (reserved c leafWords n size) records′ paths′ payloads′ ≡ played (leaf x ∷ []) (worldOf c records paths payloads)
+      → records′ ≡ store records (slot tally recordsSlot) (leafRecord (slot tally pathsSlot) (slot tally payloadsSlot) x)
+      → paths′ ≡ store paths (slot tally pathsSlot) (x .path)
+      → payloads′ ≡ store payloads (slot tally payloadsSlot) (payloadOf x)
+      → worldOf (reserved tally leafWords n size) records′ paths′ payloads′ ≡ played (leaf x ∷ []) (worldOf tally records paths payloads)
   leaf-counted x n size records′ paths′ payloads′ en es er ep ey =
-      (λ i. worldOf (reserved c leafWords (en i) (es i)) (er i) (ep i) (ey i)) ∙ leaf-here x
+      (λ i. worldOf (reserved tally leafWords (en i) (es i)) (er i) (ep i) (ey i)) ∙ leaf-here x
 
   pair-here : (x : Pair)
-      → worldOf (bumped (bumped c fieldsSlot 1) recordsSlot pairWords) (store records (slot c recordsSlot) (pairRecord x)) paths payloads
-      ≡ played (pair x ∷ []) (worldOf c records paths payloads)
+      → worldOf (bumped (bumped tally fieldsSlot 1) recordsSlot pairWords) (store records (slot tally recordsSlot) (pairRecord x)) paths payloads
+      ≡ played (pair x ∷ []) (worldOf tally records paths payloads)
   unfolding worldOf worldBy played apply
   pair-here x =
-      let c1 = bumped c fieldsSlot 1 in
-      let n1 = bumped-length c fieldsSlot 1 in
-      ap (λ (at : ℕ → ℕ). worldBy at (store records (slot c recordsSlot) (pairRecord x)) paths payloads)
-      (bumped-slots c1 recordsSlot pairWords (omega arith)
-      ∙ ap (λ (at : ℕ → ℕ). more at recordsSlot pairWords) (bumped-slots c fieldsSlot 1 (omega arith)))
+      let tally₁ = bumped tally fieldsSlot 1 in
+      let n1 = bumped-length tally fieldsSlot 1 in
+      ap (λ (at : ℕ → ℕ). worldBy at (store records (slot tally recordsSlot) (pairRecord x)) paths payloads)
+      (bumped-slots tally₁ recordsSlot pairWords (omega arith)
+      ∙ ap (λ (at : ℕ → ℕ). more at recordsSlot pairWords) (bumped-slots tally fieldsSlot 1 (omega arith)))
 
-  pub pair-counted : (x : Pair) (c1 c2 records′ : List ℕ) → records′ ≡ store records (slot c recordsSlot) (pairRecord x) → c1 ≡ bumped c fieldsSlot 1
-      → c2 ≡ bumped c1 recordsSlot pairWords → worldOf c2 records′ paths payloads ≡ played (pair x ∷ []) (worldOf c records paths payloads)
-  pair-counted x c1 c2 records′ er e1 e2 =
+  pub pair-counted : (x : Pair) (tally₁ tally₂ records′ : List ℕ) → records′ ≡ store records (slot tally recordsSlot) (pairRecord x) → tally₁ ≡ bumped tally fieldsSlot 1
+      → tally₂ ≡ bumped tally₁ recordsSlot pairWords → worldOf tally₂ records′ paths payloads ≡ played (pair x ∷ []) (worldOf tally records paths payloads)
+  pair-counted x tally₁ tally₂ records′ er e1 e2 =
       (λ i. worldOf ((e2 ∙ ap (λ (l : List ℕ). bumped l recordsSlot pairWords) e1) i) (er i) paths payloads) ∙ pair-here x

@@ -5,18 +5,18 @@ use Rattle.bits.specs.Choice.{if_then_else_}
 use Rattle.bits.specs.Sizes.{maxElements}
 use Rattle.framing.specs.Windows.{Window, Reading, got, failed, reading}
 use Rattle.framing.specs.Walk.{Lead, ends, fails, closes, opens, lead, Due, cut, broken, closed, present, fieldAt}
-use Rattle.steps.specs.declared.Number.{Number}
-use Rattle.steps.specs.declared.Number.the-variants as number
+use Rattle.steps.specs.declared.NumberRead.{NumberRead}
+use Rattle.steps.specs.declared.NumberRead.the-variants as number
 use Rattle.steps.specs.declared.Head.{Head}
 use Rattle.steps.specs.declared.Head.the-variants as head
 
 -- the number read at bit p
-abbrev pub numberOf : (p : ℕ) → Reading → Number
+abbrev pub numberOf : (p : ℕ) → Reading → NumberRead
 numberOf p failed = number.Failed
 numberOf p (got v n) = number.Value v (p + 8 * n)
 
 -- a level's count
-abbrev pub countHead : Number → Head
+abbrev pub countHead : NumberRead → Head
 countHead number.Failed = head.Failed
 countHead (number.Value v q) = if ltb maxElements v then head.Limit q else head.Go v q q
 
@@ -51,7 +51,7 @@ fieldHead w zero p = lastHead p (lead w p)
 fieldHead w (suc left) p = dueHead (fieldAt w p)
 
 -- a field whose handle is known, its width's number due at bit p
-abbrev pub sizedHead : Window → (handle : ℕ) → Number → Head
+abbrev pub sizedHead : Window → (handle : ℕ) → NumberRead → Head
 sizedHead w h number.Failed = head.Failed
 sizedHead w h (number.Value width q) = if ltb (w .size) (q + width) then head.Failed else head.Go h q (q + width)
 

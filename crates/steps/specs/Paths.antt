@@ -16,8 +16,8 @@ use Rattle.steps.specs.declared.Tag.the-variants as tag
 use Rattle.framing.specs.declared.Walk.{Walk}
 
 -- the two name pools: all that a label's bytes depend on
-abbrev pub pools : (names pool : List ℕ) → Tables
-pools names pool = tables [] names [] pool
+abbrev pub pools : (names declaredNames : List ℕ) → Tables
+pools names declaredNames = tables [] names [] declaredNames
 
 abbrev pub tagBytes : Tables → (handle : ℕ) → Tag → List ℕ
 tagBytes t handle (tag.Label x) = labelBytes t handle x

@@ -11,7 +11,7 @@ ghost use Rattle.steps.specs.Steps.{Lies, Plays};
 ghost use Rattle.steps.specs.Views.{inner, leftoverOf, exitSink, HeadIn};
 ghost use Rattle.steps.specs.Gives.{fieldsStop, levelStop};
 use crate::Head;
-use crate::Number;
+use crate::NumberRead;
 use crate::heads::number_at;
 use crate::leaves::put_tail;
 use crate::paths::WorkingPath;
@@ -57,13 +57,13 @@ fn close_level(tally: &mut Tally, bytes: &[u8], at: u64, end: u64, walk: Walk, i
     }
     let number = number_at(bytes, at, end);
     match number {
-        Number::Value(v, _) => {
+        NumberRead::Value(v, _) => {
             if v == 0 {
                 return count_left(tally, inside, 0);
             }
             count_left(tally, inside, rest)
         }
-        Number::Failed => count(tally, ERRORS, 1),
+        NumberRead::Failed => count(tally, ERRORS, 1),
     }
 }
 

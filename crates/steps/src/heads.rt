@@ -9,12 +9,12 @@ ghost use Rattle.steps.specs.Steps.{Lies};
 ghost use Rattle.steps.specs.Views.{upTo};
 ghost use Rattle.steps.specs.Heads.{numberOf, levelHead, elementHead, fieldHead, widthHead};
 use crate::Head;
-use crate::Number;
+use crate::NumberRead;
 use bits::Packed;
 use bits::sizes::MAX_ELEMENTS;
 
 // The packed number at bit at.
-pub fn number_at(bytes: &[u8], at: u64, end: u64) -> Number
+pub fn number_at(bytes: &[u8], at: u64, end: u64) -> NumberRead
     requires { ⌜ Lies (now bytes) at end ⌝ }
     ensures { λ r. ⌜ r ≡ numberOf at (reading (upTo (now (bytes .entry)) end) at) ⌝ }
 {
@@ -22,11 +22,11 @@ pub fn number_at(bytes: &[u8], at: u64, end: u64) -> Number
     match number {
         Packed::Whole(value, n) => {
             let next = at + 8 * n;
-            Number::Value(value, next)
+            NumberRead::Value(value, next)
         }
-        Packed::Cut(_) => Number::Failed,
-        Packed::GoesOn => Number::Failed,
-        Packed::Overflows => Number::Failed,
+        Packed::Cut(_) => NumberRead::Failed,
+        Packed::GoesOn => NumberRead::Failed,
+        Packed::Overflows => NumberRead::Failed,
     }
 }
 
@@ -37,7 +37,7 @@ pub fn level_head(bytes: &[u8], at: u64, end: u64) -> Head
 {
     let number = number_at(bytes, at, end);
     match number {
-        Number::Value(count, next) => {
+        NumberRead::Value(count, next) => {
             if MAX_ELEMENTS < count {
                 return Head::Limit(next);
             }
@@ -47,7 +47,7 @@ pub fn level_head(bytes: &[u8], at: u64, end: u64) -> Head
                 next: next,
             }
         }
-        Number::Failed => Head::Failed,
+        NumberRead::Failed => Head::Failed,
     }
 }
 
@@ -61,7 +61,7 @@ pub fn element_head(bytes: &[u8], end: u64, count: u32, left: u32, at: u64) -> H
     }
     let number = number_at(bytes, at, end);
     match number {
-        Number::Value(v, next) => {
+        NumberRead::Value(v, next) => {
             if v == 0 {
                 return Head::Closed(next);
             }
@@ -77,7 +77,7 @@ pub fn element_head(bytes: &[u8], end: u64, count: u32, left: u32, at: u64) -> H
                 next: next,
             }
         }
-        Number::Failed => Head::Failed,
+        NumberRead::Failed => Head::Failed,
     }
 }
 
@@ -88,7 +88,7 @@ fn width_head(bytes: &[u8], end: u64, handle: u32, at: u64) -> Head
 {
     let number = number_at(bytes, at, end);
     match number {
-        Number::Value(width, body) => {
+        NumberRead::Value(width, body) => {
             let wide = width as u64;
             if end - body < wide {
                 return Head::Failed;
@@ -99,7 +99,7 @@ fn width_head(bytes: &[u8], end: u64, handle: u32, at: u64) -> Head
                 next: body + wide,
             }
         }
-        Number::Failed => Head::Failed,
+        NumberRead::Failed => Head::Failed,
     }
 }
 
@@ -127,7 +127,7 @@ fn long_field_head(bytes: &[u8], end: u64, left: u32, at: u64) -> Head
     }
     let number = number_at(bytes, at, end);
     match number {
-        Number::Value(v, next) => {
+        NumberRead::Value(v, next) => {
             if v == 0 {
                 return Head::Closed(next);
             }
@@ -136,7 +136,7 @@ fn long_field_head(bytes: &[u8], end: u64, left: u32, at: u64) -> Head
             }
             width_head(bytes, end, v - 1, next)
         }
-        Number::Failed => Head::Failed,
+        NumberRead::Failed => Head::Failed,
     }
 }
 

@@ -75,15 +75,15 @@ pub fn put_field<'a>(
     handle: u32,
     plen: usize,
     names: &'a [u8],
-    pool: &'a [u8],
+    declared_names: &'a [u8],
     path: &mut WorkingPath,
     records: &mut [u32],
     paths: &mut [u8],
     payloads: &mut [u8],
 )
-    requires { ⌜ Lies (now bytes) «from» end × (plen ≤ longestPath) × KindLies (pools (now names) (now pool)) kind ⌝ }
+    requires { ⌜ Lies (now bytes) «from» end × (plen ≤ longestPath) × KindLies (pools (now names) (now «declared_names»)) kind ⌝ }
     ensures { λ _. ⌜ Plays
-        (λ (o : ℕ). flatField (pools (now (names .entry)) (now (pool .entry))) index (take plen (now (path .entry))) first handle
+        (λ (o : ℕ). flatField (pools (now (names .entry)) (now («declared_names» .entry))) index (take plen (now (path .entry))) first handle
         (inner (now (bytes .entry)) «from» end o) kind)
         (worldOf (now (tally .entry)) (now (records .entry)) (now (paths .entry)) (now (payloads .entry)))
         (worldOf (now (tally .exit)) (now (records .exit)) (now (paths .exit)) (now (payloads .exit)))
@@ -114,7 +114,7 @@ pub fn put_field<'a>(
         Tag::Label(label),
         plen,
         names,
-        pool,
+        declared_names,
         path,
         records,
         paths,

@@ -48,18 +48,18 @@ fn store_path<'a>(
     tag: Tag,
     handle: u32,
     names: &'a [u8],
-    pool: &'a [u8],
+    declared_names: &'a [u8],
 )
     requires { ⌜ (length (now path) ≡ longestPath) × (n ≡ plen + 1 + tagLength handle tag) × (n ≤ longestPath)
-        × TagLies (pools (now names) (now pool)) tag ⌝ }
+        × TagLies (pools (now names) (now «declared_names»)) tag ⌝ }
     ensures out { λ _. ⌜ now (paths .exit) ≡ store (now (paths .entry)) at
-        (dot (take plen (now (path .entry))) (tagBytes (pools (now (names .entry)) (now (pool .entry))) handle tag)) ⌝ }
+        (dot (take plen (now (path .entry))) (tagBytes (pools (now (names .entry)) (now («declared_names» .entry))) handle tag)) ⌝ }
     ensures kept { λ _. ⌜ take plen (now (path .exit)) ≡ take plen (now (path .entry)) ⌝ }
 {
     if !fits(paths.len(), at, n) {
         return;
     }
-    write_tag(&mut *path, plen, tag, handle, names, pool);
+    write_tag(&mut *path, plen, tag, handle, names, declared_names);
     let whole: &[u8] = path;
     copy_run(paths, at as usize, &whole[0..n]);
 }
@@ -111,15 +111,15 @@ pub fn put_leaf<'a>(
     tag: Tag,
     plen: usize,
     names: &'a [u8],
-    pool: &'a [u8],
+    declared_names: &'a [u8],
     path: &mut WorkingPath,
     records: &mut [u32],
     paths: &mut [u8],
     payloads: &mut [u8],
 )
-    requires { ⌜ Lies (now bytes) «from» end × (plen ≤ longestPath) × TagLies (pools (now names) (now pool)) tag ⌝ }
+    requires { ⌜ Lies (now bytes) «from» end × (plen ≤ longestPath) × TagLies (pools (now names) (now «declared_names»)) tag ⌝ }
     ensures { λ _. ⌜ Plays
-        (λ (o : ℕ). taggedLeaf (pools (now (names .entry)) (now (pool .entry))) (take plen (now (path .entry))) handle tag
+        (λ (o : ℕ). taggedLeaf (pools (now (names .entry)) (now («declared_names» .entry))) (take plen (now (path .entry))) handle tag
         (inner (now (bytes .entry)) «from» end o))
         (worldOf (now (tally .entry)) (now (records .entry)) (now (paths .entry)) (now (payloads .entry)))
         (worldOf (now (tally .exit)) (now (records .exit)) (now (paths .exit)) (now (payloads .exit)))
@@ -132,7 +132,17 @@ pub fn put_leaf<'a>(
         return;
     }
     let path_start = tally[PATHS];
-    store_path(paths, path_start, path, plen, n, tag, handle, names, pool);
+    store_path(
+        paths,
+        path_start,
+        path,
+        plen,
+        n,
+        tag,
+        handle,
+        names,
+        declared_names,
+    );
     put_rest(tally, bytes, from, end, handle, n, records, payloads);
 }
 

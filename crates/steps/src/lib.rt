@@ -1,10 +1,10 @@
 // One step of a walk (array.rs): what stands at a position, what a field is, and what a step counts and writes. The walkers'
 // cycle only matches, lends and calls; every test on bits and every write stands here.
 //
-// A position is a bit of `bytes`. `names` is the pool of the schema's names, `pool` that of the declared ones. The counters
-// and the places of the next writes are lent as one array, the tally; a run that does not fit its output is not written, and
-// its place is counted all the same, so that a walk lent empty outputs measures. `records` takes leaves, in an object walk
-// pairs.
+// A position is a bit of `bytes`. `names` is the pool of the schema's names, `declared_names` that of the declared ones. The
+// counters and the places of the next writes are lent as one array, the tally; a run that does not fit its output is not
+// written, and its place is counted all the same, so that a walk lent empty outputs measures. `records` takes leaves, in an
+// object walk pairs.
 pub mod exits;
 pub mod heads;
 pub mod kinds;
@@ -18,7 +18,7 @@ pub mod walks;
 use schema::Label;
 
 // A packed number and the bit behind it.
-pub enum Number {
+pub enum NumberRead {
     Value(u32, u64),
     Failed,
 }
@@ -27,7 +27,7 @@ pub enum Number {
 pub enum Head {
     // The window's end.
     Ended,
-    // A number that can't be read, an index past the count, or a payload past the window.
+    // A number that can't be read, an index that isn't below the count, or a payload past the window.
     Failed,
     // Zero, and the bit behind it.
     Closed(u64),

@@ -7,7 +7,7 @@ ghost use Rattle.framing.specs.Sinks.{objectField};
 ghost use Rattle.steps.specs.Tally.{worldOf, played};
 ghost use Rattle.steps.specs.Steps.{Lies};
 ghost use Rattle.steps.specs.Views.{inner};
-use crate::Number;
+use crate::NumberRead;
 use crate::heads::number_at;
 use crate::tally::ERRORS;
 use crate::tally::FIELDS;
@@ -53,13 +53,13 @@ pub fn object_field(
     }
     let number = number_at(bytes, from, end);
     match number {
-        Number::Value(guid, next) => {
+        NumberRead::Value(guid, next) => {
             if next == end {
                 put_pair(tally, records, index, guid);
                 return;
             }
             count(tally, ERRORS, 1);
         }
-        Number::Failed => count(tally, ERRORS, 1),
+        NumberRead::Failed => count(tally, ERRORS, 1),
     }
 }

@@ -63,10 +63,11 @@ fn write_label<'a>(
     label: Label,
     handle: u32,
     names: &'a [u8],
-    pool: &'a [u8],
+    declared_names: &'a [u8],
 )
-    requires { ⌜ (LabelLies (pools (now names) (now pool)) label) × (at + labelLength handle label ≤ longestPath) ⌝ }
-    ensures out { λ _. ⌜ now (path .exit) ≡ put (now (path .entry)) at (labelBytes (pools (now (names .entry)) (now (pool .entry))) handle label) ⌝ }
+    requires { ⌜ (LabelLies (pools (now names) (now «declared_names»)) label) × (at + labelLength handle label ≤ longestPath) ⌝ }
+    ensures out { λ _. ⌜ now (path .exit)
+        ≡ put (now (path .entry)) at (labelBytes (pools (now (names .entry)) (now («declared_names» .entry))) handle label) ⌝ }
     ensures sized { λ _. ⌜ length (now (path .entry)) ≡ longestPath ⌝ }
 {
     match label {
@@ -76,11 +77,11 @@ fn write_label<'a>(
             write_decimal(path, at + 2, handle);
         }
         Label::Declared(_, _) => {
-            let name = label_part(pool, names, label);
+            let name = label_part(declared_names, names, label);
             copy_run(path, at, name);
         }
         Label::Named(_, _) => {
-            let name = label_part(pool, names, label);
+            let name = label_part(declared_names, names, label);
             copy_run(path, at, name);
         }
     }
@@ -93,14 +94,15 @@ pub fn write_tag<'a>(
     tag: Tag,
     handle: u32,
     names: &'a [u8],
-    pool: &'a [u8],
+    declared_names: &'a [u8],
 )
-    requires { ⌜ (TagLies (pools (now names) (now pool)) tag) × (plen + 1 + tagLength handle tag ≤ longestPath) ⌝ }
-    ensures { λ _. ⌜ now (path .exit) ≡ put (now (path .entry)) plen (46 ∷ tagBytes (pools (now (names .entry)) (now (pool .entry))) handle tag) ⌝ }
+    requires { ⌜ (TagLies (pools (now names) (now «declared_names»)) tag) × (plen + 1 + tagLength handle tag ≤ longestPath) ⌝ }
+    ensures { λ _. ⌜ now (path .exit)
+        ≡ put (now (path .entry)) plen (46 ∷ tagBytes (pools (now (names .entry)) (now («declared_names» .entry))) handle tag) ⌝ }
 {
     path[plen] = 46;
     match tag {
-        Tag::Label(label) => write_label(path, plen + 1, label, handle, names, pool),
+        Tag::Label(label) => write_label(path, plen + 1, label, handle, names, declared_names),
         Tag::Raw => write_raw(path, plen + 1),
     }
 }
@@ -113,10 +115,10 @@ pub fn grow_label<'a>(
     label: Label,
     handle: u32,
     names: &'a [u8],
-    pool: &'a [u8],
+    declared_names: &'a [u8],
 ) -> usize
-    requires { ⌜ (plen ≤ longestPath) × LabelLies (pools (now names) (now pool)) label ⌝ }
-    ensures { λ r. ⌜ Grew (dot (take plen (now (path .entry))) (labelBytes (pools (now (names .entry)) (now (pool .entry))) handle label))
+    requires { ⌜ (plen ≤ longestPath) × LabelLies (pools (now names) (now «declared_names»)) label ⌝ }
+    ensures { λ r. ⌜ Grew (dot (take plen (now (path .entry))) (labelBytes (pools (now (names .entry)) (now («declared_names» .entry))) handle label))
         (now (tally .entry)) (now (tally .exit)) plen r (now (path .entry)) (now (path .exit)) ⌝ }
 {
     let room = path_room(path);
@@ -125,7 +127,7 @@ pub fn grow_label<'a>(
         count(tally, OVERS, 1);
         return plen;
     }
-    write_tag(path, plen, Tag::Label(label), handle, names, pool);
+    write_tag(path, plen, Tag::Label(label), handle, names, declared_names);
     n
 }
 

@@ -136,8 +136,8 @@ walk-field-put-field-requires t c κs =
     let at-start = at-after-kind-of .before .before .before .before .before .before .before .before .before in
     let a = at-start .args in
     let ready = at-start .pre .1 in
-    let lies = kind-ready (a .rows .now) (a .names .now) (a .declared .now) (a .pool .now) ready _ _ _ _ _ (at-after-kind-of .kind-of .ensures) in
-    (ready .lies, ready .path, kind-pools (a .rows .now) (a .names .now) (a .declared .now) (a .pool .now) (at-after-kind-of .kind-of .result) lies)
+    let lies = kind-ready (a .rows .now) (a .names .now) (a .declared .now) (a .declared-names .now) ready _ _ _ _ _ (at-after-kind-of .kind-of .ensures) in
+    (ready .lies, ready .path, kind-pools (a .rows .now) (a .names .now) (a .declared .now) (a .declared-names .now) (at-after-kind-of .kind-of .result) lies)
 
 walk-field-same-length : (t : ℕ) → walk-field-lts.Need-same-length (walk-field-claims t) (walk-field-at t) walk-field.Post
 walk-field-same-length t c = search needs
@@ -155,11 +155,11 @@ walk-field-returns t c =
     let at-after-kind-of = at-at-match-keys2 .before in
     let at-start = at-after-kind-of .before .before .before .before .before .before .before .before .before in
     let a = at-start .args in
-    let k = kind-is (a .rows .now) (a .names .now) (a .declared .now) (a .pool .now) _ _ _ _ _ (at-after-kind-of .kind-of .ensures) in
+    let k = kind-is (a .rows .now) (a .names .now) (a .declared .now) (a .declared-names .now) _ _ _ _ _ (at-after-kind-of .kind-of .ensures) in
     let put = at-after-put-field .put-field .ensures in
     let x = worldOf (a .tally .now) (a .records .now) (a .paths .now) (a .payloads .now) in
     field-put _ _ _ _ _ _ (at-start .pre .1 .lies .0) _ k (not-array (at-after-kind-of .kind-of .result) (at-at-match-keys2 .match .keys2)) _ _
-    (λ o. put .out o ∙ ap (λ (u : Trace). played u x) (flat-pools (a .rows .now) (a .names .now) (a .declared .now) (a .pool .now) _ _ _ _ _ _)) (put .kept)
+    (λ o. put .out o ∙ ap (λ (u : Trace). played u x) (flat-pools (a .rows .now) (a .names .now) (a .declared .now) (a .declared-names .now) _ _ _ _ _ _)) (put .kept)
 
 walk-field-grow-label-requires : (t : ℕ) → walk-field-lts.Need-grow-label-requires (walk-field-claims t) (walk-field-at t) walk-field.Post
 walk-field-grow-label-requires t c κs =
@@ -168,8 +168,8 @@ walk-field-grow-label-requires t c κs =
     let at-start = at-after-kind-of .before .before .before .before .before .before .before .before .before in
     let a = at-start .args in
     let ready = at-start .pre .1 in
-    let lies = kind-ready (a .rows .now) (a .names .now) (a .declared .now) (a .pool .now) ready _ _ _ _ _ (sym (at-after-kind .kind .given .1) ∙ at-after-kind-of .kind-of .ensures) in
-    (ready .path, pool-lies (a .rows .now) (a .names .now) (a .declared .now) (a .pool .now) _ lies)
+    let lies = kind-ready (a .rows .now) (a .names .now) (a .declared .now) (a .declared-names .now) ready _ _ _ _ _ (sym (at-after-kind .kind .given .1) ∙ at-after-kind-of .kind-of .ensures) in
+    (ready .path, pool-lies (a .rows .now) (a .names .now) (a .declared .now) (a .declared-names .now) _ lies)
 
 walk-field-add-z : (t : ℕ) → walk-field-lts.Need-add-z (walk-field-claims t) (walk-field-at t) walk-field.Post
 walk-field-add-z t c =
@@ -233,10 +233,10 @@ walk-field-returns-2 t c =
     let ready = at-start .pre .1 in
     let grew = at-after-grow-label .grow-label .ensures in
     let played-level = at-after-walk-level .walk-level .ensures in
-    let bytes = pool-bytes (a .rows .now) (a .names .now) (a .declared .now) (a .pool .now) (a .handle) (at-after-kind .kind .given .0 .1 .0) in
+    let bytes = pool-bytes (a .rows .now) (a .names .now) (a .declared .now) (a .declared-names .now) (a .handle) (at-after-kind .kind .given .0 .1 .0) in
     let path = take (a .plen) (a .path .now) in
     let x = worldOf (a .tally .now) (a .records .now) (a .paths .now) (a .payloads .now) in
-    let k = kind-is (a .rows .now) (a .names .now) (a .declared .now) (a .pool .now) _ _ _ _ _ (sym (at-after-kind .kind .given .1) ∙ at-after-kind-of .kind-of .ensures) in
+    let k = kind-is (a .rows .now) (a .names .now) (a .declared .now) (a .declared-names .now) _ _ _ _ _ (sym (at-after-kind .kind .given .1) ∙ at-after-kind-of .kind-of .ensures) in
     field-walked _ _ _ _ _ _ (ready .lies .0) _ _ k _ _ _ _ _ _ _
     (grew .counts (a .records .now) (a .paths .now) (a .payloads .now) ∙ ap (λ (l : List ℕ). played (overIfLong (dot path l)) x) bytes)
     (grew .is ∙ ap (λ (l : List ℕ). grownPath path (dot path l)) bytes) played-level refl
@@ -245,13 +245,13 @@ walk-field-returns-2 t c =
     (prefix _ _ _ _ (grew .more) (played-level .kept) ∙ grew .kept)
 
 abbrev walk-fields-Inv-loop : walk-fields-lts.InvT-loop
-walk-fields-Inv-loop tally₀ bytes from end walk below level plen index rows spans names declared pool path₀ records₀ paths₀ payloads₀ first₀ at₀ left₀ tally path records paths payloads first at left =
-    Fielding (place walk (tables rows names declared pool) below level bytes end (take plen path₀)) index «from»
+walk-fields-Inv-loop tally₀ bytes from end walk below level plen index rows spans names declared declaredNames path₀ records₀ paths₀ payloads₀ first₀ at₀ left₀ tally path records paths payloads first at left =
+    Fielding (place walk (tables rows names declared declaredNames) below level bytes end (take plen path₀)) index «from»
     (worldOf tally₀ records₀ paths₀ payloads₀) (worldOf tally records paths payloads) (take plen path) at left first
     × (length records ≡ length records₀) × (length paths ≡ length paths₀) × (length payloads ≡ length payloads₀)
 
 abbrev walk-fields-μ-loop : walk-fields-lts.MeasureT-loop
-walk-fields-μ-loop tally₀ bytes from end walk below level plen index rows spans names declared pool path₀ records₀ paths₀ payloads₀ first₀ at₀ left₀ tally path records paths payloads first at left =
+walk-fields-μ-loop tally₀ bytes from end walk below level plen index rows spans names declared declaredNames path₀ records₀ paths₀ payloads₀ first₀ at₀ left₀ tally path records paths payloads first at left =
     left
 
 walk-fields-loop-holds : (t : ℕ) → walk-fields-lts.Need-loop-holds (walk-fields-claims t) (walk-fields-at t) walk-fields.Post walk-fields-Inv-loop walk-fields-μ-loop
@@ -377,13 +377,13 @@ walk-fields-loop-again t c =
     )
 
 abbrev walk-level-Inv-loop : walk-level-lts.InvT-loop
-walk-level-Inv-loop tally₀ bytes from end walk inside below level plen rows spans names declared pool path₀ records₀ paths₀ payloads₀ total first at₀ left₀ tally path records paths payloads at left =
-    Leveling (place walk (tables rows names declared pool) below level bytes end (take plen path₀)) inside «from» total
+walk-level-Inv-loop tally₀ bytes from end walk inside below level plen rows spans names declared declaredNames path₀ records₀ paths₀ payloads₀ total first at₀ left₀ tally path records paths payloads at left =
+    Leveling (place walk (tables rows names declared declaredNames) below level bytes end (take plen path₀)) inside «from» total
     (worldOf tally₀ records₀ paths₀ payloads₀) (worldOf tally records paths payloads) (take plen path) at left
     × (length records ≡ length records₀) × (length paths ≡ length paths₀) × (length payloads ≡ length payloads₀)
 
 abbrev walk-level-μ-loop : walk-level-lts.MeasureT-loop
-walk-level-μ-loop tally₀ bytes from end walk inside below level plen rows spans names declared pool path₀ records₀ paths₀ payloads₀ total first at₀ left₀ tally path records paths payloads at left =
+walk-level-μ-loop tally₀ bytes from end walk inside below level plen rows spans names declared declaredNames path₀ records₀ paths₀ payloads₀ total first at₀ left₀ tally path records paths payloads at left =
     left
 
 walk-level-level-head-requires : (t : ℕ) → walk-level-lts.Need-level-head-requires (walk-level-claims t) (walk-level-at t) walk-level.Post walk-level-Inv-loop walk-level-μ-loop

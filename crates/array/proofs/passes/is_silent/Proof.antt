@@ -24,7 +24,7 @@ returns-2 : tie.Need-returns-2
 returns-2 c = sym (ap (λ (s : Walk). givesLeaves s && eqb (c .before .before .args .bits) 0) (c .enum-told2 .given .1))
 
 returns-3 : tie.Need-returns-3
-returns-3 c = search needs
+returns-3 c = sym (ap (λ (s : Walk). givesLeaves s && eqb (c .before .before .args .bits) 0) (c .enum-told3 .given .1))
 
 pub is-silent-spec : {M : Type 1} → statement M
 is-silent-spec = tie.close (tie.spec enum-told enum-told-2 enum-told-3 returns returns-2 returns-3)

@@ -3,8 +3,8 @@ use borrow.Author.Needs.{needs}
 use borrow.Author.Tests.{not-true, not-false}
 use mathlib.Core.Path.{sym, ap, _∙_}
 use Rattle.steps.specs.Tally.{played}
-use Rattle.array.specs.Passing.{over, short, written}
-use Rattle.array.proofs.PassLaws.{starts-fresh}
+use Rattle.array.specs.Passing.{over-long, too-short, has-room}
+use Rattle.array.proofs.PassLaws.{starts-fresh, long-in, needs-in, held-in, stats-in}
 use Rattle.array.proofs.twice.two_passes.Statement.{statement}
 use Rattle.array.proofs.twice.two_passes.Tie as tie
 
@@ -21,7 +21,7 @@ array-read-if1 : tie.Need-array-read-if1
 array-read-if1 c = search needs
 
 returns : tie.Need-returns
-returns c = over _ (c .before .measure .ensures) (c .if1 .taken)
+returns c = over-long (long-in _ _ _ _ (c .before .measure .ensures) (c .if1 .taken))
 
 extent-of-requires : tie.Need-extent-of-requires
 extent-of-requires c κs = search needs
@@ -33,7 +33,7 @@ returns-2 : tie.Need-returns-2
 returns-2 c =
     let found = c .before .before in
     let measured = found .before .before .before in
-    short (record { tally = _; is = measured .measure .ensures; fine = found .before .before .if1 .left; extent = found .extent-of .ensures })
+    too-short (needs-in _ _ _ _ _ (measured .measure .ensures) (found .before .before .if1 .left) (found .extent-of .ensures))
     (sym (c .before .has-room .ensures) ∙ not-true _ (c .if2 .taken))
 
 pass-requires : tie.Need-pass-requires
@@ -63,10 +63,10 @@ returns-3 c =
     let fits = wrote .before .before .before .before .before .before .before in
     let found = fits .before .before in
     let measured = found .before .before .before in
-    written _
-    (record { tally = _; is = measured .measure .ensures; fine = found .before .before .if1 .left; extent = found .extent-of .ensures })
-    (sym (fits .before .has-room .ensures) ∙ not-false _ (fits .if2 .left)) (wrote .pass .ensures ∙ ap (played _) (starts-fresh _ _ _)) (c .before .stats-of .ensures)
-    (c .verdict .ensures)
+    let again = wrote .pass .ensures ∙ ap (played _) (starts-fresh _ _ _) in
+    has-room (needs-in _ _ _ _ _ (measured .measure .ensures) (found .before .before .if1 .left) (found .extent-of .ensures))
+    (sym (fits .before .has-room .ensures) ∙ not-false _ (fits .if2 .left)) (held-in _ _ _ _ _ again) (c .before .stats-of .ensures ∙ stats-in _ _ _ _ _ again)
+    (c .verdict .ensures _ _)
 
 pub two-passes-spec : {M : Type 1} → statement M
 two-passes-spec =

@@ -32,11 +32,11 @@ clipped-requires c κs = search needs
 loop-holds : tie.Need-loop-holds Inv-loop μ-loop
 loop-holds c = record { below = omega arith; same = refl }
 
-row-fits-requires : tie.Need-row-fits-requires Inv-loop μ-loop
-row-fits-requires c κs = let v = c .before .loop .inv in omega arith
+row-matches-requires : tie.Need-row-matches-requires Inv-loop μ-loop
+row-matches-requires c κs = let v = c .before .loop .inv in omega arith
 
 returns : tie.Need-returns Inv-loop μ-loop
-returns c = ended _ _ _ _ _ _ _ _ _ (c .before .before .before .loop .inv) (hit _ _ _ _ _ _ (c .before .before .loop-test .taken) (sym (c .before .row-fits .ensures) ∙ c .if1 .taken)) (c .before .before .before .before .clipped .ensures)
+returns c = ended _ _ _ _ _ _ _ _ _ (c .before .before .before .loop .inv) (hit _ _ _ _ _ _ (c .before .before .loop-test .taken) (sym (c .before .row-matches .ensures) ∙ c .if1 .taken)) (c .before .before .before .before .clipped .ensures)
 
 add-i : tie.Need-add-i Inv-loop μ-loop
 add-i c = search needs
@@ -49,11 +49,11 @@ loop-again c =
     let v = c .before .before .before .loop .inv in
     record {
       below = v .below;
-      same = sym (miss _ _ _ _ _ _ (c .before .before .loop-test .taken) (sym (c .before .row-fits .ensures) ∙ c .if1 .left)) ∙ v .same;
+      same = sym (miss _ _ _ _ _ _ (c .before .before .loop-test .taken) (sym (c .before .row-matches .ensures) ∙ c .if1 .left)) ∙ v .same;
     }
 
 returns-2 : tie.Need-returns-2 Inv-loop μ-loop
 returns-2 c = ended _ _ _ _ _ _ _ _ _ (c .before .loop .inv) (none-left _ _ _ _ _ _ (c .loop-test .left)) (c .before .before .clipped .ensures)
 
 pub first-row-spec : {M : Type 1} → statement M
-first-row-spec = tie.close (tie.spec Inv-loop μ-loop clipped-requires loop-holds row-fits-requires returns add-i loop-less loop-again returns-2)
+first-row-spec = tie.close (tie.spec Inv-loop μ-loop clipped-requires loop-holds row-matches-requires returns add-i loop-less loop-again returns-2)

@@ -1,4 +1,4 @@
--- `schema::entry_in` meets its contract: of the rows from i on, the first that fits is the last that was seen.
+-- `schema::entry_in` meets its contract: of the rows from i on, the first that matches is the last that was seen.
 use borrow.Author.Needs.{needs}
 use native.Mathlib.Omega.{arith}
 use mathlib.Core.Path.{_≡_, sym, ap, ap₂, _∙_}

@@ -53,7 +53,7 @@ put-leaf-requires c κs =
     let at-start = chosen .before .before .before .before .before .before .before in
     let a = at-start .args in
     let p = at-start .pre in
-    (p .0, p .1, labelled-lies _ _ _ _ (pools (a .names .now) (a .pool .now)) (labelled chosen) (p .2))
+    (p .0, p .1, labelled-lies _ _ _ _ (pools (a .names .now) (a .declared-names .now)) (labelled chosen) (p .2))
 
 same-length-2 : tie.Need-same-length-2
 same-length-2 c = search needs

@@ -21,7 +21,7 @@ add-n-2 : tie.Need-add-n-2
 add-n-2 c =
     let at-start = c .before .before .before .before .before .before .before .before .before in
     let a = at-start .args in
-    omega (arith, c .tag-length .ensures, tag-short (pools (a .names .now) (a .pool .now)) (a .handle) (a .tag) (at-start .pre .2))
+    omega (arith, c .tag-length .ensures, tag-short (pools (a .names .now) (a .declared-names .now)) (a .handle) (a .tag) (at-start .pre .2))
 
 count-requires : tie.Need-count-requires
 count-requires c κs = search needs
@@ -34,7 +34,7 @@ returns c =
     let p = at-start .pre in
     let r = measured .before .path-room .ensures in
     let m = measured .tag-length .ensures in
-    let over = leaf-over (pools (a .names .now) (a .pool .now)) (a .handle) (a .tag) (a .path .now) (a .plen) _ (p .2) (r .1) (p .1) (ap (λ (k : ℕ). a .plen + 1 + k) m) _ _ _ in
+    let over = leaf-over (pools (a .names .now) (a .declared-names .now)) (a .handle) (a .tag) (a .path .now) (a .plen) _ (p .2) (r .1) (p .1) (ap (λ (k : ℕ). a .plen + 1 + k) m) _ _ _ in
     record {
       out = λ o. over o _ _ _ _ _ (c .count .ensures .1) (omega (arith, r, c .before .before .if1 .taken)) (c .count .ensures .0);
       kept = refl;
@@ -78,7 +78,7 @@ returns-2 c =
     let m = measured .tag-length .ensures in
     let s = stored .store-path .ensures in
     let t = put .put-rest .ensures in
-    let written = leaf-put (pools (a .names .now) (a .pool .now)) (a .handle) (a .tag) (a .path .now) (a .plen) _ (p .2) (r .1) (p .1) (ap (λ (k : ℕ). a .plen + 1 + k) m) _ _ _ in
+    let written = leaf-put (pools (a .names .now) (a .declared-names .now)) (a .handle) (a .tag) (a .path .now) (a .plen) _ (p .2) (r .1) (p .1) (ap (λ (k : ℕ). a .plen + 1 + k) m) _ _ _ in
     record {
       out = λ o. written o _ _ _ _ _ (t .1 .0) _ _ _ (omega (arith, r, fitting .if1 .left)) (t .0) (t .1 .1 .0) (s .0) (t .1 .1 .1);
       kept = s .1;

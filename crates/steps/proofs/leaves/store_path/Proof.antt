@@ -24,7 +24,7 @@ returns c =
     let a = c .before .before .before .before .before .args in
     let p = c .before .before .before .before .before .pre in
     let h : length (a .paths .now) < a .at + a .n = past _ _ _ (c .before .fits2 .ensures) (c .if1 .taken) in
-    let l = path-length (pools (a .names .now) (a .pool .now)) (a .handle) (a .tag) (a .path .now) (a .plen) (a .n) (p .3) (p .0) (omega arith) (p .1) in
+    let l = path-length (pools (a .names .now) (a .declared-names .now)) (a .handle) (a .tag) (a .path .now) (a .plen) (a .n) (p .3) (p .0) (omega arith) (p .1) in
     (sym (store-out _ _ _ (omega (arith, l))), refl)
 
 write-tag-requires : tie.Need-write-tag-requires
@@ -58,7 +58,7 @@ returns-2 c =
     let a = at-start .args in
     let p = at-start .pre in
     let w = after-write-tag .write-tag .ensures in
-    (path-copied (pools (a .names .now) (a .pool .now)) (a .handle) (a .tag) (a .path .now) (a .plen) (a .n) (p .3) (p .0) (omega (arith, p .1)) (p .1) _ _ _ _ _ (sub-zero _) (room (else-1)) w (c .before .before .copy-run .ensures), take-kept _ _ _ _ w (omega (arith, p .0, p .1)))
+    (path-copied (pools (a .names .now) (a .declared-names .now)) (a .handle) (a .tag) (a .path .now) (a .plen) (a .n) (p .3) (p .0) (omega (arith, p .1)) (p .1) _ _ _ _ _ (sub-zero _) (room (else-1)) w (c .before .before .copy-run .ensures), take-kept _ _ _ _ w (omega (arith, p .0, p .1)))
 
 pub store-path-spec : {M : Type 1} → statement M
 store-path-spec =

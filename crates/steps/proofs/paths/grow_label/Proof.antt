@@ -21,7 +21,7 @@ label-length-requires c κs = search needs
 add-n-2 : tie.Need-add-n-2
 add-n-2 c =
     let a = c .before .before .before .before .before .args in
-    omega (arith, c .label-length .ensures, label-short (pools (a .names .now) (a .pool .now)) (a .handle) (a .label) (c .before .before .before .before .before .pre .1))
+    omega (arith, c .label-length .ensures, label-short (pools (a .names .now) (a .declared-names .now)) (a .handle) (a .label) (c .before .before .before .before .before .pre .1))
 
 count-requires : tie.Need-count-requires
 count-requires c κs = search needs
@@ -32,10 +32,10 @@ returns c =
     let after-path-room = c .before .before .before .before in
     let at-start = after-path-room .before .before .before .before in
     let a = at-start .args in
-    let l = label-length (pools (a .names .now) (a .pool .now)) (a .handle) (a .label) (at-start .pre .1) in
+    let l = label-length (pools (a .names .now) (a .declared-names .now)) (a .handle) (a .label) (at-start .pre .1) in
     let r = after-path-room .path-room .ensures in
     let m = c .before .before .before .label-length .ensures in
-    grew-over _ _ _ (46 ∷ labelBytes (pools (a .names .now) (a .pool .now)) (a .handle) (a .label)) _ (c .count .ensures .1) (c .count .ensures .0) (omega (arith, r)) (omega arith) (omega (arith, l, r, m, c .before .before .if1 .taken))
+    grew-over _ _ _ (46 ∷ labelBytes (pools (a .names .now) (a .declared-names .now)) (a .handle) (a .label)) _ (c .count .ensures .1) (c .count .ensures .0) (omega (arith, r)) (omega arith) (omega (arith, l, r, m, c .before .before .if1 .taken))
 
 write-tag-requires : tie.Need-write-tag-requires
 write-tag-requires c κs =
@@ -48,10 +48,10 @@ returns-2 c =
     let after-path-room = c .before .before .before .before in
     let at-start = after-path-room .before .before .before .before in
     let a = at-start .args in
-    let l = label-length (pools (a .names .now) (a .pool .now)) (a .handle) (a .label) (at-start .pre .1) in
+    let l = label-length (pools (a .names .now) (a .declared-names .now)) (a .handle) (a .label) (at-start .pre .1) in
     let r = after-path-room .path-room .ensures in
     let m = c .before .before .before .label-length .ensures in
-    grew-more _ _ _ (46 ∷ labelBytes (pools (a .names .now) (a .pool .now)) (a .handle) (a .label)) _ _ (omega (arith, r)) (omega (arith, l, m)) (omega (arith, r, c .before .before .if1 .left)) (c .write-tag .ensures)
+    grew-more _ _ _ (46 ∷ labelBytes (pools (a .names .now) (a .declared-names .now)) (a .handle) (a .label)) _ _ (omega (arith, r)) (omega (arith, l, m)) (omega (arith, r, c .before .before .if1 .left)) (c .write-tag .ensures)
 
 pub grow-label-spec : {M : Type 1} → statement M
 grow-label-spec =

@@ -21,7 +21,7 @@ write-label-requires c κs =
     let at-start = c .before .before .before .before .before .before in
     let a = at-start .args in
     let n = ap (tagLength (a .handle)) (c .before .before .tag .given .1) in
-    (subst (TagLies (pools (a .names .now) (a .pool .now))) (c .before .before .tag .given .1) (at-start .pre .0), omega (arith, n))
+    (subst (TagLies (pools (a .names .now) (a .declared-names .now))) (c .before .before .tag .given .1) (at-start .pre .0), omega (arith, n))
 
 enum-told : tie.Need-enum-told
 enum-told c = search needs

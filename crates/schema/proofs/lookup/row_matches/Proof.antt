@@ -1,8 +1,8 @@
--- `schema::row_fits` meets its contract: three numbers are compared, and the first that differs decides.
+-- `schema::row_matches` meets its contract: three numbers are compared, and the first that differs decides.
 use borrow.Author.Needs.{needs}
 use Rattle.schema.proofs.RowLaws.{first-differs, second-differs, third}
-use Rattle.schema.proofs.lookup.row_fits.Statement.{statement}
-use Rattle.schema.proofs.lookup.row_fits.Tie as tie
+use Rattle.schema.proofs.lookup.row_matches.Statement.{statement}
+use Rattle.schema.proofs.lookup.row_matches.Tie as tie
 
 cell-at-requires : tie.Need-cell-at-requires
 cell-at-requires c κs = search needs
@@ -22,5 +22,5 @@ cell-at-requires-3 c κs = search needs
 returns-3 : tie.Need-returns-3
 returns-3 c = third _ _ _ _ _ _ _ _ (c .before .before .before .before .cell-at .ensures) (c .before .before .before .if1 .left) (c .before .before .cell-at2 .ensures) (c .before .if2 .left) (c .cell-at3 .ensures)
 
-pub row-fits-spec : {M : Type 1} → statement M
-row-fits-spec = tie.close (tie.spec cell-at-requires returns cell-at-requires-2 returns-2 cell-at-requires-3 returns-3)
+pub row-matches-spec : {M : Type 1} → statement M
+row-matches-spec = tie.close (tie.spec cell-at-requires returns cell-at-requires-2 returns-2 cell-at-requires-3 returns-3)
