@@ -27,7 +27,7 @@ pub struct Cursor {
 
 // Why a call gives no value, with the values of document 01's table.
 pub enum Refusal {
-    // 1: the bit count is above 524,288.
+    // 1: the window is longer than 524,288 bits.
     TooLong,
     // 7: fewer bits are left than asked. Position, length, bits asked; the cursor stands at the position.
     TooFew(u64, u64, u64),
@@ -37,7 +37,7 @@ pub enum Refusal {
     Overflows(u64),
     // 10: a serialized integer with maximum 0.
     NoMaximum,
-    // 13: more than 64 bits asked at once.
+    // 13: a read of more than 64 bits.
     TooMany,
     // 14: past the bytes or the length, or a target that is too short. Bits asked, bits available.
     Past(u64, u64),

@@ -33,7 +33,7 @@ use Rattle.fastarray.specs.declared.ChecksumMode.{ChecksumMode}
 use Rattle.fastarray.specs.declared.FastArray.{FastArray}
 use Rattle.fastarray.specs.Refusals.{sayingOf as bodySaying}
 use Rattle.fastarray.specs.declared.said.Saying as P
-use Rattle.exports.specs.WalkResults.{countersIn, countersOut, noCounters, verdictNumber, walkResult, notWalked, walkOf, Walks, objectsResult, noPairs, objectsOf, WalksPairs, Judges, mergeResult, notFilled, refusedBody, noBody, bodyResult, DecodesBody}
+use Rattle.exports.specs.WalkResults.{countersIn, countersOut, noCounters, verdictNumber, walkResult, notWalked, walkOf, Walks, objectsResult, noPairs, objectsOf, WalksPairs, JudgesByNumber, mergeResult, notFilled, refusedBody, noBody, bodyResult, DecodesBody}
 use Rattle.exports.specs.ReadResults.{cursorOf, as64, refusedAt, refusedRead}
 use Rattle.exports.specs.declared.VrfCounters.{VrfCounters}
 use Rattle.exports.specs.declared.VrfWalk.{VrfWalk}
@@ -160,7 +160,7 @@ merge-as left right m {a} {b} e f g h =
     h ∙ ap mergeResult (g ∙ ap (λ (x : Counters). merge x (countersOf b)) e ∙ ap (merge (countersIn left)) f)
 
 pub judges-as : (c : VrfCounters) (v : Verdict) {s : ArrayDecodeStats} {n : ℕ} → countersOf s ≡ countersIn c → A.Judges (countersOf s) v
-    → n ≡ verdictNumber (verdictIs v) → Judges (countersIn c) n
+    → n ≡ verdictNumber (verdictIs v) → JudgesByNumber (countersIn c) n
 judges-as c v e j h k bits = h ∙ ap verdictNumber (j k bits) ∙ ap (λ (x : Counters). verdictNumber (verdictOf k bits x)) e
 
 -- ---- the fast array

@@ -61,8 +61,8 @@ verdictNumber clean = 0
 verdictNumber partial = 1
 
 -- the number of the verdict on such counters, of whichever walk and however many bits
-abbrev pub Judges : Counters → (number : ℕ) → Type 0
-Judges c n = (k : Walker) (bits : ℕ) → n ≡ verdictNumber (verdictOf k bits c)
+abbrev pub JudgesByNumber : Counters → (number : ℕ) → Type 0
+JudgesByNumber c n = (k : Walker) (bits : ℕ) → n ≡ verdictNumber (verdictOf k bits c)
 
 -- ---- struct and exact walks
 

@@ -20,7 +20,7 @@ ghost use Rattle.fastarray.specs.Answers as F;
 ghost use Rattle.geometry.specs.Vectors.{readVector, readNormal};
 ghost use Rattle.geometry.specs.Rotations.{readRotation};
 ghost use Rattle.geometry.specs.Movements.{readMovement};
-ghost use Rattle.exports.specs.WalkResults.{Walks, WalksPairs, countersIn, mergeResult, Judges, schemaResult, modeOf, DecodesBody};
+ghost use Rattle.exports.specs.WalkResults.{Walks, WalksPairs, countersIn, mergeResult, JudgesByNumber, schemaResult, modeOf, DecodesBody};
 ghost use Rattle.exports.specs.ReadResults.{cursorOf, bitsResult, packedResult, serializedResult, copyResult};
 ghost use Rattle.exports.specs.MoveResults.{vectorResult, rotationResult, movementResult, rotationKind, locationKind};
 
@@ -257,7 +257,7 @@ pub extern "C" fn vrf_merge(left: VrfCounters, right: VrfCounters) -> VrfMerge
 
 #[no_mangle]
 pub extern "C" fn vrf_verdict(counters: VrfCounters) -> u32
-    ensures { λ r. ⌜ Judges (countersIn counters) r ⌝ }
+    ensures { λ r. ⌜ JudgesByNumber (countersIn counters) r ⌝ }
 {
     let stats = walks::stats_of(counters);
     let answer = array::stats::verdict(stats);

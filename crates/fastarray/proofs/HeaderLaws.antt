@@ -12,7 +12,7 @@ use borrow.Author.Tests.{le-leb, lt-leb, lt-ltb, le-ltb, eq-eqb, ne-eqb, leb-tru
 use Rattle.bits.proofs.ChoiceLaws.{and-true}
 use Rattle.bits.specs.Bits.{field}
 use Rattle.bits.proofs.Never.{never}
-use Rattle.fastarray.specs.Body.{signedAt, deletes, changes, notNegative, least, headed, Items, itemsFrom, deletedFrom, Body, ended, bodyOf, fieldsOf}
+use Rattle.fastarray.specs.Body.{signedAt, deletes, changes, notNegative, leastBits, headed, Items, itemsFrom, deletedFrom, Body, ended, bodyOf, fieldsOf}
 use Rattle.fastarray.specs.Parts.{itemsReadOf, deltaOf, measuredOf}
 use Rattle.fastarray.proofs.ItemLaws.{ItemsLying, items-lie, deleted-length}
 use Rattle.fastarray.specs.declared.Delta.{Delta}
@@ -58,7 +58,7 @@ pub record Fitting (W len : ℕ) : Type 0 where
 pub headed-fits : (flag W len : ℕ) → headed flag W len ≡ true → Fitting W len
 unfolding headed
 headed-fits flag W len e =
-    let four : Bool = leb (129 + least flag W) len in
+    let four : Bool = leb (129 + leastBits flag W) len in
     let three : Bool = notNegative (changes W) && four in
     let two : Bool = notNegative (deletes W) && three in
     let one : Bool = eqb (field W 0 1) 1 && two in
@@ -67,7 +67,7 @@ headed-fits flag W len e =
     let c = and-true (notNegative (deletes W)) three (b .1) in
     let d = and-true (notNegative (changes W)) four (c .1) in
     let h = leb-true 129 len (a .0) in
-    let l : 129 + least flag W ≤ len = leb-true (129 + least flag W) len (d .1) in
+    let l : 129 + leastBits flag W ≤ len = leb-true (129 + leastBits flag W) len (d .1) in
     record { header = h; lists = omega (arith, least-above flag (changes W)) }
 
 -- ---- the measuring pass

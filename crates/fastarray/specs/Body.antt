@@ -169,14 +169,14 @@ abbrev pub notNegative : (count : ℕ) → Bool
 notNegative n = ltb n (2 ^ 31)
 
 -- an item takes its id, the flag and the closing zero at least
-abbrev pub least : (flag W : ℕ) → ℕ
-least flag W = 32 * deletes W + (40 + flag) * changes W
+abbrev pub leastBits : (flag W : ℕ) → ℕ
+leastBits flag W = 32 * deletes W + (40 + flag) * changes W
 
 -- what the header asks of a body
 unfoldable pub headed : (flag W len : ℕ) → Bool
 headed flag W len =
     leb headerBits len
-    && (eqb (field W 0 1) 1 && (notNegative (deletes W) && (notNegative (changes W) && leb (headerBits + least flag W) len)))
+    && (eqb (field W 0 1) 1 && (notNegative (deletes W) && (notNegative (changes W) && leb (headerBits + leastBits flag W) len)))
 
 unfoldable pub deletedFrom : (count W p : ℕ) → List ℤ
 deletedFrom zero W p = []

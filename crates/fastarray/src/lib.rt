@@ -46,7 +46,7 @@ pub struct Delta {
 
 pub enum FastArray {
     Decoded(Delta),
-    // 1: the bit count is above 524,288.
+    // 1: the window is longer than 524,288 bits.
     TooLong,
     // 6: the bits are no fast-array body, or the bytes are not as many as the bits take.
     NotFastArray,

@@ -54,7 +54,7 @@ pub fn finite_double(n: u64) -> bool
 }
 
 // A finite single's pattern as a double: the same number.
-pub fn widened(n: u32) -> f64
+pub fn double_of_single(n: u32) -> f64
     requires { ⌜ finite (ofBits binary32 n) ≡ true ⌝ }
     ensures { λ r. ⌜ r ≡ ofBits binary32 n ⌝ }
 {

@@ -40,9 +40,9 @@ fn of_singles(a: u32, b: u32, d: u32, next: u64) -> VectorRead
     if !floats::finite_single(d) {
         return not_finite(next);
     }
-    let x = floats::widened(a);
-    let y = floats::widened(b);
-    let z = floats::widened(d);
+    let x = floats::double_of_single(a);
+    let y = floats::double_of_single(b);
+    let z = floats::double_of_single(d);
     made(x, y, z, next)
 }
 

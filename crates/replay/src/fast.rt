@@ -126,8 +126,8 @@ fn same_keys(list: &[u8], r: FastArray) -> bool {
         FastArray::Decoded(delta) => {
             let key = delta.key;
             let base = delta.base;
-            ids::signed(key) == ids::signed_at(list, 0)
-                && ids::signed(base) == ids::signed_at(list, 4)
+            ids::widened_id(key) == ids::signed_at(list, 0)
+                && ids::widened_id(base) == ids::signed_at(list, 4)
         }
         _ => true,
     }

@@ -3,7 +3,7 @@ use recorded::lists;
 
 const PATTERN: i32 = 0x6eee_eeee;
 
-pub fn signed(x: i32) -> i64 {
+pub fn widened_id(x: i32) -> i64 {
     x as i64
 }
 
@@ -36,7 +36,7 @@ fn same(list: &[u8], ids: &[i32]) -> bool {
     let mut i = 0;
     while i < n {
         let id = ids[i];
-        if signed(id) != signed_at(list, 4 * i) {
+        if widened_id(id) != signed_at(list, 4 * i) {
             return false;
         }
         i += 1;

@@ -4,8 +4,8 @@ ghost use lib.ListN.{length};
 use recorded::answers::Fault;
 use recorded::fields;
 use words::input;
-use words::input::Filled;
 use words::input::Input;
+use words::input::Reached;
 
 pub enum Started {
     Cases,
@@ -42,9 +42,9 @@ pub fn start(fd: i32) -> Started {
     let mut head = [0u8; 8];
     let filled = input::fill(fd, &mut head);
     match filled {
-        Filled::Full => is_magic(&head),
-        Filled::Ended(_) => Started::NoCases,
-        Filled::Failed => Started::Unread,
+        Reached::Full => is_magic(&head),
+        Reached::Ended(_) => Started::NoCases,
+        Reached::Failed => Started::Unread,
     }
 }
 
@@ -67,9 +67,9 @@ fn take_case(fd: i32, n: usize, space: &mut [u8]) -> Taken {
     let part = &mut space[0..n];
     let filled = input::fill(fd, part);
     match filled {
-        Filled::Full => Taken::Case(n),
-        Filled::Ended(_) => Taken::Faulty(Fault::Cut),
-        Filled::Failed => Taken::Faulty(Fault::Unread),
+        Reached::Full => Taken::Case(n),
+        Reached::Ended(_) => Taken::Faulty(Fault::Cut),
+        Reached::Failed => Taken::Faulty(Fault::Unread),
     }
 }
 
@@ -78,16 +78,16 @@ pub fn take(fd: i32, read: u64, space: &mut [u8]) -> Taken {
     let mut head = [0u8; 4];
     let filled = input::fill(fd, &mut head);
     match filled {
-        Filled::Full => {
+        Reached::Full => {
             let n = bits::load::load32(&head, 0) as usize;
             take_case(fd, n, space)
         }
-        Filled::Ended(n) => {
+        Reached::Ended(n) => {
             if n == 0 {
                 return end(fd, read);
             }
             Taken::Faulty(Fault::Cut)
         }
-        Filled::Failed => Taken::Faulty(Fault::Unread),
+        Reached::Failed => Taken::Faulty(Fault::Unread),
     }
 }

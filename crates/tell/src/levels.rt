@@ -84,13 +84,13 @@ fn say_row(rows: &[u32], names: &[u8], level: u32, at: usize) {
         return;
     }
     let row = &rows[at..];
-    if say::word_at(row, 0) != level {
+    if say::nth(row, 0) != level {
         return;
     }
-    if say::word_at(row, 1) != schema::NAME_KIND {
+    if say::nth(row, 1) != schema::NAME_KIND {
         return;
     }
-    say_handle(rows, names, level, say::word_at(row, 2));
+    say_handle(rows, names, level, say::nth(row, 2));
 }
 
 fn say_rows(rows: &[u32], names: &[u8], level: u32) {

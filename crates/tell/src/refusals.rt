@@ -1,5 +1,9 @@
 // Refusals in words, on standard error: the number, what docs/REFUSALS.md says that it means (and what to do about it), and its
 // values.
+use crate::rooms::MOST_FIELDS;
+use crate::rooms::MOST_IDS;
+use crate::rooms::PATH_BYTES;
+use crate::rooms::PAYLOAD_BYTES;
 use array::ObjectArray;
 use array::StructArray;
 use fastarray::FastArray;
@@ -42,11 +46,14 @@ fn refusal(number: u32) {
     meaning(number);
 }
 
-// A need, and what there is for it.
-fn need(before: &[u8], needed: u32, what: &[u8]) {
+// A need, and the room that there is for it.
+fn need(before: &[u8], needed: u32, what: &[u8], room: usize) {
     error::text(before);
     error::number(wide(needed));
     error::text(what);
+    error::text(b" (of ");
+    error::number(room as u64);
+    error::text(b")");
 }
 
 // Why a struct or exact walk gives nothing; what it needs, beside what `vrf` has room for.
@@ -55,9 +62,9 @@ pub fn unwalked(r: StructArray) {
     refusal(told.number);
     match r {
         StructArray::Short(_) => {
-            need(b": needed ", told.leaves, b" leaves (of 32768)");
-            need(b", ", told.path_bytes, b" path bytes (of 1048576)");
-            need(b", ", told.payload_bytes, b" payload bytes (of 65536)");
+            need(b": needed ", told.leaves, b" leaves", MOST_FIELDS);
+            need(b", ", told.path_bytes, b" path bytes", PATH_BYTES);
+            need(b", ", told.payload_bytes, b" payload bytes", PAYLOAD_BYTES);
         }
         _ => {}
     }
@@ -70,7 +77,7 @@ pub fn unpaired(r: ObjectArray) {
     refusal(told.number);
     match r {
         ObjectArray::Short(_) => {
-            need(b": needed ", told.pairs, b" pairs (of 32768)");
+            need(b": needed ", told.pairs, b" pairs", MOST_FIELDS);
         }
         _ => {}
     }
@@ -83,9 +90,9 @@ pub fn no_body(r: FastArray) {
     refusal(told.number);
     match r {
         FastArray::Short(_, _, _) => {
-            need(b": needed ", told.deletes, b" deleted ids (of 16384)");
-            need(b", ", told.items, b" items (of 16384)");
-            need(b", ", told.fields, b" fields (of 32768)");
+            need(b": needed ", told.deletes, b" deleted ids", MOST_IDS);
+            need(b", ", told.items, b" items", MOST_IDS);
+            need(b", ", told.fields, b" fields", MOST_FIELDS);
         }
         _ => {}
     }

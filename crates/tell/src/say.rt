@@ -84,7 +84,7 @@ pub fn signed(x: i32) {
 }
 
 // The word at a place, 0 past the end.
-pub fn word_at(s: &[u32], at: usize) -> u32 {
+pub fn nth(s: &[u32], at: usize) -> u32 {
     if at < s.len() { s[at] } else { 0 }
 }
 

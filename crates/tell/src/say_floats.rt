@@ -46,7 +46,7 @@ fn say_float(negative: bool, fraction: u64, hidden: u64, exponent: u64, bias: u6
 }
 
 // A line with a name, the pattern and the value.
-pub fn double(name: &[u8], x: f64) {
+pub fn named_double(name: &[u8], x: f64) {
     let bits = double_bits(x);
     let fraction = bits % 0x10_0000_0000_0000;
     let exponent = bits / 0x10_0000_0000_0000 % 2048;
@@ -63,7 +63,7 @@ pub fn double(name: &[u8], x: f64) {
     say::text(b"\n");
 }
 
-pub fn single(name: &[u8], x: f32) {
+pub fn named_single(name: &[u8], x: f32) {
     let bits = say::wide(single_bits(x));
     let fraction = bits % 0x80_0000;
     let exponent = bits / 0x80_0000 % 256;

@@ -36,7 +36,7 @@ fn say_partial(c: ArrayDecodeStats) {
     because(
         b"errors",
         c.errors,
-        b"a number that can't be read, an index past the count, or a payload or window that passes the end, and the rest of that array is lost",
+        b"a number that can't be read, an index that isn't below the count, or a payload or window that passes the end; the rest of that array, or that pair, is lost",
     );
     because(
         b"unconsumed_nested_bits",

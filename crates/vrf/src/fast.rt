@@ -1,13 +1,17 @@
 // A fast-array body: its header, the deleted ids, and each item with a line for each of its fields.
 ghost use mathlib.Core.Path.{_≡_};
-ghost use Prim.Native.Nat.{_/_, _≤_};
+ghost use Prim.Native.Nat.{_*_, _/_, _≤_};
 ghost use lib.ListN.{length};
+ghost use Rattle.bits.specs.Sizes.{longestWindow};
+ghost use Rattle.fastarray.specs.Records.{itemWords, fieldWords};
 use bitio::BitsRead;
 use bitio::Cursor;
 use fastarray::ChecksumMode;
 use fastarray::Delta;
 use fastarray::FastArray;
 use tell::refusals;
+use tell::rooms::MOST_FIELDS;
+use tell::rooms::MOST_IDS;
 use tell::say;
 
 // The numbers of an item, and of a field.
@@ -15,24 +19,28 @@ const ITEM_SIZE: usize = 2;
 
 const FIELD_SIZE: usize = 3;
 
-// ---- rooms: more than a window of 524,288 bits has, with 32 bits to a deleted id, 40 to an item and 16 to a field
+// ---- rooms
 
-fn id_room() -> [i32; 16384]
-    ensures { λ r. ⌜ 16384 ≡ length r ⌝ }
+const ITEM_ROOM: usize = ITEM_SIZE * MOST_IDS;
+
+const FIELD_ROOM: usize = FIELD_SIZE * MOST_FIELDS;
+
+fn id_room() -> [i32; MOST_IDS]
+    ensures { λ r. ⌜ longestWindow / 32 ≡ length r ⌝ }
 {
-    [0; 16384]
+    [0; MOST_IDS]
 }
 
-fn item_room() -> [u32; 32768]
-    ensures { λ r. ⌜ 32768 ≡ length r ⌝ }
+fn item_room() -> [u32; ITEM_ROOM]
+    ensures { λ r. ⌜ itemWords * (longestWindow / 32) ≡ length r ⌝ }
 {
-    [0; 32768]
+    [0; ITEM_ROOM]
 }
 
-fn field_room() -> [u32; 98304]
-    ensures { λ r. ⌜ 98304 ≡ length r ⌝ }
+fn field_room() -> [u32; FIELD_ROOM]
+    ensures { λ r. ⌜ fieldWords * (longestWindow / 16) ≡ length r ⌝ }
 {
-    [0; 98304]
+    [0; FIELD_ROOM]
 }
 
 // ---- parts
@@ -92,9 +100,9 @@ fn say_payload(bytes: &[u8], bits: u32, first: u32, width: u32) {
 }
 
 fn say_field(bytes: &[u8], bits: u32, field: &[u32]) {
-    let handle = say::word_at(field, 0);
-    let first = say::word_at(field, 1);
-    let width = say::word_at(field, 2);
+    let handle = say::nth(field, 0);
+    let first = say::nth(field, 1);
+    let width = say::nth(field, 2);
     say::right(say::wide(handle), 10);
     say::right(say::wide(width), 8);
     say::text(b"  ");
@@ -122,8 +130,8 @@ fn say_items(bytes: &[u8], bits: u32, count: usize, items: &[u32], fields: &[u32
     let mut first = 0;
     let mut i = 0;
     while i < count {
-        let id = say::word_at(items, ITEM_SIZE * i);
-        let own = say::index(say::word_at(items, ITEM_SIZE * i + 1));
+        let id = say::nth(items, ITEM_SIZE * i);
+        let own = say::index(say::nth(items, ITEM_SIZE * i + 1));
         let end = std::num::wrapping_add_usize(first, own);
         say::text(b"item ");
         say::signed_bits(id);

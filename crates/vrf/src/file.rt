@@ -57,7 +57,7 @@ fn read(path: &[u8], fd: i32, buf: &mut [u8]) -> usize {
 }
 
 // The file that is named at the place, to the front of the buffer. How many bytes it has, or 0 where that is said to be wrong.
-pub fn load(at: usize, buf: &mut [u8]) -> usize {
+pub fn fetch(at: usize, buf: &mut [u8]) -> usize {
     let mut word = io::buffer();
     let n = os::arg(at, &mut word);
     if os::errno() != 0 {

@@ -42,7 +42,7 @@ fn run(job: Job, bytes: &[u8], bits: u32) {
 fn window(job: Job, at: usize, given: Count) {
     let mut space = file::room();
     let room: &mut [u8] = &mut space;
-    let n = file::load(at, room);
+    let n = file::fetch(at, room);
     if n == 0 {
         return;
     }

@@ -30,30 +30,30 @@ fn say_number(name: &[u8], n: OptionalNumber) {
 }
 
 fn say_location(v: Vector) {
-    say_floats::double(b"location x", v.x);
-    say_floats::double(b"location y", v.y);
-    say_floats::double(b"location z", v.z);
+    say_floats::named_double(b"location x", v.x);
+    say_floats::named_double(b"location y", v.y);
+    say_floats::named_double(b"location z", v.z);
 }
 
 fn say_rotation(v: Rotation) {
-    say_floats::single(b"pitch", v.pitch);
-    say_floats::single(b"yaw", v.yaw);
-    say_floats::single(b"roll", v.roll);
+    say_floats::named_single(b"pitch", v.pitch);
+    say_floats::named_single(b"yaw", v.yaw);
+    say_floats::named_single(b"roll", v.roll);
 }
 
 fn say_linear(v: Vector) {
-    say_floats::double(b"linear velocity x", v.x);
-    say_floats::double(b"linear velocity y", v.y);
-    say_floats::double(b"linear velocity z", v.z);
+    say_floats::named_double(b"linear velocity x", v.x);
+    say_floats::named_double(b"linear velocity y", v.y);
+    say_floats::named_double(b"linear velocity z", v.z);
 }
 
 fn say_angular(spin: Spin) {
     match spin {
         Spin::Absent => say::text(b"angular velocity        absent\n"),
         Spin::Present(v) => {
-            say_floats::double(b"angular velocity x", v.x);
-            say_floats::double(b"angular velocity y", v.y);
-            say_floats::double(b"angular velocity z", v.z);
+            say_floats::named_double(b"angular velocity x", v.x);
+            say_floats::named_double(b"angular velocity y", v.y);
+            say_floats::named_double(b"angular velocity z", v.z);
         }
     }
 }

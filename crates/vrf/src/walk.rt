@@ -4,27 +4,24 @@ ghost use Prim.Native.Nat.{_*_, _/_, _≤_};
 ghost use lib.ListN.{length};
 ghost use Rattle.bits.specs.Sizes.{longestWindow};
 ghost use Rattle.framing.specs.Records.{leafWords, pairWords};
-use crate::file::ROOM;
 use array::ObjectArray;
 use array::StructArray;
-use bits::sizes::LONGEST_WINDOW;
 use framing::Walk;
 use outputs::LeafRecord;
 use outputs::records;
 use outputs::records::LEAF_WORDS;
 use outputs::records::PAIR_WORDS;
 use tell::refusals;
+use tell::rooms::MOST_FIELDS;
+use tell::rooms::PATH_BYTES;
+use tell::rooms::PAYLOAD_BYTES;
 use tell::say;
 use tell::verdicts;
 
 // ---- rooms
 
-// A field takes 16 bits at least, so that no window has more than 32,768 leaves or pairs, nor more payload bytes than bytes.
-// Paths can need more than there is, a MiB, which is 32 bytes for each of the most leaves: that is refusal 3, said with the
-// needs. A pair has fewer numbers than a leaf, so that the records of leaves or of pairs fit one room. With these rooms `vrf`
-// runs on a stack of 2 MiB.
-
-const MOST_FIELDS: usize = (LONGEST_WINDOW as usize) / 16;
+// A pair has fewer numbers than a leaf, so that the records of leaves or of pairs fit one room. With these rooms `vrf` runs on
+// a stack of 2 MiB.
 
 const RECORD_ROOM: usize = LEAF_WORDS * MOST_FIELDS;
 
@@ -34,16 +31,16 @@ fn record_room() -> [u32; RECORD_ROOM]
     [0; RECORD_ROOM]
 }
 
-fn path_room() -> [u8; 1048576]
-    ensures { λ r. ⌜ 1048576 ≡ length r ⌝ }
+fn path_room() -> [u8; PATH_BYTES]
+    ensures { λ r. ⌜ 32 * (longestWindow / 16) ≡ length r ⌝ }
 {
-    [0; 1048576]
+    [0; PATH_BYTES]
 }
 
-fn payload_room() -> [u8; ROOM]
+fn payload_room() -> [u8; PAYLOAD_BYTES]
     ensures { λ r. ⌜ longestWindow / 8 ≡ length r ⌝ }
 {
-    [0; ROOM]
+    [0; PAYLOAD_BYTES]
 }
 
 // ---- leaves

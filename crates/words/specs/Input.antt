@@ -2,8 +2,8 @@
 use Prim.Native.Nat.{ℕ, _≤_}
 use Rattle.words.specs.declared.input.Turn.{Turn}
 use Rattle.words.specs.declared.input.Turn.the-variants as turn
-use Rattle.words.specs.declared.input.Filled.{Filled}
-use Rattle.words.specs.declared.input.Filled.the-variants as filled
+use Rattle.words.specs.declared.input.Reached.{Reached}
+use Rattle.words.specs.declared.input.Reached.the-variants as reached
 use Rattle.words.specs.declared.input.Input.{Input}
 use Rattle.words.specs.declared.input.Input.the-variants as input
 
@@ -15,10 +15,10 @@ Moves turn.Interrupted most = Unit {0}
 Moves turn.Failed most = Unit {0}
 
 -- A buffer that was filled to where the file ended.
-abbrev pub Fills : Filled → ℕ → Type 0
-Fills filled.Full most = Unit {0}
-Fills (filled.Ended n) most = n ≤ most
-Fills filled.Failed most = Unit {0}
+abbrev pub Fills : Reached → ℕ → Type 0
+Fills reached.Full most = Unit {0}
+Fills (reached.Ended n) most = n ≤ most
+Fills reached.Failed most = Unit {0}
 
 -- A whole file.
 abbrev pub Holds : Input → ℕ → Type 0

@@ -20,7 +20,7 @@ enum Turn {
 }
 
 // How far a buffer was filled.
-pub enum Filled {
+pub enum Reached {
     // To its end; the file may go on.
     Full,
     // The file ended after so many bytes.
@@ -60,7 +60,7 @@ fn read_some(fd: i32, buf: &mut [u8]) -> Turn
 }
 
 // Reads until the buffer is full or the file ends.
-pub fn fill(fd: i32, buf: &mut [u8]) -> Filled
+pub fn fill(fd: i32, buf: &mut [u8]) -> Reached
     ensures { λ r. ⌜ Fills r (length (now (buf .entry))) ⌝ }
 {
     let mut done: usize = 0;
@@ -73,19 +73,19 @@ pub fn fill(fd: i32, buf: &mut [u8]) -> Filled
             }
             Turn::Interrupted => {
                 if tries == 0 {
-                    return Filled::Failed;
+                    return Reached::Failed;
                 }
                 tries -= 1;
             }
             Turn::End => {
-                return Filled::Ended(done);
+                return Reached::Ended(done);
             }
             Turn::Failed => {
-                return Filled::Failed;
+                return Reached::Failed;
             }
         }
     }
-    Filled::Full
+    Reached::Full
 }
 
 // What is read behind the last byte of a full buffer, where the file ends or goes on.
@@ -95,9 +95,9 @@ fn after_full(fd: i32, count: usize) -> Input
     let mut one = [0u8; 1];
     let next = fill(fd, &mut one);
     match next {
-        Filled::Full => Input::Longer,
-        Filled::Ended(_) => at_end(fd, count),
-        Filled::Failed => Input::Failed,
+        Reached::Full => Input::Longer,
+        Reached::Ended(_) => at_end(fd, count),
+        Reached::Failed => Input::Failed,
     }
 }
 
@@ -124,8 +124,8 @@ pub fn whole(fd: i32, buf: &mut [u8]) -> Input
 {
     let filled = fill(fd, buf);
     match filled {
-        Filled::Full => after_full(fd, buf.len()),
-        Filled::Ended(n) => at_end(fd, n),
-        Filled::Failed => Input::Failed,
+        Reached::Full => after_full(fd, buf.len()),
+        Reached::Ended(n) => at_end(fd, n),
+        Reached::Failed => Input::Failed,
     }
 }

@@ -40,28 +40,28 @@ returns-3 c =
     (sym (at-finite-single2 .finite-single2 .ensures) ∙ not-false _ (at-if2 .if2 .left))
     (sym (c .before .before .finite-single3 .ensures) ∙ not-true _ (c .before .if3 .taken))
 
-widened-requires : tie.Need-widened-requires
-widened-requires c κs = sym (c .before .before .before .before .before .finite-single .ensures) ∙ not-false _ (c .before .before .before .before .if1 .left)
+double-of-single-requires : tie.Need-double-of-single-requires
+double-of-single-requires c κs = sym (c .before .before .before .before .before .finite-single .ensures) ∙ not-false _ (c .before .before .before .before .if1 .left)
 
-widened-requires-2 : tie.Need-widened-requires-2
-widened-requires-2 c κs = sym (c .before .before .before .before .finite-single2 .ensures) ∙ not-false _ (c .before .before .before .if2 .left)
+double-of-single-requires-2 : tie.Need-double-of-single-requires-2
+double-of-single-requires-2 c κs = sym (c .before .before .before .before .finite-single2 .ensures) ∙ not-false _ (c .before .before .before .if2 .left)
 
-widened-requires-3 : tie.Need-widened-requires-3
-widened-requires-3 c κs = sym (c .before .before .before .finite-single3 .ensures) ∙ not-false _ (c .before .before .if3 .left)
+double-of-single-requires-3 : tie.Need-double-of-single-requires-3
+double-of-single-requires-3 c κs = sym (c .before .before .before .finite-single3 .ensures) ∙ not-false _ (c .before .before .if3 .left)
 
 made-requires : tie.Need-made-requires
 made-requires c κs = search needs
 
 returns-4 : tie.Need-returns-4
 returns-4 c =
-    let at-widened = c .before .before .before in
-    let at-if3 = at-widened .before in
+    let at-doubles = c .before .before .before in
+    let at-if3 = at-doubles .before in
     let at-finite-single3 = at-if3 .before in
     let at-if2 = at-finite-single3 .before in
     let at-finite-single2 = at-if2 .before in
     let at-if1 = at-finite-single2 .before in
     let at-finite-single = at-if1 .before in
-    c .made .ensures ∙ rw (at-widened .widened .ensures, c .before .before .widened2 .ensures, c .before .widened3 .ensures)
+    c .made .ensures ∙ rw (at-doubles .double-of-single .ensures, c .before .before .double-of-single2 .ensures, c .before .double-of-single3 .ensures)
     (all-finite _ _ _ _ (sym (at-finite-single .finite-single .ensures) ∙ not-false _ (at-if1 .if1 .left)) (sym (at-finite-single2 .finite-single2 .ensures) ∙ not-false _ (at-if2 .if2 .left)) (sym (at-finite-single3 .finite-single3 .ensures) ∙ not-false _ (at-if3 .if3 .left)))
 
 pub of-singles-spec : {M : Type 1} → statement M
@@ -77,8 +77,8 @@ of-singles-spec =
     finite-single-requires-3
     not-finite-requires-3
     returns-3
-    widened-requires
-    widened-requires-2
-    widened-requires-3
+    double-of-single-requires
+    double-of-single-requires-2
+    double-of-single-requires-3
     made-requires
     returns-4)

@@ -22,8 +22,8 @@ mul-id c = search needs
 shared-slice-copy-out-id : tie.Need-shared-slice-copy-out-id Inv-loop μ-loop
 shared-slice-copy-out-id c = search needs
 
-signed-requires : tie.Need-signed-requires Inv-loop μ-loop
-signed-requires c κs = search needs
+widened-id-requires : tie.Need-widened-id-requires Inv-loop μ-loop
+widened-id-requires c κs = search needs
 
 mul-signed-at : tie.Need-mul-signed-at Inv-loop μ-loop
 mul-signed-at c = search needs
@@ -47,4 +47,4 @@ returns-3 : tie.Need-returns-3 Inv-loop μ-loop
 returns-3 c = search needs
 
 pub same-spec : {M : Type 1} → statement M
-same-spec = tie.close (tie.spec Inv-loop μ-loop returns loop-holds mul-id shared-slice-copy-out-id signed-requires mul-signed-at signed-at-requires returns-2 add-i loop-less loop-again returns-3)
+same-spec = tie.close (tie.spec Inv-loop μ-loop returns loop-holds mul-id shared-slice-copy-out-id widened-id-requires mul-signed-at signed-at-requires returns-2 add-i loop-less loop-again returns-3)

@@ -14,20 +14,20 @@ abbrev μ-loop : tie.MeasureT-loop
 loop-holds : tie.Need-loop-holds Inv-loop μ-loop
 loop-holds c = search needs
 
-mul-word-at : tie.Need-mul-word-at Inv-loop μ-loop
-mul-word-at c = search needs
+mul-nth : tie.Need-mul-nth Inv-loop μ-loop
+mul-nth c = search needs
 
-word-at-requires : tie.Need-word-at-requires Inv-loop μ-loop
-word-at-requires c κs = search needs
+nth-requires : tie.Need-nth-requires Inv-loop μ-loop
+nth-requires c κs = search needs
 
-mul-word-at-2 : tie.Need-mul-word-at-2 Inv-loop μ-loop
-mul-word-at-2 c = search needs
+mul-nth-2 : tie.Need-mul-nth-2 Inv-loop μ-loop
+mul-nth-2 c = search needs
 
-add-word-at : tie.Need-add-word-at Inv-loop μ-loop
-add-word-at c = search needs
+add-nth : tie.Need-add-nth Inv-loop μ-loop
+add-nth c = search needs
 
-word-at-requires-2 : tie.Need-word-at-requires-2 Inv-loop μ-loop
-word-at-requires-2 c κs = search needs
+nth-requires-2 : tie.Need-nth-requires-2 Inv-loop μ-loop
+nth-requires-2 c κs = search needs
 
 index-requires : tie.Need-index-requires Inv-loop μ-loop
 index-requires c κs = search needs
@@ -72,11 +72,11 @@ say-items-spec =
     Inv-loop
     μ-loop
     loop-holds
-    mul-word-at
-    word-at-requires
-    mul-word-at-2
-    add-word-at
-    word-at-requires-2
+    mul-nth
+    nth-requires
+    mul-nth-2
+    add-nth
+    nth-requires-2
     index-requires
     wrapping-add-usize-requires
     slice-aggregate-text
