@@ -31,7 +31,7 @@ TRIALS = [
     ("a `requires` on a public call", "crates/schema/src/lookup.rt",
      "    ensures { λ r. ⌜ r ≡ rowOf", "    requires { ⌜ level < 64 ⌝ }\n    ensures { λ r. ⌜ r ≡ rowOf", ["schema::lookup::row_of", "requires"]),
     ("a relation that says nothing in a relation's place", "crates/array/src/lib.rt", "⌜ Decodes\n        (exactCall", "⌜ Tells\n        (exactCall", ["array::decode_struct_array_exact", "clause"]),
-    ("a relation of a part of the answer", EXPORTS, "⌜ Judges (countersIn counters) r ⌝", "⌜ Judges (countersIn counters) (lowest r) ⌝", ["exports::vrf_verdict", "clause"]),
+    ("a relation of a part of the answer", EXPORTS, "⌜ JudgesByNumber (countersIn counters) r ⌝", "⌜ JudgesByNumber (countersIn counters) (lowest r) ⌝", ["exports::vrf_verdict", "clause"]),
     ("a contract in a comment", BITIO,
      "    ensures { λ r. ⌜ r ≡ wholeOf (now (bytes .entry)) ⌝ }", "    // ensures { λ r. ⌜ r ≡ wholeOf (now (bytes .entry)) ⌝ }", ["bitio::new", "no contract"]),
     # ---- what is public
