@@ -92,15 +92,15 @@ enum {
 /* A root level that means no schema; a declared name's start, with length 0, that means none; the handle of a kept tail, `_raw`. */
 #define VRF_NONE UINT32_C(4294967295)
 
-/* What a walk counted. It is clean if the last five are 0. */
+/* What a walk counted. It is clean if all but the first two are 0. */
 typedef struct VrfCounters {
   uint64_t elements;              /* elements, of all levels */
   uint64_t fields;                /* leaves, kept tails among them; in an object walk pairs */
   uint64_t truncations;           /* more stood there than is allowed: elements, fields, levels */
-  uint64_t errors;                /* what can't be read; the rest of that array is lost */
+  uint64_t errors;                /* what can't be read; the rest of that array, or that pair, is lost */
   uint64_t nested_bits;           /* bits inside payloads that were stepped past */
   uint64_t root_bits;             /* bits behind the root array */
-  uint64_t implicit_terminations; /* arrays and elements that the window's end cuts off */
+  uint64_t implicit_terminations; /* times that a window ended where a closing zero was due */
 } VrfCounters;
 
 /* Accepted: how much of each buffer is filled. Refusal 3: how much of each is needed. */

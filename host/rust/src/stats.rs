@@ -13,13 +13,13 @@ pub struct ArrayDecodeStats {
     pub fields_emitted: u64,
     /// More stood there than is allowed: elements, fields, levels.
     pub truncations: u64,
-    /// What can't be read; the rest of that array is lost.
+    /// What can't be read; the rest of that array, or that pair, is lost.
     pub errors: u64,
     /// Bits inside payloads that were stepped past.
     pub unconsumed_nested_bits: u64,
     /// Bits behind the root array.
     pub unconsumed_root_bits: u64,
-    /// Arrays and elements that the window's end cuts off.
+    /// Times that a window ended where a closing zero was due.
     pub implicit_terminations: u64,
 }
 
