@@ -3,18 +3,20 @@ ghost use mathlib.Core.Path.{_≡_};
 ghost use lib.ListN.{length};
 ghost use Rattle.bits.specs.Decimals.{decimal};
 
-// How many digits n has.
+// How many digits n has: each comparison that holds counts one. Branches stand between groups of three alone, so that one digit is
+// told by one comparison and an index, which has four digits at most, by four.
 pub fn decimal_length(n: u32) -> usize
     ensures { λ r. ⌜ r ≡ length (decimal n) ⌝ }
 {
-    let mut scratch = [0u8; 10];
-    let mut v = n;
-    let mut k: usize = 0;
-    while 9 < v {
-        scratch[k] = (48 + v % 10) as u8;
-        v = v / 10;
-        k += 1;
+    let mut k: usize = 1;
+    if 9 < n {
+        k = 2 + (99 < n) as usize + (999 < n) as usize;
+        if 9999 < n {
+            k = 5 + (99999 < n) as usize + (999999 < n) as usize;
+            if 9999999 < n {
+                k = 8 + (99999999 < n) as usize + (999999999 < n) as usize;
+            }
+        }
     }
-    scratch[k] = (48 + v) as u8;
-    k + 1
+    k
 }

@@ -1,75 +1,128 @@
--- `bits::digits::decimal_length` meets its contract: each turn takes one digit off.
-use borrow.Author.Needs.{needs}
+-- `bits::digits::decimal_length` meets its contract: a number has more than k digits exactly if it passes the largest number of k
+-- digits, so each comparison that holds counts a digit.
+use mathlib.Core.Path.{_≡_, sym}
+use mathlib.Core.Bool.{Bool, true, false}
+use Prim.Native.Nat.{ℕ, zero, suc, _+_, _*_, _/_, _≤_, _<_, min}
 use native.Mathlib.Omega.{arith}
-use mathlib.Core.Path.{_≡_}
-use Prim.Native.Nat.{ℕ, _+_, _<_}
+use borrow.Author.Needs.{needs}
+use borrow.Author.Tests.{ltb-true, ltb-false}
+use lib.Dec.{ltb}
 use lib.ListN.{length}
+use mir.Syntax.{w64}
+use mir.Val.{Fits, boolByte}
 use Rattle.bits.specs.Decimals.{decimal}
+use Rattle.bits.proofs.ChoiceLaws.{by-cases}
 use Rattle.bits.proofs.DecimalLaws.{length-more, length-one, decimal-some}
 use Rattle.bits.proofs.digits.decimal_length.Statement.{statement}
 use Rattle.bits.proofs.digits.decimal_length.Tie as tie
 
-record Counted (n v k : ℕ) : Type 0 where
-  pub small : v < 10000000000
-  pub same : k + length (decimal v) ≡ length (decimal n)
+-- the largest number of k + 1 digits
+abbrev nines : (k : ℕ) → ℕ
+nines zero = 9
+nines (suc k) = 10 * nines k + 9
 
-abbrev Inv-loop : tie.InvT-loop
-Inv-loop n scratch₀ v₀ k₀ scratch v k = Counted n v k
+-- a number that doesn't pass it has no more digits
+at-most : (k n : ℕ) → n < 10000000000 → n ≤ nines k → length (decimal n) ≤ suc k
+at-most zero n small h = omega (arith, length-one n (omega arith))
+at-most (suc k) n small h =
+    by-cases
+    (ltb 9 n)
+    (λ e. omega (arith, length-more n (ltb-true 9 n e) small, at-most k (n / 10) (omega arith) (omega arith)))
+    (λ e. omega (arith, length-one n (omega (arith, ltb-false 9 n e))))
 
-abbrev μ-loop : tie.MeasureT-loop
-μ-loop n scratch₀ v₀ k₀ scratch v k = v
+-- one that passes it has another
+another : (k n : ℕ) → n < 10000000000 → nines k < n → suc (suc k) ≤ length (decimal n)
+another zero n small h = omega (arith, length-more n h small, decimal-some (n / 10))
+another (suc k) n small h = omega (arith, length-more n (omega arith) small, another k (n / 10) (omega arith) (omega arith))
 
-loop-holds : tie.Need-loop-holds Inv-loop μ-loop
-loop-holds c = record { small = omega arith; same = omega arith }
+-- the comparison with it counts that digit
+counted : (k n : ℕ) → n < 10000000000
+    → min (suc (suc k)) (length (decimal n)) ≡ min (suc k) (length (decimal n)) + boolByte (ltb (nines k) n)
+counted k n small =
+    by-cases
+    (ltb (nines k) n)
+    (λ e. rw e (omega (arith, another k n small (ltb-true (nines k) n e))))
+    (λ e. rw e (omega (arith, at-most k n small (ltb-false (nines k) n e))))
 
-add-scratch : tie.Need-add-scratch Inv-loop μ-loop
-add-scratch c = search needs
+-- a number of k + 2, k + 3 or k + 4 digits
+group : (k n : ℕ) → n < 10000000000 → nines k < n → n ≤ nines (3 + k)
+    → 2 + k + boolByte (ltb (nines (1 + k)) n) + boolByte (ltb (nines (2 + k)) n) ≡ length (decimal n)
+group k n small h l = omega (arith, another k n small h, at-most (3 + k) n small l, counted (1 + k) n small, counted (2 + k) n small)
 
-cast-scratch : tie.Need-cast-scratch Inv-loop μ-loop
-cast-scratch c = search needs
+-- the sums of a group fit
+fits-one : (k : ℕ) (a : Bool) → k ≤ 9 → Fits w64 (k + boolByte a)
+fits-one k true h = omega arith
+fits-one k false h = omega arith
 
-array-write-scratch : tie.Need-array-write-scratch Inv-loop μ-loop
-array-write-scratch c = omega (arith, decimal-some (c .before .loop .v), decimal-some (c .before .before .args .n))
+fits-two : (k : ℕ) (a b : Bool) → k ≤ 8 → Fits w64 (k + boolByte a + boolByte b)
+fits-two k true b h = fits-one (k + 1) b (omega arith)
+fits-two k false b h = fits-one (k + 0) b (omega arith)
 
-add-k : tie.Need-add-k Inv-loop μ-loop
-add-k c = omega (arith, decimal-some (c .before .loop .v), decimal-some (c .before .before .args .n))
+cast-k : tie.Need-cast-k
+cast-k c = search needs
 
-loop-less : tie.Need-loop-less Inv-loop μ-loop
-loop-less c = omega arith
+add-k : tie.Need-add-k
+add-k c = fits-one 2 (ltb 99 (c .before .args .n)) (omega arith)
 
-loop-again : tie.Need-loop-again Inv-loop μ-loop
-loop-again c = record { small = omega arith; same = omega (arith, length-more (c .before .loop .v) (c .loop-test .taken) (c .before .loop .inv .small)) }
+cast-k-2 : tie.Need-cast-k-2
+cast-k-2 c = search needs
 
-add-scratch-2 : tie.Need-add-scratch-2 Inv-loop μ-loop
-add-scratch-2 c = search needs
+add-k-2 : tie.Need-add-k-2
+add-k-2 c = let n = c .before .args .n in fits-two 2 (ltb 99 n) (ltb 999 n) (omega arith)
 
-cast-scratch-2 : tie.Need-cast-scratch-2 Inv-loop μ-loop
-cast-scratch-2 c = search needs
+cast-k-3 : tie.Need-cast-k-3
+cast-k-3 c = search needs
 
-array-write-scratch-2 : tie.Need-array-write-scratch-2 Inv-loop μ-loop
-array-write-scratch-2 c = omega (arith, decimal-some (c .before .loop .v), decimal-some (c .before .before .args .n))
+add-k-3 : tie.Need-add-k-3
+add-k-3 c = fits-one 5 (ltb 99999 (c .before .before .args .n)) (omega arith)
 
-add-result : tie.Need-add-result Inv-loop μ-loop
-add-result c = omega (arith, decimal-some (c .before .loop .v), decimal-some (c .before .before .args .n))
+cast-k-4 : tie.Need-cast-k-4
+cast-k-4 c = search needs
 
-returns : tie.Need-returns Inv-loop μ-loop
-returns c = omega (arith, length-one (c .before .loop .v) (omega arith))
+add-k-4 : tie.Need-add-k-4
+add-k-4 c = let n = c .before .before .args .n in fits-two 5 (ltb 99999 n) (ltb 999999 n) (omega arith)
+
+cast-k-5 : tie.Need-cast-k-5
+cast-k-5 c = search needs
+
+add-k-5 : tie.Need-add-k-5
+add-k-5 c = fits-one 8 (ltb 99999999 (c .before .before .before .args .n)) (omega arith)
+
+cast-k-6 : tie.Need-cast-k-6
+cast-k-6 c = search needs
+
+add-k-6 : tie.Need-add-k-6
+add-k-6 c = let n = c .before .before .before .args .n in fits-two 8 (ltb 99999999 n) (ltb 999999999 n) (omega arith)
+
+returns : tie.Need-returns
+returns c = group 6 (c .before .before .before .args .n) (omega arith) (c .if3 .taken) (omega arith)
+
+returns-2 : tie.Need-returns-2
+returns-2 c = group 3 (c .before .before .before .args .n) (omega arith) (c .before .if2 .taken) (c .if3 .left)
+
+returns-3 : tie.Need-returns-3
+returns-3 c = group 0 (c .before .before .args .n) (omega arith) (c .before .if1 .taken) (c .if2 .left)
+
+returns-4 : tie.Need-returns-4
+returns-4 c = sym (length-one (c .before .args .n) (omega arith))
 
 pub decimal-length-spec : {M : Type 1} → statement M
 decimal-length-spec =
     tie.close
     (tie.spec
-    Inv-loop
-    μ-loop
-    loop-holds
-    add-scratch
-    cast-scratch
-    array-write-scratch
+    cast-k
     add-k
-    loop-less
-    loop-again
-    add-scratch-2
-    cast-scratch-2
-    array-write-scratch-2
-    add-result
-    returns)
+    cast-k-2
+    add-k-2
+    cast-k-3
+    add-k-3
+    cast-k-4
+    add-k-4
+    cast-k-5
+    add-k-5
+    cast-k-6
+    add-k-6
+    returns
+    returns-2
+    returns-3
+    returns-4)
