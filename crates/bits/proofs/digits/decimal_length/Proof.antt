@@ -62,37 +62,37 @@ cast-k : tie.Need-cast-k
 cast-k c = search needs
 
 add-k : tie.Need-add-k
-add-k c = fits-one 2 (ltb 99 (c .before .args .n)) (omega arith)
+add-k c = search (needs, fits-one)
 
 cast-k-2 : tie.Need-cast-k-2
 cast-k-2 c = search needs
 
 add-k-2 : tie.Need-add-k-2
-add-k-2 c = let n = c .before .args .n in fits-two 2 (ltb 99 n) (ltb 999 n) (omega arith)
+add-k-2 c = search (needs, fits-two)
 
 cast-k-3 : tie.Need-cast-k-3
 cast-k-3 c = search needs
 
 add-k-3 : tie.Need-add-k-3
-add-k-3 c = fits-one 5 (ltb 99999 (c .before .before .args .n)) (omega arith)
+add-k-3 c = search (needs, fits-one)
 
 cast-k-4 : tie.Need-cast-k-4
 cast-k-4 c = search needs
 
 add-k-4 : tie.Need-add-k-4
-add-k-4 c = let n = c .before .before .args .n in fits-two 5 (ltb 99999 n) (ltb 999999 n) (omega arith)
+add-k-4 c = search (needs, fits-two)
 
 cast-k-5 : tie.Need-cast-k-5
 cast-k-5 c = search needs
 
 add-k-5 : tie.Need-add-k-5
-add-k-5 c = fits-one 8 (ltb 99999999 (c .before .before .before .args .n)) (omega arith)
+add-k-5 c = search (needs, fits-one)
 
 cast-k-6 : tie.Need-cast-k-6
 cast-k-6 c = search needs
 
 add-k-6 : tie.Need-add-k-6
-add-k-6 c = let n = c .before .before .before .args .n in fits-two 8 (ltb 99999999 n) (ltb 999999999 n) (omega arith)
+add-k-6 c = search (needs, fits-two)
 
 returns : tie.Need-returns
 returns c = group 6 (c .before .before .before .args .n) (omega arith) (c .if3 .taken) (omega arith)
