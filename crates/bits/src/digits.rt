@@ -3,8 +3,8 @@ ghost use mathlib.Core.Path.{_≡_};
 ghost use lib.ListN.{length};
 ghost use Rattle.bits.specs.Decimals.{decimal};
 
-// How many digits n has: each comparison that holds counts one. Branches stand between groups of three alone, so that one digit is
-// told by one comparison and an index, which has four digits at most, by four.
+// How many digits n has: one, and one more for each comparison that holds. Of three only the first is a branch, so that one digit is
+// told by one comparison, and an index, which has four digits at most, by four at most.
 pub fn decimal_length(n: u32) -> usize
     ensures { λ r. ⌜ r ≡ length (decimal n) ⌝ }
 {

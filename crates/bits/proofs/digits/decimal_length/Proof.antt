@@ -21,7 +21,7 @@ abbrev nines : (k : ℕ) → ℕ
 nines zero = 9
 nines (suc k) = 10 * nines k + 9
 
--- a number that doesn't pass it has no more digits
+-- a number that doesn't pass it has at most k + 1 digits
 at-most : (k n : ℕ) → n < 10000000000 → n ≤ nines k → length (decimal n) ≤ suc k
 at-most zero n small h = omega (arith, length-one n (omega arith))
 at-most (suc k) n small h =
@@ -30,12 +30,12 @@ at-most (suc k) n small h =
     (λ e. omega (arith, length-more n (ltb-true 9 n e) small, at-most k (n / 10) (omega arith) (omega arith)))
     (λ e. omega (arith, length-one n (omega (arith, ltb-false 9 n e))))
 
--- one that passes it has another
+-- one that passes it has at least k + 2
 another : (k n : ℕ) → n < 10000000000 → nines k < n → suc (suc k) ≤ length (decimal n)
 another zero n small h = omega (arith, length-more n h small, decimal-some (n / 10))
 another (suc k) n small h = omega (arith, length-more n (omega arith) small, another k (n / 10) (omega arith) (omega arith))
 
--- the comparison with it counts that digit
+-- so the comparison with it counts the digit behind the first k + 1
 counted : (k n : ℕ) → n < 10000000000
     → min (suc (suc k)) (length (decimal n)) ≡ min (suc k) (length (decimal n)) + boolByte (ltb (nines k) n)
 counted k n small =
@@ -44,7 +44,7 @@ counted k n small =
     (λ e. rw e (omega (arith, another k n small (ltb-true (nines k) n e))))
     (λ e. rw e (omega (arith, at-most k n small (ltb-false (nines k) n e))))
 
--- a number of k + 2, k + 3 or k + 4 digits
+-- and two comparisons count the digits of a number that has k + 2 to k + 4 of them
 group : (k n : ℕ) → n < 10000000000 → nines k < n → n ≤ nines (3 + k)
     → 2 + k + boolByte (ltb (nines (1 + k)) n) + boolByte (ltb (nines (2 + k)) n) ≡ length (decimal n)
 group k n small h l = omega (arith, another k n small h, at-most (3 + k) n small l, counted (1 + k) n small, counted (2 + k) n small)
