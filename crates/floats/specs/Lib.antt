@@ -1,1 +1,2 @@
+pub mod ByteAngles
 pub mod Numbers

@@ -1,5 +1,7 @@
 // The numbers of the vector, normal and rotation readers, in IEEE 754's terms (vrf-bitio/src/lib.rs, decode/geometry.rs).
 // The functions here ask for their ranges by a `requires`; the crate geometry calls them with bits that were read.
+pub mod byte_angles;
+
 ghost use mathlib.Core.Path.{_≡_};
 ghost use Prim.Native.Nat.{_≤_, _<_, _^_};
 ghost use mathlib.Core.Bool.{true};
@@ -24,12 +26,12 @@ pub fn normal_axis(k: u32) -> f64
     (((k as i32) - 32768) as f64) / 32767.0
 }
 
-// k steps of 360 / 256 degrees.
+// k steps of 360 / 256 degrees: the table's entry over 32.
 pub fn byte_angle(k: u32) -> f32
     requires { ⌜ k < 256 ⌝ }
     ensures { λ r. ⌜ Angle 8 k r ⌝ }
 {
-    (k as f32) * (360.0 / 256.0)
+    (byte_angles::entry(k) as f32) / 32.0
 }
 
 // k steps of 360 / 65,536 degrees.

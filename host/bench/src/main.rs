@@ -12,6 +12,7 @@ mod measure;
 mod moves;
 mod objects;
 mod reads;
+mod rotations;
 mod row;
 mod walks;
 mod windows;
@@ -32,6 +33,7 @@ fn rows() -> Vec<Row> {
         objects::rows(),
         fast::rows(),
         moves::rows(),
+        rotations::rows(),
     ];
     groups.into_iter().flatten().collect()
 }

@@ -8,29 +8,27 @@ use std::hint::black_box;
 use vrf_bitio::BitReader;
 use vrf_proved::lent::{self, LocationScale, Movement, Read, RotationWidth};
 
-fn port(record: &Bits) -> Read<Movement> {
-    lent::movement(
-        &record.bytes,
-        record.count.into(),
-        black_box(RotationWidth::Sixteen),
-        black_box(LocationScale::Hundred),
-    )
+fn port(record: &Bits, width: u32) -> Read<Movement> {
+    let rotation = if width == 8 { RotationWidth::Eight } else { RotationWidth::Sixteen };
+    lent::movement(&record.bytes, record.count.into(), rotation, black_box(LocationScale::Hundred))
 }
 
-fn drop_in(record: &Bits) -> Option<vrf_proved::FRepMovement> {
-    let rotation = vrf_proved::RotatorQuantization::ShortComponents;
+fn drop_in(record: &Bits, width: u32) -> Option<vrf_proved::FRepMovement> {
+    use vrf_proved::RotatorQuantization::{ByteComponents, ShortComponents};
+    let rotation = if width == 8 { ByteComponents } else { ShortComponents };
     let location = vrf_proved::VectorQuantization::RoundTwoDecimals;
-    vrf_proved::read_rep_movement(&record.bytes, record.count, black_box(rotation), black_box(location)).ok()
+    vrf_proved::read_rep_movement(&record.bytes, record.count, rotation, black_box(location)).ok()
 }
 
-fn rust(record: &Bits) -> Option<FRepMovement> {
+fn rust(record: &Bits, width: u32) -> Option<FRepMovement> {
+    use RotatorQuantization::{ByteComponents, ShortComponents};
     let mut reader = BitReader::with_bit_len(&record.bytes, record.count.into()).ok()?;
-    let (rotation, location) = (RotatorQuantization::ShortComponents, VectorQuantization::RoundTwoDecimals);
-    decode::decode::movement(&mut reader, black_box(rotation), black_box(location)).ok()
+    let rotation = if width == 8 { ByteComponents } else { ShortComponents };
+    decode::decode::movement(&mut reader, rotation, black_box(VectorQuantization::RoundTwoDecimals)).ok()
 }
 
-fn agree(record: &Bits) -> bool {
-    let (Some(theirs), Ok(ours), Some(owned)) = (rust(record), port(record).result, drop_in(record)) else {
+fn agree(record: &Bits, width: u32) -> bool {
+    let (Some(theirs), Ok(ours), Some(owned)) = (rust(record, width), port(record, width).result, drop_in(record, width)) else {
         return false;
     };
     let vectors = [theirs.location, theirs.linear_velocity].map(|v| [v.x, v.y, v.z]) == [ours.location, ours.linear];
@@ -40,18 +38,18 @@ fn agree(record: &Bits) -> bool {
     vectors && angular && numbers && [r.pitch, r.yaw, r.roll] == ours.rotation && alike(&owned, &theirs)
 }
 
-fn sides(record: Bits, way: Way) -> Sides {
-    assert!(agree(&record), "the movements differ");
+fn sides(record: Bits, width: u32, way: Way) -> Sides {
+    assert!(agree(&record, width), "the movements differ");
     let same = record.clone();
     let rust = side(move || {
-        black_box(rust(black_box(&same)));
+        black_box(rust(black_box(&same), black_box(width)));
     });
     let port = match way {
         Way::DropIn => side(move || {
-            black_box(drop_in(black_box(&record)));
+            black_box(drop_in(black_box(&record), black_box(width)));
         }),
         _ => side(move || {
-            let _ = black_box(port(black_box(&record)));
+            let _ = black_box(port(black_box(&record), black_box(width)));
         }),
     };
     Sides { units: 1, rust, port }
@@ -59,17 +57,19 @@ fn sides(record: Bits, way: Way) -> Sides {
 
 pub fn rows() -> Vec<Row> {
     let kinds = [
-        (Record::Plain, "plain", Way::Lent),
-        (Record::Plain, "plain", Way::DropIn),
-        (Record::Full, "all parts", Way::Lent),
-        (Record::Floats, "vectors as binary32", Way::Lent),
+        (Record::Plain, "plain", 16, Way::Lent),
+        (Record::Plain, "plain", 16, Way::DropIn),
+        (Record::Full, "all parts", 16, Way::Lent),
+        (Record::Floats, "vectors as binary32", 16, Way::Lent),
+        (Record::Plain, "byte angles", 8, Way::Lent),
+        (Record::Plain, "byte angles", 8, Way::DropIn),
     ];
-    let row = |(kind, name, way): (Record, &str, Way)| {
-        let record = windows::movement(kind);
+    let row = |(kind, name, width, way): (Record, &str, u32, Way)| {
+        let record = windows::movement(kind, width);
         Row::new(
             format!("movement, {name}, {} bits{}", record.count, way.told()),
             "record",
-            move || sides(record.clone(), way),
+            move || sides(record.clone(), width, way),
         )
     };
     kinds.into_iter().map(row).collect()

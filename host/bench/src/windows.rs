@@ -97,18 +97,18 @@ pub enum Record {
     Floats,
 }
 
-/// A movement record with 16 bits an axis.
-pub fn movement(record: Record) -> Bits {
+/// A movement record with 8 or 16 bits an axis.
+pub fn movement(record: Record, width: u32) -> Bits {
     let full = record == Record::Full;
     let mut out = Bits::default();
     for flag in [false, full, full, full] {
         out.bit(flag);
     }
     vector(&mut out, record, [123_456, -98_765, 4_321], 20, true);
-    for angle in [100, 30_000, 0] {
+    for angle in [100, if width == 8 { 200 } else { 30_000 }, 0] {
         out.bit(angle != 0);
         if angle != 0 {
-            out.number(angle, 16);
+            out.number(angle, width);
         }
     }
     vector(&mut out, record, [600, -20, 3], 11, false);
