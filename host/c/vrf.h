@@ -23,8 +23,8 @@
  *   stack.
  *
  * What you get
- *   A struct by value (vrf_verdict: a number). `refusal` is 0 if the call is accepted, else the number of a refusal. A refused call
- *   has written nothing.
+ *   A struct by value; vrf_verdict and vrf_byte_angle_steps give a number. `refusal` is 0 if the call is accepted, else the number
+ *   of a refusal. A refused call has written nothing.
  *   Behind it stand the values that the refusal names (below), then what only an accepted call gives. In a refused answer all that
  *   isn't named is 0, but for `position`; so a `verdict` of 0 says "clean" only where `refusal` is 0 too.
  *
@@ -89,7 +89,8 @@ enum {
   VRF_PARTIAL = 1
 };
 
-/* A root level that means no schema; a declared name's start, with length 0, that means none; the handle of a kept tail, `_raw`. */
+/* A root level that means no schema; a declared name's start, with length 0, that means none; the handle of a kept tail, `_raw`;
+ * what vrf_byte_angle_steps gives for a number that is no byte. */
 #define VRF_NONE UINT32_C(4294967295)
 
 /* What a walk counted. It is clean if all but the first two are 0. */
@@ -291,6 +292,10 @@ VrfVector vrf_normal(const uint8_t *bytes, size_t bytes_len, VrfCursor cursor);
 
 /* A rotation of 8 or 16 bits an axis. 14, 13, 7. */
 VrfRotation vrf_rotation(const uint8_t *bytes, size_t bytes_len, VrfCursor cursor, uint32_t width);
+
+/* The angle of the byte k in whole thirty-seconds of a degree: 45 times k. In a rotation of 8 bits an axis each angle is such a
+ * number divided by 32, and nothing is lost by that. A k above 255 is no byte: VRF_NONE. There is no refusal. */
+uint32_t vrf_byte_angle_steps(uint32_t k);
 
 /* Absent is not the same as zero: look at `present` first. */
 typedef struct VrfSpin {

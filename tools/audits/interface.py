@@ -28,6 +28,7 @@ CONSTANTS = {
     "crates/array/src/lib.rt": {},
     "crates/steps/src/leaves.rt": {},
     "crates/outputs/src/records.rt": {},
+    "crates/geometry/src/lib.rt": {"NOT_A_BYTE": "VRF_NONE"},
     RAW: {},
     "host/rust/src/lent.rs": {},
 }

@@ -7,7 +7,10 @@ COUNTS = {"bits", "count"}
 POOLS = {"names", "declared_names"}
 
 # calls that answer everything: they have no refusal to order
-NEVER_REFUSE = {"bitio::new", "array::stats::is_clean", "array::stats::verdict", "exports::vrf_verdict", "schema::twelve::public_levels"}
+NEVER_REFUSE = {
+    "bitio::new", "array::stats::is_clean", "array::stats::verdict", "exports::vrf_verdict", "schema::twelve::public_levels",
+    "geometry::byte_angle_steps", "exports::vrf_byte_angle_steps",
+}
 NEVER_REFUSING = ("bits::decimal::", "bits::digits::", "schema::labels::", "schema::lookup::", "schema::spans::")
 # the module of a crate that says what a refusal is: it is asked of an answer, and refuses nothing itself
 SAYING = "said"

@@ -30,7 +30,6 @@ from .statements import STATED
 LONG_TEXT = 300
 LONG_CONTRACT = 160
 DEEP = 6
-KINDS_THAT_FAIL = KINDS
 
 NAME = re.compile(r"«[^»\n]*»|[^\s(){}.;,@\"«»⌜⌝]+")
 CHAIN = re.compile(r"(?:\.before(?![^\s(){}.;,@\"«»])\s*){%d,}" % DEEP)
@@ -53,6 +52,11 @@ class Found:
 
     def __str__(self):
         return f"{self.path}:{self.line}: {self.kind}: {self.words}"
+
+
+def status(counts):
+    """The exit status: 1 if anything is listed, whatever its kind."""
+    return 1 if any(counts.values()) else 0
 
 
 def line_at(text, place):

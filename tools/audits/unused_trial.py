@@ -141,7 +141,8 @@ def found_in(root):
 
 
 def trial():
-    """Whether what must be listed is, and nothing else; and whether mended `use` lines leave no import to list."""
+    """Whether what must be listed is, and nothing else; whether each kind by itself makes the status 1, and nothing listed 0; and whether
+    mended `use` lines leave no import to list."""
     with tempfile.TemporaryDirectory() as folder:
         root = Path(folder)
         for path, text in FILES.items():
@@ -156,6 +157,10 @@ def trial():
     kept = ["use Prim.Native.Nat.{ℕ, _+_}", "use mathlib.Core.Path.{_≡_, refl as same}"]
     if brought[:2] != kept or len([line for line in brought if line.startswith("use ")]) != 4:
         wrong.append("--fix-imports wrote other lines than those that are left")
+    kinds = {line.split(": ")[1] for line in MUST}
+    wrong += [f"the status is 0 where there is one {kind}" for kind in sorted(kinds) if unused.status({kind: 1}) != 1]
+    if unused.status(dict.fromkeys(kinds, 0)) != 0:
+        wrong.append("the status is 1 where nothing is listed")
     for line in wrong:
         print(f"unused: {line}")
     print(f"unused: {len(MUST)} things to list in a trial, {len(wrong)} wrong")

@@ -28,7 +28,8 @@ shl-mod a j k =
     ∙ add-zero ((a % 2 ^ j) * 2 ^ k)
 
 module _ (N i off at : ℕ) (at-is : 8 * i + off ≡ at) (off-lt : off < 8) where
-  low-word : (x : ℕ) → x ≡ field N (8 * i) 64 → x / 2 ^ off ≡ field N at (64 - off)
+  -- what is left of a word above its first bits
+  pub low-word : (x : ℕ) → x ≡ field N (8 * i) 64 → x / 2 ^ off ≡ field N at (64 - off)
   low-word x e =
       let l : off ≤ 64 = omega arith in
       ap (λ (y : ℕ). y / 2 ^ off) e ∙ field-high N (8 * i) 64 off l ∙ ap (λ (p : ℕ). field N p (64 - off)) at-is

@@ -2,8 +2,8 @@
 //
 // A slice is a pointer and a length, a result a struct by value: the refusal's number first, 0 where the call is accepted,
 // then the values of document 01's table in its order, then what an accepted call gives; what isn't named is 0, but for the
-// position that a refused read leaves. Only `vrf_verdict`, which refuses nothing, gives a plain number. Each function takes
-// the answer of one proved call apart, and its contract cites that call's definition.
+// position that a refused read leaves. Only `vrf_verdict` and `vrf_byte_angle_steps`, which refuse nothing, give a plain
+// number. Each function takes the answer of one proved call apart, and its contract cites that call's definition.
 mod cursors;
 mod moves;
 mod walks;
@@ -20,6 +20,7 @@ ghost use Rattle.fastarray.specs.Answers as F;
 ghost use Rattle.geometry.specs.Vectors.{readVector, readNormal};
 ghost use Rattle.geometry.specs.Rotations.{readRotation};
 ghost use Rattle.geometry.specs.Movements.{readMovement};
+ghost use Rattle.geometry.specs.ByteAngles.{byteAngleSteps};
 ghost use Rattle.exports.specs.WalkResults.{Walks, WalksPairs, countersIn, mergeResult, JudgesByNumber, schemaResult, modeOf, DecodesBody};
 ghost use Rattle.exports.specs.ReadResults.{cursorOf, bitsResult, packedResult, serializedResult, copyResult};
 ghost use Rattle.exports.specs.MoveResults.{vectorResult, rotationResult, movementResult, rotationKind, locationKind};
@@ -382,4 +383,11 @@ pub extern "C" fn vrf_movement(
     let scale = moves::location_kind(location);
     let answer = geometry::read_rep_movement(bytes, count, width, scale);
     moves::movement_of(answer)
+}
+
+#[no_mangle]
+pub extern "C" fn vrf_byte_angle_steps(k: u32) -> u32
+    ensures { λ r. ⌜ r ≡ byteAngleSteps k ⌝ }
+{
+    geometry::byte_angle_steps(k)
 }

@@ -1,16 +1,15 @@
--- The laws of the byte angles: 45 k / 32 is a value of binary32, so the whole number over 32 and the product of k and the step are both
--- that value, without a rounding.
+-- The laws of byte angles: 45 k / 32 is a value of binary32, so the whole number over 32 and the product of k and 360 / 256 are both that
+-- value, without a rounding.
 use mathlib.Core.Path.{_≡_, refl, sym, ap, _∙_, subst}
 use mathlib.Core.Bool.{false}
 use Prim.Native.Nat.{ℕ, _*_, _<_}
 use native.Mathlib.Nat.{mul-one, zero-lt-suc}
 use native.Mathlib.Omega.{arith}
 use lib.IntN.{pos}
-use lib.Ieee.{Float, binary32, round, div, ofInt, toBits}
-use lib.Ieee.Exact.{HasValue}
+use lib.Ieee.{binary32, round, div, ofInt, toBits}
 use lib.Ieee.Back.{round-whole}
-use Rattle.floats.specs.Numbers.{angle, Angle}
-use Rattle.floats.specs.ByteAngles.{thirtySeconds, byTheWhole, byTheProduct, AsBefore}
+use Rattle.floats.specs.Numbers.{Angle}
+use Rattle.floats.specs.ByteAngles.{byTheWhole, byTheProduct, AsBefore}
 use Rattle.floats.proofs.Rounding.{div-at, steps, angle-byte, byte-exact}
 
 whole-over-32 : (k : ℕ) → k < 256 → byTheWhole k ≡ round binary32 false (45 * k) 32
@@ -24,7 +23,7 @@ product-over-32 : (k : ℕ) → k < 256 → byTheProduct k ≡ round binary32 fa
 unfolding ofInt div
 product-over-32 k h = steps k 5 (div binary32 (ofInt binary32 (pos 360)) (ofInt binary32 (pos 256))) (refl, refl) (omega arith) (omega arith)
 
--- the reader's angle is exactly that many steps
+-- so made, the angle of a byte is what the contract of `byte_angle` asks: exactly k times 45 / 32
 pub whole-angle : (k : ℕ) → k < 256 → Angle 8 k (byTheWhole k)
 whole-angle k h = subst (Angle 8 k) (sym (whole-over-32 k h ∙ angle-byte k)) (byte-exact k h)
 

@@ -1,4 +1,4 @@
--- The byte angles as whole numbers: each is so many thirty-seconds of a degree, and the angle is that number divided by 32.
+-- The angle of a byte: counted in thirty-seconds of a degree, which is a whole number, and divided by 32.
 use mathlib.Core.Path.{_≡_}
 use Prim.Native.Nat.{ℕ, _*_}
 use mathlib.Core.Bool.{false}
@@ -6,19 +6,19 @@ use lib.IntN.{pos}
 use lib.Ieee.{Float, binary32, mul, div, ofInt, toBits}
 use lib.Ieee.Exact.{HasValue}
 
--- k steps of 360 / 256 degrees in whole thirty-seconds of a degree
+-- k times 360 / 256 degrees, counted in thirty-seconds of a degree
 abbrev pub thirtySeconds : (k : ℕ) → ℕ
 thirtySeconds k = 45 * k
 
--- the angle of k as the rotation reader makes it: the whole number as binary32, divided by 32 in binary32
+-- the angle of k as the rotation reader makes it: that number as binary32, divided by 32
 abbrev pub byTheWhole : (k : ℕ) → Float
 byTheWhole k = div binary32 (ofInt binary32 (pos (thirtySeconds k))) (ofInt binary32 (pos 32))
 
--- the angle of k as it was made before there was a whole number: k as binary32, times 360 / 256 in binary32
+-- the formula that stood in `byte_angle` before, (k as f32) * (360.0 / 256.0), each operation in binary32
 abbrev pub byTheProduct : (k : ℕ) → Float
 byTheProduct k = mul binary32 (ofInt binary32 (pos k)) (div binary32 (ofInt binary32 (pos 360)) (ofInt binary32 (pos 256)))
 
--- the division loses nothing, and the float is the product's, bit for bit
+-- the division loses nothing, and gives the float that the product gave, bit for bit
 pub record AsBefore (k : ℕ) : Type 0 where
   pub exact : HasValue (byTheWhole k) false (thirtySeconds k) 32
   pub same : byTheWhole k ≡ byTheProduct k

@@ -26,12 +26,12 @@ pub fn normal_axis(k: u32) -> f64
     (((k as i32) - 32768) as f64) / 32767.0
 }
 
-// k steps of 360 / 256 degrees: the table's entry over 32.
+// k steps of 360 / 256 degrees: the table's entry, worked out, over 32.
 pub fn byte_angle(k: u32) -> f32
     requires { ⌜ k < 256 ⌝ }
     ensures { λ r. ⌜ Angle 8 k r ⌝ }
 {
-    (byte_angles::entry(k) as f32) / 32.0
+    (byte_angles::worked_out(k) as f32) / 32.0
 }
 
 // k steps of 360 / 65,536 degrees.

@@ -46,7 +46,7 @@ module _ (w : ℕ) (each : (k : ℕ) → k < 2 ^ w → Angle w k (angle w k)) wh
       })
   exact-of v p (T.Refused r) b e = let z : _≡_ {A = ℕ} 0 1 = cc in absurd (omega arith)
 
-  at-width : (s : List ℕ) (c : Cursor) (v : Rotation) (p : ℕ) → rotationAt s w c ≡ R.Value v p → ExactRotation w v
+  pub at-width : (s : List ℕ) (c : Cursor) (v : Rotation) (p : ℕ) → rotationAt s w c ≡ R.Value v p → ExactRotation w v
   at-width s c v p e = exact-of v p (threeAt s (Axis w) c) (below-axes s c w refl) e
 
 -- An accepted rotation is exact on each axis.

@@ -7,3 +7,4 @@ pub mod CasesProved
 pub mod ExactAngles
 pub mod FiniteVectors
 pub mod Outside
+pub mod ExactMovements

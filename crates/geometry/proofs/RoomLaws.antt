@@ -183,21 +183,21 @@ module _ (s : List ℕ) (c : Cursor) (g : good s c ≡ true) where
       let f : field all 1 m ≡ field (num s) (k + 1) m = ap (λ (y : ℕ). field y 1 m) e ∙ field-field (num s) k n 1 m (omega arith) in
       (axis-there w p k l h ek b f refl, ap (λ (y : ℕ). y / 2 ^ (1 + m)) e ∙ field-high (num s) k n (1 + m) (omega arith))
 
-  -- three axes, cut from n bits that hold them
-  pub axes-there : (w n k all : ℕ) → w ≤ 20 → c .pos + n ≤ c .len → k ≡ c .start + c .pos → all ≡ field (num s) k n →
+  -- three axes, cut from m bits whose first n hold them
+  pub axes-there : (w n m k all : ℕ) → w ≤ 20 → c .pos + n ≤ c .len → n ≤ m → k ≡ c .start + c .pos → all ≡ field (num s) k m →
       let behind = axisBehind all w in
       let last = axisBehind behind w in
       axisBits all w + axisBits behind w + axisBits last w ≤ n
       → axesIn all w (c .pos) ≡ threeAt s (Axis w) c
   unfolding partAt
-  axes-there w n k all l h ek e u =
+  axes-there w n m k all l h i ek e u =
       let a = axisBits all w in
       let behind = axisBehind all w in
       let b = axisBits behind w in
       let last = axisBehind behind w in
-      let r₁ = axis-cut w n (c .pos) k all (omega arith) (omega arith) (omega arith) ek e in
-      let r₂ = axis-cut w (n - a) (c .pos + a) (k + a) behind (omega arith) (omega arith) (omega arith) (omega arith) (r₁ .1) in
-      let r₃ = axis-cut w (n - a - b) (c .pos + a + b) (k + a + b) last (omega arith) (omega arith) (omega arith) (omega arith) (r₂ .1) in
+      let r₁ = axis-cut w m (c .pos) k all (omega arith) (omega arith) (omega arith) ek e in
+      let r₂ = axis-cut w (m - a) (c .pos + a) (k + a) behind (omega arith) (omega arith) (omega arith) (omega arith) (r₁ .1) in
+      let r₃ = axis-cut w (m - a - b) (c .pos + a + b) (k + a + b) last (omega arith) (omega arith) (omega arith) (omega arith) (r₂ .1) in
       three-read s (Axis w) c (r₁ .0) refl refl (r₂ .0) refl refl (r₃ .0) refl
 
   -- the same, as they were cut: x, y, z, and q bits in all
@@ -215,7 +215,7 @@ module _ (s : List ℕ) (c : Cursor) (g : good s c ≡ true) where
       let ez : z ≡ axisIn last w = cc in
       let eq : q ≡ 0 + a + b + d = cc in
       let f : c .pos + q ≡ c .pos + a + b + d = omega arith in
-      rw (ex, ey, ez, f) (axes-there w n k all l h ek e (omega arith))
+      rw (ex, ey, ez, f) (axes-there w n n k all l h (omega arith) ek e (omega arith))
 
 -- a read whose room is short is refused as skipping its bits is
 pub read-refused : (s : List ℕ) (c : Cursor) (n : ℕ) {k : Skipped} {r : Refusal} → n ≤ 64 → k ≡ skipped s c n → k ≡ Skip.Refused r

@@ -4,3 +4,4 @@ pub mod Vectors
 pub mod Rotations
 pub mod Movements
 pub mod Cases
+pub mod ByteAngles

@@ -4,7 +4,8 @@
 //                w > 0: signed, w bits each, over the scale where e is set; one read where 64 bits hold all three
 //                w = 0: floats, of 64 bits where e is set, else of 32
 //     normal   = three times 16 bits k, as (k - 32768) / 32767
-//     rotation = for each axis a bit, and behind a set one k of 8 or 16 bits, as k turns of 360 / 2^width degrees
+//     rotation = for each axis a bit, and behind a set one k of 8 or 16 bits, as k turns of 360 / 2^width degrees;
+//                of 8 bits that is 45 k thirty-seconds of a degree
 //     movement = four bits (sleep, physics, frame, handle), vector, rotation, vector,
 //                [physics] vector, [frame] packed number, [handle] packed number
 //
@@ -19,6 +20,7 @@ mod vectors;
 ghost use mathlib.Core.Path.{_≡_};
 ghost use Rattle.geometry.specs.Vectors.{readVector, readNormal};
 ghost use Rattle.geometry.specs.Rotations.{readRotation};
+ghost use Rattle.geometry.specs.ByteAngles.{byteAngleSteps};
 ghost use Rattle.geometry.specs.Movements.{readMovement};
 use bitio::Cursor;
 use bitio::Measured;
@@ -61,6 +63,9 @@ pub struct Movement {
     pub frame: OptionalNumber,
     pub handle: OptionalNumber,
 }
+
+// What `byte_angle_steps` gives for a number that is no byte: no byte's angle has so many steps.
+pub const NOT_A_BYTE: u32 = 4294967295;
 
 // How a movement's rotation is sent: 8 or 16 bits an axis.
 pub enum RotatorQuantization {
@@ -132,21 +137,20 @@ pub fn read_fixed_vector_normal(bytes: &[u8], c: Cursor) -> VectorRead
     vectors::normal_of(axes)
 }
 
-// A rotation of 8 or 16 bits an axis. Refusals: 14 for a bad cursor, 13, then 7.
+// A rotation of 8 or 16 bits an axis. Refusals: 14 for a bad cursor, 13, then 7. The axes' reads test the cursor, so it is asked
+// by itself only where nothing is read.
 pub fn read_rotation(bytes: &[u8], c: Cursor, width: u32) -> RotationRead
     ensures { λ r. ⌜ r ≡ readRotation (now (bytes .entry)) c width ⌝ }
 {
+    if width == 8 {
+        return rotations::byte_rotation(bytes, c);
+    }
+    if width == 16 {
+        return rotations::short_rotation(bytes, c);
+    }
     let found = bitio::position(bytes, c);
     match found {
-        Measured::Value(_) => {
-            if width == 8 {
-                return rotations::byte_rotation(bytes, c);
-            }
-            if width == 16 {
-                return rotations::short_rotation(bytes, c);
-            }
-            RotationRead::Refused(Refusal::NoSuchWidth)
-        }
+        Measured::Value(_) => RotationRead::Refused(Refusal::NoSuchWidth),
         Measured::Refused(r) => RotationRead::Refused(Refusal::Unread(r)),
     }
 }
@@ -165,4 +169,15 @@ pub fn read_rep_movement(
         Opened::Reader(c) => movements::read_record(bytes, c, rotation, location),
         Opened::Refused(r) => MovementRead::Refused(Refusal::Unread(r)),
     }
+}
+
+// A byte's angle as a whole number: thirty-seconds of a degree, 45 times the byte. A number above 255 is no byte and gets
+// 4294967295.
+pub fn byte_angle_steps(k: u32) -> u32
+    ensures { λ r. ⌜ r ≡ byteAngleSteps k ⌝ }
+{
+    if k < 256 {
+        return floats::byte_angles::entry(k);
+    }
+    NOT_A_BYTE
 }

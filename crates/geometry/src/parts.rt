@@ -208,9 +208,10 @@ fn last_axes(bytes: &[u8], c: Cursor, width: u64) -> Three
     }
 }
 
-// Three axes, cut out of one field that holds them whatever their bits say.
+// Three axes, cut out of the word that starts with their first byte: at most 7 bits before them and 3 * 19 of theirs fill it. Of
+// what stands behind them there `cut_axes` takes nothing.
 pub fn three_axes(bytes: &[u8], c: Cursor, width: u64) -> Three
-    requires { ⌜ width ≤ 20 ⌝ }
+    requires { ⌜ width ≤ 18 ⌝ }
     ensures { λ r. ⌜ r ≡ threeAt (now (bytes .entry)) (Axis width) c ⌝ }
 {
     let most = 3 * (width + 1);
@@ -219,7 +220,9 @@ pub fn three_axes(bytes: &[u8], c: Cursor, width: u64) -> Three
         Skipped::Done(_end) => {
             let pos = c.pos;
             let first = c.start + pos;
-            let all = bits::field::field_at(bytes, first, most);
+            let i = (first / 8) as usize;
+            let word = bits::load::load(bytes, i);
+            let all = word >> (first % 8);
             cut_axes(all, width, pos)
         }
         Skipped::Refused(_) => last_axes(bytes, c, width),

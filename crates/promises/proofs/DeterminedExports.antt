@@ -12,6 +12,7 @@ use Rattle.outputs.specs.Answers.{Call, Lent}
 use Rattle.array.specs.Calls.{structCall, exactCall}
 use Rattle.array.specs.Merges.{merge}
 use Rattle.fastarray.specs.Answers as F
+use Rattle.geometry.specs.ByteAngles.{byteAngleSteps}
 use Rattle.geometry.specs.Movements.{readMovement}
 use Rattle.geometry.specs.Rotations.{readRotation}
 use Rattle.geometry.specs.Vectors.{readVector, readNormal}
@@ -113,3 +114,7 @@ one-vrf-rotation bytes cursor width = one-equal (rotationResult (cursor .pos) (r
 pub one-vrf-movement : (bytes : List ℕ) (count rotation location : ℕ)
     → Determines (λ r. r ≡ movementResult (readMovement bytes count (rotationKind rotation) (locationKind location)))
 one-vrf-movement bytes count rotation location = one-equal (movementResult (readMovement bytes count (rotationKind rotation) (locationKind location)))
+
+-- `vrf_byte_angle_steps` has one answer.
+pub one-vrf-byte-angle-steps : (k : ℕ) → Determines (λ r. r ≡ byteAngleSteps k)
+one-vrf-byte-angle-steps k = one-equal (byteAngleSteps k)

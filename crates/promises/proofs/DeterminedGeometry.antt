@@ -8,6 +8,7 @@ use Rattle.geometry.specs.Refusals.{numbered, standsAfter}
 use Rattle.geometry.specs.Vectors.{readVector, readNormal}
 use Rattle.geometry.specs.Rotations.{readRotation}
 use Rattle.geometry.specs.Movements.{readMovement}
+use Rattle.geometry.specs.ByteAngles.{byteAngleSteps}
 use Rattle.geometry.specs.declared.Refusal.{Refusal}
 use Rattle.geometry.specs.declared.RotatorQuantization.{RotatorQuantization}
 use Rattle.geometry.specs.declared.VectorQuantization.{VectorQuantization}
@@ -30,6 +31,10 @@ one-read-rotation bytes c width = one-equal (readRotation bytes c width)
 pub one-read-rep-movement : (bytes : List ℕ) (count : ℕ) (rotation : RotatorQuantization) (location : VectorQuantization)
     → Determines (λ r. r ≡ readMovement bytes count rotation location)
 one-read-rep-movement bytes count rotation location = one-equal (readMovement bytes count rotation location)
+
+-- `byte_angle_steps` has one answer.
+pub one-byte-angle-steps : (k : ℕ) → Determines (λ r. r ≡ byteAngleSteps k)
+one-byte-angle-steps k = one-equal (byteAngleSteps k)
 
 -- `said` has one answer.
 pub one-said : (why : Refusal) → Determines (λ r. r ≡ sayingOf (numbered why))

@@ -23,3 +23,4 @@ pub mod Parts
 pub mod RefusedMoves
 pub mod RefusedMovement
 pub mod RefusedExports
+pub mod ByteAngles

@@ -6,3 +6,4 @@ pub mod ReadOrders
 pub mod WalkOrders
 pub mod MoveOrders
 pub mod ExportOrders
+pub mod ByteAngles

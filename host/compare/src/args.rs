@@ -2,7 +2,16 @@
 use crate::faults::{self, Fault};
 use crate::kinds::KINDS;
 
-const FIXED: [&str; 7] = ["schema", "windows", "strings", "all-openings", "all-cursors", "numbers", "largest"];
+const FIXED: [&str; 8] = [
+    "schema",
+    "windows",
+    "strings",
+    "all-openings",
+    "all-cursors",
+    "angles",
+    "numbers",
+    "largest",
+];
 
 #[derive(Clone, Copy)]
 pub enum Until {
@@ -20,6 +29,8 @@ pub struct Args {
     pub fault: Option<&'static Fault>,
     pub list_faults: bool,
     pub self_test: bool,
+    /// The byte angles are printed, and nothing else is done.
+    pub angles: bool,
 }
 
 impl Default for Args {
@@ -32,6 +43,7 @@ impl Default for Args {
             fault: None,
             list_faults: false,
             self_test: false,
+            angles: false,
         }
     }
 }
@@ -43,13 +55,14 @@ pub fn all_kinds() -> impl Iterator<Item = &'static str> {
 fn usage() -> String {
     let kinds: Vec<&str> = all_kinds().collect();
     let mut text = String::from(
-        "usage: compare [--seed N] [--seconds N | --count N] [--only KIND] [--bits N] [--fault K | --faults] [--self-test]\n\n",
+        "usage: compare [--seed N] [--seconds N | --count N] [--only KIND] [--bits N] [--fault K | --faults] [--self-test] [--angles]\n\n",
     );
     text += "  --seed N       another seed draws other cases (1)\n";
     text += "  --seconds N    how long random cases are drawn, after the fixed kinds (60)\n";
     text += "  --count N      how many random cases are drawn\n";
     text += "  --bits N       all windows of up to so many bits, at most 24 (20); strings and all-openings follow it\n";
     text += "  --self-test    every fault, in every kind that has to tell of it\n";
+    text += "  --angles       prints all byte angles of both sides, by their bits, and what differs\n";
     text += &format!("  --only KIND    one of: {}\n", kinds.join(" "));
     text += "  --fault K      the port's answers are made wrong, to see the report; --faults lists what K stands for\n";
     text.trim_end().into()
@@ -70,6 +83,10 @@ impl Args {
                 }
                 "--faults" => {
                     args.list_faults = true;
+                    continue;
+                }
+                "--angles" => {
+                    args.angles = true;
                     continue;
                 }
                 _ => {}

@@ -1,4 +1,5 @@
 //! A case of any kind, and the search for a smaller one that still differs.
+use crate::angles::StepsCase;
 use crate::answer::{Difference, Outcome};
 use crate::fast::FastCase;
 use crate::merge::MergeCase;
@@ -25,6 +26,7 @@ pub enum Case {
     Refusal(RefusalCase),
     Merge(MergeCase),
     Opening(OpeningCase),
+    Steps(StepsCase),
     /// The twelve levels' table: one case, without a window.
     Schema,
 }
@@ -51,6 +53,7 @@ impl Case {
             Self::Refusal(c) => c.check(desk).map(one),
             Self::Merge(c) => c.check().map(one),
             Self::Opening(c) => c.check(desk),
+            Self::Steps(c) => c.check().map(one),
             Self::Schema => twelve::check().map(|calls| (Outcome::Accepted, calls)),
         }
     }
@@ -79,6 +82,7 @@ impl Case {
             Self::Refusal(c) => c.line(),
             Self::Merge(c) => c.line(),
             Self::Opening(c) => c.line(),
+            Self::Steps(c) => c.line(),
             Self::Schema => "schema".into(),
         }
     }
@@ -92,7 +96,7 @@ impl Case {
             Self::Read(c) => Box::new(c.smaller().map(Self::Read)),
             Self::Reader(c) => Box::new(c.smaller().map(Self::Reader)),
             Self::Opening(c) => Box::new(c.smaller().map(Self::Opening)),
-            Self::Refusal(_) | Self::Merge(_) | Self::Schema => Box::new(std::iter::empty()),
+            Self::Refusal(_) | Self::Merge(_) | Self::Steps(_) | Self::Schema => Box::new(std::iter::empty()),
         }
     }
 

@@ -10,17 +10,10 @@ use vrf_proved::lent::LONGEST_WINDOW;
 
 const MOST: usize = LONGEST_WINDOW as usize;
 
-fn close(bits: Bits) -> Window {
-    Window {
-        bits: bits.len() as u32,
-        bytes: bits.bytes().to_vec(),
-    }
-}
-
 fn walk(bits: Bits, exact: bool, schema: &Rc<Schema>, declared: &Rc<Declared>) -> Case {
     Case::Walk(WalkCase {
         exact,
-        window: close(bits),
+        window: Window::of(&bits),
         schema: schema.clone(),
         declared: declared.clone(),
     })
@@ -98,8 +91,8 @@ pub fn cases() -> Vec<Case> {
         walk(nested(empty_leaves(4095, 1, MOST - 11 * 80)), false, &cycle, &named),
         walk(fill(0), false, &none, &bare),
         walk(fill(2), false, &cycle, &named),
-        Case::Objects(ObjectCase(close(most_pairs()))),
-        Case::Objects(ObjectCase(close(fill(2)))),
-        Case::Objects(ObjectCase(close(fill(0)))),
+        Case::Objects(ObjectCase(Window::of(&most_pairs()))),
+        Case::Objects(ObjectCase(Window::of(&fill(2)))),
+        Case::Objects(ObjectCase(Window::of(&fill(0)))),
     ]
 }

@@ -1,6 +1,7 @@
 //! The port and the unchanged Rust on the same inputs, in one process.
 //!
-//!     compare [--seed N] [--seconds N | --count N] [--only KIND] [--bits N] [--fault K | --faults] [--self-test]
+//!     compare [--seed N] [--seconds N | --count N] [--only KIND] [--bits N] [--fault K | --faults] [--self-test] [--angles]
+mod angles;
 mod answer;
 mod args;
 mod bits;
@@ -62,6 +63,9 @@ fn main() -> ExitCode {
         };
     }
     faults::turn_on(args.fault);
+    if args.angles {
+        return if angles::print() { ExitCode::SUCCESS } else { ExitCode::FAILURE };
+    }
     let mut runner = Runner::new(false);
     let same = compare(&mut runner, &args);
     runner.table();
@@ -85,6 +89,7 @@ pub fn compare(runner: &mut Runner, args: &Args) -> bool {
         && (!args.wants("strings") || exhaustive::strings(runner, args.string_bytes()))
         && (!args.wants("all-openings") || exhaustive::openings(runner, args.opening_bits()))
         && (!args.wants("all-cursors") || exhaustive::cursors(runner))
+        && (!args.wants("angles") || angles::run(runner))
         && (!args.wants("numbers") || numbers::run(runner))
         && (!args.wants("largest") || largest(runner))
         && random(runner, args)

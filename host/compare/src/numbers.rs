@@ -8,16 +8,13 @@ use crate::window::Window;
 use std::collections::BTreeSet;
 use vrf_proved::lent::NONE;
 
-fn case(what: What, bits: &Bits) -> Case {
-    let window = Window {
-        bytes: bits.bytes().to_vec(),
-        bits: bits.len() as u32,
-    };
+/// A read at the front of a window that holds these bits.
+pub fn case(what: What, bits: &Bits) -> Case {
     Case::Read(ReadCase {
         what,
         start: 0,
         skip: 0,
-        window,
+        window: Window::of(bits),
     })
 }
 

@@ -2,11 +2,11 @@
 use crate::answer::{ReadAnswer, Value};
 use crate::faults::{self, Call};
 use crate::lent::Lent;
-use vrf_proved::ArrayDecodeStats;
 use vrf_proved::lent::{
     self, Buffers, Cursor, FastArray, LocationScale, Movement, Objects, Read, Refusal, RefusedMerge, RotationWidth, Tables, Verdict, Walk,
     Xyz,
 };
+use vrf_proved::{ArrayDecodeStats, BYTE_ANGLE_STEPS};
 
 /// The buffers of all calls, kept from case to case.
 #[derive(Default)]
@@ -104,6 +104,19 @@ pub fn rotation(bytes: &[u8], cursor: Cursor, width: u32) -> ReadAnswer {
     let mut r = lent::rotation(bytes, cursor, width);
     faults::answer(Call::Rotation, &mut r);
     of(r, |v| Value::Floats(v.map(f32::to_bits)))
+}
+
+pub fn byte_angle_steps(k: u32) -> Option<u32> {
+    let mut steps = lent::byte_angle_steps(k);
+    faults::answer(Call::ByteAngleSteps, &mut steps);
+    steps
+}
+
+/// The entry of the crate's constant table.
+pub fn byte_angle_entry(k: u32) -> Option<u32> {
+    let mut entry = BYTE_ANGLE_STEPS.get(k as usize).copied();
+    faults::answer(Call::ByteAngleEntry, &mut entry);
+    entry
 }
 
 pub fn movement(bytes: &[u8], count: u64, rotation: RotationWidth, location: LocationScale) -> Read<Movement> {

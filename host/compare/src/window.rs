@@ -24,6 +24,14 @@ impl Window {
         }
     }
 
+    /// Exactly the bytes that the bits take, zeros behind the last bit.
+    pub fn of(bits: &Bits) -> Self {
+        Self {
+            bytes: bits.bytes().to_vec(),
+            bits: bits.len() as u32,
+        }
+    }
+
     /// Exactly the bytes that the bits take.
     pub fn close(rng: &mut Rng, bits: &Bits) -> Self {
         let mut bytes = bits.bytes().to_vec();

@@ -26,7 +26,8 @@ use std::fmt;
 
 /// The longest window that is walked or opened, in bits.
 pub const LONGEST_WINDOW: u32 = 524_288;
-/// A root that means no schema; the start of a declared name, with length 0, that means none; the handle of a kept tail.
+/// A root that means no schema; the start of a declared name, with length 0, that means none; the handle of a kept tail; in C the
+/// answer for a number that is no byte, where [`byte_angle_steps`] gives `None`.
 pub const NONE: u32 = raw::NONE;
 /// Numbers in a leaf: path start, path length, handle, bits, payload start.
 pub const LEAF_WORDS: usize = raw::LEAF_WORDS;
@@ -680,6 +681,25 @@ pub fn rotation(bytes: &[u8], cursor: Cursor, width: u32) -> Read<Angles> {
     // SAFETY: as in `struct_array`.
     let r = unsafe { raw::vrf_rotation(bytes.as_ptr(), bytes.len(), cursor.into(), width) };
     read(r.refusal, [r.first, r.second, r.third], angles(r.value), r.position)
+}
+
+/// A byte's angle as a whole number of thirty-seconds of a degree, 45 times the byte; `None` for a number above 255, which is no byte.
+/// An axis of a rotation of 8 bits is such a number divided by 32, and nothing is lost by that. [`crate::BYTE_ANGLE_STEPS`] has all of
+/// them.
+///
+/// ```
+/// # use vrf_proved::lent::{self, Cursor};
+/// assert_eq!((lent::byte_angle_steps(64), lent::byte_angle_steps(255)), (Some(2880), Some(11_475)));
+/// assert_eq!(lent::byte_angle_steps(256), None);
+/// let read = lent::rotation(&[0x81, 0x00], Cursor::over(11), 8); // the byte 64, and two axes that are not sent
+/// assert_eq!(read.result, Ok([2880.0 / 32.0, 0.0, 0.0]));
+/// ```
+#[inline]
+#[must_use]
+pub fn byte_angle_steps(k: u32) -> Option<u32> {
+    // SAFETY: a number goes in and a number comes out.
+    let steps = unsafe { raw::vrf_byte_angle_steps(k) };
+    (steps != NONE).then_some(steps)
 }
 
 /// A movement record. What is absent is `None`, never zero.

@@ -2,6 +2,7 @@
 #![warn(missing_docs)]
 #![deny(unsafe_code)]
 
+mod angles;
 mod array;
 mod error;
 pub mod fastarray;
@@ -16,6 +17,7 @@ mod stats;
 mod tables;
 mod types;
 
+pub use angles::BYTE_ANGLE_STEPS;
 pub use array::{
     decode_object_ref_array, decode_object_ref_array_with_stats, decode_struct_array, decode_struct_array_exact,
     try_decode_object_ref_array, try_decode_struct_array, try_decode_struct_array_exact, Decoded, FlattenedField, MAX_ELEMENTS,

@@ -236,5 +236,7 @@ extern "C" {
 
     pub(crate) fn vrf_rotation(bytes: *const u8, bytes_len: usize, cursor: VrfCursor, width: u32) -> VrfRotation;
 
+    pub(crate) fn vrf_byte_angle_steps(k: u32) -> u32;
+
     pub(crate) fn vrf_movement(bytes: *const u8, bytes_len: usize, count: u64, rotation: u32, location: u32) -> VrfMovement;
 }

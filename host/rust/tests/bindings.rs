@@ -435,6 +435,7 @@ fn rotations() {
     refused(lent::rotation(&window.bytes, at(4, 2, 27), 8), 7, [21, 27, 8], 21);
     refused(lent::rotation(&window.bytes, at(4, 2, 29), 9), 13, [0; 3], 2);
     refused(lent::rotation(&window.bytes[..4], at(4, 2, 29), 9), 14, [29, 32, 0], 2);
+    assert_eq!((lent::byte_angle_steps(200), lent::byte_angle_steps(300)), (Some(9000), None));
     let mut window = Window::of(1 << 1 | 1, 17);
     window.push(0, 1);
     window.push(65_535 << 1 | 1, 17);

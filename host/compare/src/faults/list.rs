@@ -75,6 +75,8 @@ impl List {
         self.answer::<Read<[f64; 3]>>(Call::Vector, &["vector"]);
         self.answer::<Read<[f64; 3]>>(Call::Normal, &["normal"]);
         self.answer::<Read<[f32; 3]>>(Call::Rotation, &["rotation"]);
+        self.answer::<Option<u32>>(Call::ByteAngleSteps, &["angles"]);
+        self.answer::<Option<u32>>(Call::ByteAngleEntry, &["angles"]);
         self.answer::<Read<Movement>>(Call::Movement, MOVEMENT);
         for call in ProbeCall::all(0) {
             self.probes(call);
@@ -130,6 +132,9 @@ impl List {
         });
         self.also(&["numbers"], |call, part| {
             matches!(call, Call::Vector | Call::Normal | Call::Rotation) && !part.contains("refused")
+        });
+        self.also(&["angles"], |call, part| {
+            call == Call::Rotation && !part.contains("refused") || call == Call::Movement && part.starts_with("rotation")
         });
         self.also(&["refusals"], |call, part| {
             let elsewhere = matches!(

@@ -30,6 +30,9 @@ pub enum Call {
     Vector,
     Normal,
     Rotation,
+    /// What a byte's angle is as a whole number: the call's, and the constant's.
+    ByteAngleSteps,
+    ByteAngleEntry,
     Movement,
     Probe,
     /// The original's names: the leaves of a walk, what it adds to the counters, pairs with counters and without, and so on.

@@ -1,5 +1,5 @@
 -- `floats::byte_angles::entry` meets its contract: antt computes the list of 45 k for the 256 bytes and finds it to be the table's numbers,
--- so that the entry at k is 45 k. With one entry off by one the two lists differ, and so do the entries at k.
+-- so that the entry at k is 45 k. With one entry off by one the lists differ, and the proof is refused.
 use borrow.Author.Needs.{needs}
 use Rattle.floats.specs.ByteAngles.{thirtySeconds}
 use Rattle.floats.proofs.Table.{at-place}
