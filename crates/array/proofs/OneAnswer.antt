@@ -5,14 +5,14 @@ use Prim.Native.Nat.{ℕ}
 use lib.Dec.{eqb}
 use Rattle.bits.specs.Choice.{if_then_else_}
 use Rattle.framing.specs.Counters.{Counters}
-use Rattle.framing.specs.Sinks as F
-use Rattle.framing.specs.Sinks.{Walker, object, verdictOf}
+use Rattle.framing.specs.Sinks.{Walker, object}
+use Rattle.framing.specs.Verdicts.{verdictOf}
 use Rattle.framing.specs.Refusing.{Room, Answer, refused, accepted}
 use Rattle.outputs.specs.Answers.{Call, Lent, final}
 use Rattle.outputs.proofs.Passes.{determined, refusal-keeps, pairs-determined, pairs-refusal-keeps}
 use Rattle.array.specs.Refusals.{countersOf, answerOf, pairsOf, sumsOf}
 use Rattle.array.specs.Merges.{Sums, summed, overflowing, merge}
-use Rattle.array.specs.Calls.{verdictIs, Judges, Judged, PairsJudged, Decodes, DecodesPairs}
+use Rattle.array.specs.Calls.{verdictIs, verdictNamed, Judges, Judged, PairsJudged, Decodes, DecodesPairs}
 use Rattle.array.specs.declared.ArrayDecodeStats.{ArrayDecodeStats}
 use Rattle.array.specs.declared.Extent.{Extent}
 use Rattle.array.specs.declared.Verdict.{Verdict}
@@ -41,22 +41,18 @@ statsWith c =
 extentWith : Room → Extent
 extentWith r = record { leaves = r .leaves; «path_bytes» = r .pathBytes; «payload_bytes» = r .payloadBytes }
 
-verdictWith : F.Verdict → Verdict
-verdictWith F.clean = verdict.Clean
-verdictWith F.partial = verdict.Partial
-
-verdict-back : (v : Verdict) → verdictWith (verdictIs v) ≡ v
-unfolding verdictWith
+pub verdict-back : (v : Verdict) → verdictNamed (verdictIs v) ≡ v
 verdict-back verdict.Clean = refl
 verdict-back verdict.Partial = refl
+verdict-back verdict.Empty = refl
 
--- the verdict that a walk's counters get
+-- the verdict that a window gets whose walk gave these counters
 judged : Walker → (bits : ℕ) → Counters → Verdict
-judged k bits c = verdictWith (verdictOf k bits c)
+judged k bits c = verdictNamed (verdictOf k bits c)
 
 judged-back : (k : Walker) (bits : ℕ) (c : Counters) (v : Verdict) → verdictIs v ≡ verdictOf k bits c → judged k bits c ≡ v
 unfolding judged
-judged-back k bits c v e = sym (ap verdictWith e) ∙ verdict-back v
+judged-back k bits c v e = sym (ap verdictNamed e) ∙ verdict-back v
 
 structWith : Walker → (bits : ℕ) → Answer Room → StructArray
 structWith k bits (accepted c n) = structs.Decoded (statsWith c) (judged k bits c) (extentWith n)
@@ -111,7 +107,7 @@ pub one-merged : (left right : Counters) (r s : Merged) → sumsOf r ≡ merge l
 one-merged left right r s f g = sym (merged-back r) ∙ ap mergedWith (f ∙ sym g) ∙ merged-back s
 
 pub one-verdict : (c : Counters) (r s : Verdict) → Judges c r → Judges c s → r ≡ s
-one-verdict c r s f g = sym (verdict-back r) ∙ ap verdictWith (f object 0 ∙ sym (g object 0)) ∙ verdict-back s
+one-verdict c r s f g = sym (verdict-back r) ∙ ap verdictNamed (f ∙ sym g) ∙ verdict-back s
 
 -- ---- refusals change no buffer
 

@@ -1,15 +1,18 @@
--- Counters: when they are clean, which verdict they get, and when two of them have sums.
-use mathlib.Core.Path.{_≡_, refl, sym, ap}
+-- Counters: when they are clean, which verdict they and their windows get, and when two of them have sums.
+use mathlib.Core.Path.{_≡_, refl, sym, ap, _∙_}
 use mathlib.Core.Bool.{Bool, true, false, _&&_}
 use Prim.Native.Nat.{ℕ, _+_, _-_, _<_}
 use native.Mathlib.Omega.{arith}
 use lib.Dec.{leb, ltb, eqb}
 use borrow.Author.Tests.{ltb-true, leb-true, leb-false, lt-ltb, le-ltb, ne-eqb}
 use Rattle.framing.specs.Counters.{Counters, sums, faults, isClean}
-use Rattle.framing.specs.Sinks.{verdictOf}
+use Rattle.framing.specs.declared.Walk.{Walk}
+use Rattle.framing.specs.Sinks.{walker, givesLeaves}
+use Rattle.framing.proofs.VerdictLaws.{set-clean, set-partial, silent-empty, none-partial, some-verdict}
 use Rattle.bits.proofs.ChoiceLaws.{and-true}
 use Rattle.array.specs.Merges.{summed, overflowing, counterLimit, bounded, merge}
-use Rattle.array.specs.Calls.{Judges}
+use Rattle.array.specs.Calls.{Judges, JudgesWindow}
+use Rattle.array.specs.declared.Verdict.{Verdict}
 use Rattle.array.specs.declared.Verdict.the-variants as verdict
 
 -- ---- clean
@@ -37,12 +40,21 @@ last-decides c t r n b = let e : c .implicits ≡ faults c = omega arith in ap (
 -- ---- verdicts
 
 pub judged-clean : (c : Counters) → isClean c ≡ true → Judges c verdict.Clean
-unfolding verdictOf
-judged-clean c h k bits = simp h
+judged-clean c h = sym (set-clean c h)
 
 pub judged-partial : (c : Counters) → isClean c ≡ false → Judges c verdict.Partial
-unfolding verdictOf
-judged-partial c h k bits = simp h
+judged-partial c h = sym (set-partial c h)
+
+-- of a window: nothing was sent to a walk that counts nothing then; nothing was sent to an object walk; something was sent
+module _ (s : Walk) (bits : ℕ) (c : Counters) where
+  pub judged-empty : givesLeaves s && eqb bits 0 ≡ true → JudgesWindow s bits c verdict.Empty
+  judged-empty e t root = sym (silent-empty (walker s t root) bits c e)
+
+  pub judged-nothing : givesLeaves s && eqb bits 0 ≡ false → bits ≡ 0 → JudgesWindow s bits c verdict.Partial
+  judged-nothing e z t root = sym (none-partial (walker s t root) bits c e z)
+
+  pub judged-some : (bits ≡ 0 → ⊥) → (v : Verdict) → Judges c v → JudgesWindow s bits c v
+  judged-some h v j t root = j ∙ sym (some-verdict (walker s t root) bits c (omega arith))
 
 -- ---- sums
 

@@ -1,12 +1,14 @@
--- The contracts of the three public walks: the answer and the buffers of `outputs`, and the verdict of an accepted answer; of a verdict
--- and of a merge.
+-- The contracts of the three public walks: the answer and the buffers of `outputs`, and the verdict of an accepted answer; of a verdict on
+-- counters alone and of a merge.
 use Prim.Native.Nat.{ℕ}
 use mathlib.Core.Path.{_≡_}
 use mathlib.Core.List.{List}
 use Rattle.schema.specs.Tables.{Tables}
 use Rattle.framing.specs.Counters.{Counters}
-use Rattle.framing.specs.Sinks as F
-use Rattle.framing.specs.Sinks.{Walker, struct, exact, object, verdictOf}
+use Rattle.framing.specs.declared.Walk.{Walk}
+use Rattle.framing.specs.Sinks.{Walker, walker, struct, exact, object}
+use Rattle.framing.specs.Verdicts as F
+use Rattle.framing.specs.Verdicts.{countersVerdict, verdictOf}
 use Rattle.outputs.specs.Answers.{Call, Lent, Answered, PairsAnswered}
 use Rattle.array.specs.Merges.{merge}
 use Rattle.array.specs.Refusals.{countersOf, answerOf, pairsOf, sumsOf}
@@ -37,12 +39,22 @@ lent l p y = record { leaves = l; paths = p; payloads = y }
 abbrev pub verdictIs : Verdict → F.Verdict
 verdictIs verdict.Clean = F.clean
 verdictIs verdict.Partial = F.partial
+verdictIs verdict.Empty = F.empty
 
--- a verdict on such counters, of whichever walk and however many bits
+abbrev pub verdictNamed : F.Verdict → Verdict
+verdictNamed F.clean = verdict.Clean
+verdictNamed F.partial = verdict.Partial
+verdictNamed F.empty = verdict.Empty
+
+-- a verdict on a set of counters, of one walk or of several: how many bits were walked isn't asked, so it is never empty
 abbrev pub Judges : Counters → Verdict → Type 0
-Judges c v = (k : Walker) (bits : ℕ) → verdictIs v ≡ verdictOf k bits c
+Judges c v = verdictIs v ≡ countersVerdict c
 
--- an accepted answer carries the verdict of its walk
+-- a verdict on a window of so many bits, walked in this way, with these counters; tables make no difference
+abbrev pub JudgesWindow : Walk → (bits : ℕ) → Counters → Verdict → Type 0
+JudgesWindow s bits c v = (t : Tables) (root : ℕ) → verdictIs v ≡ verdictOf (walker s t root) bits c
+
+-- an accepted answer carries the verdict on its window
 abbrev pub Judged : Walker → (bits : ℕ) → StructArray → Type 0
 Judged k bits (structs.Decoded s v e) = verdictIs v ≡ verdictOf k bits (countersOf s)
 Judged k bits structs.TooLong = Unit

@@ -8,7 +8,8 @@ use Rattle.bits.specs.Sizes.{longestWindow}
 use Rattle.schema.specs.Tables.{Tables}
 use Rattle.schema.specs.Labels.{LabelsLie}
 use Rattle.framing.specs.declared.Walk.{Walk}
-use Rattle.framing.specs.Sinks.{Walker, walker, givesLeaves, walk, verdictOf}
+use Rattle.framing.specs.Sinks.{Walker, walker, givesLeaves, walk}
+use Rattle.framing.specs.Verdicts.{verdictOf}
 use Rattle.framing.specs.Records.{leafWords, pairWords}
 use Rattle.framing.specs.Refusing.{within}
 use Rattle.outputs.specs.World.{World, fresh}

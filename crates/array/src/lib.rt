@@ -11,6 +11,7 @@ mod passes;
 pub mod said;
 pub mod stats;
 mod twice;
+mod verdicts;
 
 ghost use mathlib.Core.Path.{_≡_};
 ghost use lib.Dec.{ltb};
@@ -43,10 +44,15 @@ pub struct ArrayDecodeStats {
     pub implicit_terminations: u64,
 }
 
-// Clean: the five counters behind fields_emitted are 0.
+// The verdict on a window or, by `stats::verdict`, on a set of counters. Clean counters don't make a window clean: a struct or exact
+// walk of no bits is empty.
 pub enum Verdict {
+    // All of it was read, as one whole array: there is a bit or more, and the five counters behind fields_emitted are 0.
     Clean,
+    // Something is broken, cut off, over a limit or left unread.
     Partial,
+    // Nothing was sent: a struct or exact walk of no bits. A sheet has no row for it.
+    Empty,
 }
 
 // How much of each output a walk fills, or would.

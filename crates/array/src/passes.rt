@@ -38,7 +38,7 @@ use steps::tally::count;
 use steps::walks::gives_leaves;
 
 // 01, Walking an array, rule 9: a struct or exact walk of no bits counts nothing.
-fn is_silent(walk: Walk, bits: u64) -> bool
+pub fn is_silent(walk: Walk, bits: u64) -> bool
     ensures { λ r. ⌜ r ≡ (givesLeaves walk && eqb bits 0) ⌝ }
 {
     match walk {

@@ -10,7 +10,8 @@ use crate::ArrayDecodeStats;
 use crate::Merged;
 use crate::Verdict;
 
-// Whether nothing but elements and fields was counted.
+// Whether nothing but elements and fields was counted. It is so too for a struct or exact walk of no bits, whose verdict is
+// empty.
 pub fn is_clean(stats: ArrayDecodeStats) -> bool
     ensures { λ r. ⌜ r ≡ isClean (countersOf stats) ⌝ }
 {
@@ -29,7 +30,8 @@ pub fn is_clean(stats: ArrayDecodeStats) -> bool
     stats.implicit_terminations == 0
 }
 
-// The verdict on a walk that counted this.
+// The verdict on a set of counters, of one walk or of several added up: clean or partial. The rule on no bits is a window's: a set
+// doesn't tell how many bits were walked, and is never empty. The verdict on a window stands in its walk's answer.
 pub fn verdict(stats: ArrayDecodeStats) -> Verdict
     ensures { λ r. ⌜ Judges (countersOf stats) r ⌝ }
 {

@@ -10,7 +10,7 @@ use crate::passes::has_room;
 use crate::passes::measure;
 use crate::passes::pass;
 use crate::passes::stats_of;
-use crate::stats::verdict;
+use crate::verdicts::window_verdict;
 use bits::sizes::LONGEST_PATH;
 use framing::Walk;
 use schema::spans::level_spans;
@@ -77,6 +77,6 @@ pub fn two_passes<'a>(
         payloads,
     );
     let stats = stats_of(&tally);
-    let judged = verdict(stats);
+    let judged = window_verdict(walk, bits, stats);
     StructArray::Decoded(stats, judged, extent)
 }

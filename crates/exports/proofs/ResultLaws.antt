@@ -11,7 +11,8 @@ use Rattle.bitio.specs.declared.said.Saying as B
 use Rattle.schema.specs.Refusals.{sayingOf as fillSaying}
 use Rattle.schema.specs.declared.said.Saying as S
 use Rattle.framing.specs.Counters.{Counters}
-use Rattle.framing.specs.Sinks.{Walker, verdictOf}
+use Rattle.framing.specs.Sinks.{Walker}
+use Rattle.framing.specs.Verdicts.{countersVerdict}
 use Rattle.framing.specs.Refusing.{Room, Answer, refused, accepted}
 use Rattle.outputs.specs.Answers.{Call, Lent}
 use Rattle.array.specs.Refusals.{countersOf, answerOf, pairsOf, sumsOf, refusedRoom, refusedPairs, refusedSum}
@@ -33,7 +34,7 @@ use Rattle.fastarray.specs.declared.ChecksumMode.{ChecksumMode}
 use Rattle.fastarray.specs.declared.FastArray.{FastArray}
 use Rattle.fastarray.specs.Refusals.{sayingOf as bodySaying}
 use Rattle.fastarray.specs.declared.said.Saying as P
-use Rattle.exports.specs.WalkResults.{countersIn, countersOut, noCounters, verdictNumber, walkResult, notWalked, walkOf, Walks, objectsResult, noPairs, objectsOf, WalksPairs, JudgesByNumber, mergeResult, notFilled, refusedBody, noBody, bodyResult, DecodesBody}
+use Rattle.exports.specs.WalkResults.{countersIn, countersOut, noCounters, verdictNumber, walkResult, notWalked, walkOf, Walks, objectsResult, noPairs, objectsOf, WalksPairs, mergeResult, notFilled, refusedBody, noBody, bodyResult, DecodesBody}
 use Rattle.exports.specs.ReadResults.{cursorOf, as64, refusedAt, refusedRead}
 use Rattle.exports.specs.declared.VrfCounters.{VrfCounters}
 use Rattle.exports.specs.declared.VrfWalk.{VrfWalk}
@@ -160,8 +161,8 @@ merge-as left right m {a} {b} e f g h =
     h ∙ ap mergeResult (g ∙ ap (λ (x : Counters). merge x (countersOf b)) e ∙ ap (merge (countersIn left)) f)
 
 pub judges-as : (c : VrfCounters) (v : Verdict) {s : ArrayDecodeStats} {n : ℕ} → countersOf s ≡ countersIn c → A.Judges (countersOf s) v
-    → n ≡ verdictNumber (verdictIs v) → JudgesByNumber (countersIn c) n
-judges-as c v e j h k bits = h ∙ ap verdictNumber (j k bits) ∙ ap (λ (x : Counters). verdictNumber (verdictOf k bits x)) e
+    → n ≡ verdictNumber (verdictIs v) → n ≡ verdictNumber (countersVerdict (countersIn c))
+judges-as c v e j h = h ∙ ap verdictNumber (j ∙ ap countersVerdict e)
 
 -- ---- the fast array
 

@@ -13,7 +13,8 @@ use Rattle.schema.specs.Refusals.{filledNumbered}
 use Rattle.schema.specs.declared.Filled.{Filled}
 use Rattle.schema.specs.declared.Filled.the-variants as Fill
 use Rattle.framing.specs.Counters.{Counters, counted}
-use Rattle.framing.specs.Sinks.{Walker, object, Verdict, clean, partial, verdictOf}
+use Rattle.framing.specs.Sinks.{Walker, object}
+use Rattle.framing.specs.Verdicts.{Verdict, clean, partial, empty, verdictOf}
 use Rattle.framing.specs.Refusing.{Room, Answer, refused, accepted}
 use Rattle.outputs.specs.Answers.{Call, Lent, answer, final, pairAnswer, finalPairs}
 use Rattle.array.specs.Calls.{verdictIs}
@@ -59,10 +60,7 @@ noCounters = countersOut (counted 0 0 0 0 0 0 0)
 abbrev pub verdictNumber : Verdict → ℕ
 verdictNumber clean = 0
 verdictNumber partial = 1
-
--- the number of the verdict on such counters, of whichever walk and however many bits
-abbrev pub JudgesByNumber : Counters → (number : ℕ) → Type 0
-JudgesByNumber c n = (k : Walker) (bits : ℕ) → n ≡ verdictNumber (verdictOf k bits c)
+verdictNumber empty = 2
 
 -- ---- struct and exact walks
 

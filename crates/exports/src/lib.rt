@@ -14,6 +14,7 @@ ghost use Rattle.bitio.specs.Numbers.{readIntPacked, readSerializedInt};
 ghost use Rattle.bitio.specs.Copies.{copyAnswer, copyTarget};
 ghost use Rattle.schema.specs.Tables.{tables};
 ghost use Rattle.schema.specs.TwelveLevels.{fillAnswer, filledRows, filledNames};
+ghost use Rattle.framing.specs.Verdicts.{countersVerdict};
 ghost use Rattle.array.specs.Calls.{structCall, exactCall, lent};
 ghost use Rattle.array.specs.Merges.{merge};
 ghost use Rattle.fastarray.specs.Answers as F;
@@ -21,7 +22,7 @@ ghost use Rattle.geometry.specs.Vectors.{readVector, readNormal};
 ghost use Rattle.geometry.specs.Rotations.{readRotation};
 ghost use Rattle.geometry.specs.Movements.{readMovement};
 ghost use Rattle.geometry.specs.ByteAngles.{byteAngleSteps};
-ghost use Rattle.exports.specs.WalkResults.{Walks, WalksPairs, countersIn, mergeResult, JudgesByNumber, schemaResult, modeOf, DecodesBody};
+ghost use Rattle.exports.specs.WalkResults.{Walks, WalksPairs, countersIn, mergeResult, verdictNumber, schemaResult, modeOf, DecodesBody};
 ghost use Rattle.exports.specs.ReadResults.{cursorOf, bitsResult, packedResult, serializedResult, copyResult};
 ghost use Rattle.exports.specs.MoveResults.{vectorResult, rotationResult, movementResult, rotationKind, locationKind};
 
@@ -39,7 +40,8 @@ pub struct VrfCounters {
     pub implicit_terminations: u64,
 }
 
-// A struct or exact walk: what it fills of each output, or with refusal 3 what it needs. The verdict is 0 clean, 1 partial.
+// A struct or exact walk: what it fills of each output, or with refusal 3 what it needs. The verdict is 0 clean, 1 partial, 2
+// empty: nothing was sent.
 #[repr(C)]
 pub struct VrfWalk {
     pub refusal: u32,
@@ -50,7 +52,7 @@ pub struct VrfWalk {
     pub verdict: u32,
 }
 
-// An object walk: the same, of pairs.
+// An object walk: the same, of pairs. Its verdict is never empty: of no bits it is partial.
 #[repr(C)]
 pub struct VrfObjects {
     pub refusal: u32,
@@ -256,9 +258,11 @@ pub extern "C" fn vrf_merge(left: VrfCounters, right: VrfCounters) -> VrfMerge
     walks::merge_of(answer)
 }
 
+// Of a set of counters, of one walk or of several added up: 0 clean, 1 partial. The rule on no bits is a window's, whose verdict
+// stands in its walk's struct.
 #[no_mangle]
 pub extern "C" fn vrf_verdict(counters: VrfCounters) -> u32
-    ensures { λ r. ⌜ JudgesByNumber (countersIn counters) r ⌝ }
+    ensures { λ r. ⌜ r ≡ verdictNumber (countersVerdict (countersIn counters)) ⌝ }
 {
     let stats = walks::stats_of(counters);
     let answer = array::stats::verdict(stats);

@@ -67,12 +67,16 @@ fn no_counters() -> VrfCounters
     }
 }
 
+// What stands in a verdict's place where a walk is refused. It is clean's number too: a caller looks at the refusal first.
+const NO_VERDICT: u32 = 0;
+
 pub fn verdict_number(v: Verdict) -> u32
     ensures { λ r. ⌜ r ≡ verdictNumber (verdictIs v) ⌝ }
 {
     match v {
         Verdict::Clean => 0,
         Verdict::Partial => 1,
+        Verdict::Empty => 2,
     }
 }
 
@@ -90,7 +94,7 @@ fn not_walked(a: StructArray) -> VrfWalk
         path_bytes: told.path_bytes,
         payload_bytes: told.payload_bytes,
         counters,
-        verdict: 0,
+        verdict: NO_VERDICT,
     }
 }
 
@@ -127,7 +131,7 @@ fn no_pairs(a: ObjectArray) -> VrfObjects
         refusal: told.number,
         pairs: told.pairs,
         counters,
-        verdict: 0,
+        verdict: NO_VERDICT,
     }
 }
 

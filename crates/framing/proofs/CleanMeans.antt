@@ -1,15 +1,17 @@
--- What clean means. A window of at least one bit is walked clean exactly if it is the bits of an array of the grammar; and then the walk's leaves,
--- pairs and elements are that array's. Of each kind of walk it was shown for a level (GrammarStruct, GrammarObject, GrammarGiven); a window is the
--- bits of an array if they stand in it from its first bit to its last.
+-- What clean means. A window's verdict is clean exactly if it is the bits of an array of the grammar; and then the walk's leaves, pairs and
+-- elements are that array's. Of each kind of walk it was shown for a level (GrammarStruct, GrammarObject, GrammarGiven); a window is the bits of
+-- an array if they stand in it from its first bit to its last. Its size is not asked for: an array has bits, and the verdict on none isn't clean.
 use Prim.Native.Nat.{ℕ, _*_, _^_, _≤_, _<_}
 use mathlib.Core.Path.{_≡_, refl, sym, ap, _∙_, subst}
 use mathlib.Core.Bool.{Bool, true, false}
 use mathlib.Core.List.{List, []}
 use native.Mathlib.Omega.{arith}
+use lib.Dec.{ltb}
 use lib.ListN.{length}
-use borrow.Author.Tests.{eqb-true, eq-eqb, ne-eqb}
+use borrow.Author.Tests.{eqb-true, eq-eqb, ltb-false}
 use Rattle.bits.specs.Bits.{num}
 use Rattle.bits.proofs.FieldLaws.{field-lt}
+use Rattle.bits.proofs.ChoiceLaws.{by-cases}
 use Rattle.bits.proofs.Never.{never}
 use Rattle.bits.specs.Sizes.{levelsBelow}
 use Rattle.schema.specs.Tables.{Tables}
@@ -19,10 +21,14 @@ use Rattle.framing.specs.Counters.{counters, faults, isClean}
 use Rattle.framing.specs.Walk.{level}
 use Rattle.framing.specs.declared.Walk.the-variants as how
 use Rattle.framing.specs.Sinks.{Walker, walker, object, Leafy, sinkOf, walkWindow, walk}
-use Rattle.framing.specs.Grammar.{arrayBits}
+use Rattle.framing.specs.Verdicts.{Verdict, clean, verdictOf}
+use Rattle.framing.specs.Grammar.{Bits, IsNum, Array, arrayBits}
 use Rattle.framing.specs.GrammarRules.{contentBits, referenceBits}
 use Rattle.framing.specs.InGrammar.{StructWindow, InGrammar, treeLeaves, treePairs, treeElements}
-use Rattle.framing.proofs.Demand3.{walk-inside}
+use Rattle.framing.proofs.VerdictLaws.{loud, says-clean, some-clean}
+use Rattle.framing.proofs.WalkVerdicts.{past-walk}
+use Rattle.framing.proofs.Cut.{at-error}
+use Rattle.framing.proofs.Demand3.{broken-unclean, walk-inside}
 use Rattle.framing.proofs.GrammarBits.{Span}
 use Rattle.framing.proofs.GrammarFound.{Fine}
 use Rattle.framing.proofs.GrammarStruct.{Tells, InStruct, span-whole, whole-span, found-struct, walked-struct}
@@ -39,14 +45,25 @@ clean-fine t h = eqb-true (faults (counters t)) 0 h
 root-tells : Tells root
 root-tells n h = omega arith
 
-module _ (w : Window) (some : 1 ≤ w .size) (whole : w .bits < 2 ^ w .size) where
-  -- a window with bits is walked
-  loud : (k : Walker) → walkWindow k w ≡ level (sinkOf k) w []
-  unfolding walkWindow
-  loud (walker how.Struct t lvl) = rw (ne-eqb (w .size) 0 (λ z. omega arith)) refl
-  loud (walker how.Exact t lvl) = rw (ne-eqb (w .size) 0 (λ z. omega arith)) refl
-  loud (walker how.Object t lvl) = refl
+-- an array has bits: those of its count
+array-some : {P : Type 0} (bitsOf : P → Bits) (a : Array P) → IsNum (a .count) → 1 ≤ (arrayBits bitsOf a) .size
+array-some bitsOf a h = let n = h .some in omega arith
 
+-- an array's window has bits
+pub grammar-some : (k : Walker) (w : Window) → InGrammar k w → 1 ≤ w .size
+grammar-some (walker how.Struct t lvl) w g = subst (λ (b : Bits). 1 ≤ b .size) (g .bits) (array-some (contentBits levelsBelow) (g .tree) (g .allowed .count))
+grammar-some (walker how.Exact t lvl) w g = subst (λ (b : Bits). 1 ≤ b .size) (g .bits) (array-some (contentBits levelsBelow) (g .tree) (g .allowed .count))
+grammar-some (walker how.Object t lvl) w g = subst (λ (b : Bits). 1 ≤ b .size) (g .bits) (array-some referenceBits (g .tree) (g .allowed .count))
+
+-- a window with bits is walked
+walked : (k : Walker) (w : Window) → 1 ≤ w .size → walkWindow k w ≡ level (sinkOf k) w []
+unfolding walkWindow
+walked k w some = rw (loud k (w .size) some) refl
+
+in-walked : (k : Walker) (w : Window) → InGrammar k w → walkWindow k w ≡ level (sinkOf k) w []
+in-walked k w g = walked k w (grammar-some k w g)
+
+module _ (w : Window) (whole : w .bits < 2 ^ w .size) where
   as-tree : (t : Tables) (takes : Bool) (lvl : ℕ) → InStruct levelsBelow (t .rows) takes lvl w → StructWindow t takes lvl w
   as-tree t takes lvl f = record { tree = f .it; allowed = f .ok; bits = span-whole w (arrayBits (contentBits levelsBelow) (f .it)) whole (f .span) }
 
@@ -67,13 +84,17 @@ module _ (w : Window) (some : 1 ≤ w .size) (whole : w .bits < 2 ^ w .size) whe
   in-fine (walker how.Exact t lvl) g = walked-struct levelsBelow t false root lvl refl (g .tree) (g .allowed) w (stands t false lvl g) []
   in-fine (walker how.Object t lvl) g = walked-object (g .tree) (g .allowed) w (whole-span w (arrayBits referenceBits (g .tree)) whole (g .bits)) []
 
-  -- A window that is walked clean is the bits of an array of the grammar.
-  pub clean-in-grammar : (k : Walker) → isClean (counters (walkWindow k w)) ≡ true → InGrammar k w
-  clean-in-grammar k h = fine-in k (subst Fine (loud k) (clean-fine (walkWindow k w) h))
+  -- A window whose verdict is clean is the bits of an array of the grammar.
+  pub clean-in-grammar : (k : Walker) → verdictOf k (w .size) (counters (walkWindow k w)) ≡ clean → InGrammar k w
+  clean-in-grammar k h =
+      let s = says-clean k (w .size) (counters (walkWindow k w)) h in
+      fine-in k (subst Fine (walked k w (s .some)) (clean-fine (walkWindow k w) (s .no-faults)))
 
-  -- A window that is the bits of an array of the grammar is walked clean.
-  pub grammar-clean : (k : Walker) → InGrammar k w → isClean (counters (walkWindow k w)) ≡ true
-  grammar-clean k g = fine-clean (walkWindow k w) (subst Fine (sym (loud k)) (in-fine k g))
+  -- The verdict on a window that is the bits of an array of the grammar is clean.
+  pub grammar-clean : (k : Walker) → InGrammar k w → verdictOf k (w .size) (counters (walkWindow k w)) ≡ clean
+  grammar-clean k g =
+      some-clean k (w .size) (counters (walkWindow k w))
+      (record { some = grammar-some k w g; no-faults = fine-clean (walkWindow k w) (subst Fine (sym (in-walked k w g)) (in-fine k g)) })
 
   -- Then its leaves are the array's, unless a path is too long, which is refusal 5.
   tree-leaves : (k : Walker) (g : InGrammar k w) → overs (level (sinkOf k) w []) ≡ 0 → Leafy k → leaves (level (sinkOf k) w []) ≡ treeLeaves k w g
@@ -84,7 +105,9 @@ module _ (w : Window) (some : 1 ≤ w .size) (whole : w .bits < 2 ^ w .size) whe
   tree-leaves (walker how.Object t lvl) g h leafy = never cc
 
   pub grammar-leaves : (k : Walker) (g : InGrammar k w) → overs (walkWindow k w) ≡ 0 → Leafy k → leaves (walkWindow k w) ≡ treeLeaves k w g
-  grammar-leaves k g h leafy = ap leaves (loud k) ∙ tree-leaves k g (ap overs (sym (loud k)) ∙ h) leafy
+  grammar-leaves k g h leafy =
+      let e = in-walked k w g in
+      ap leaves e ∙ tree-leaves k g (ap overs (sym e) ∙ h) leafy
 
   -- Two arrays with the window's bits have the same leaves.
   pub one-meaning : (k : Walker) (g h : InGrammar k w) → overs (walkWindow k w) ≡ 0 → Leafy k → treeLeaves k w g ≡ treeLeaves k w h
@@ -93,7 +116,7 @@ module _ (w : Window) (some : 1 ≤ w .size) (whole : w .bits < 2 ^ w .size) whe
   -- An object walk's pairs are the array's.
   pub grammar-pairs : (g : InGrammar object w) → pairs (walkWindow object w) ≡ treePairs object w g
   unfolding sinkOf
-  grammar-pairs g = ap pairs (loud object) ∙ object-pairs (g .tree) (g .allowed) w (whole-span w (arrayBits referenceBits (g .tree)) whole (g .bits)) []
+  grammar-pairs g = ap pairs (in-walked object w g) ∙ object-pairs (g .tree) (g .allowed) w (whole-span w (arrayBits referenceBits (g .tree)) whole (g .bits)) []
 
   pub one-list : (g h : InGrammar object w) → treePairs object w g ≡ treePairs object w h
   one-list g h = sym (grammar-pairs g) ∙ grammar-pairs h
@@ -107,14 +130,29 @@ module _ (w : Window) (some : 1 ≤ w .size) (whole : w .bits < 2 ^ w .size) whe
   tree-elements (walker how.Object t lvl) g = object-elements (g .tree) (g .allowed) w (whole-span w (arrayBits referenceBits (g .tree)) whole (g .bits)) []
 
   pub grammar-elements : (k : Walker) (g : InGrammar k w) → (counters (walkWindow k w)) .elements ≡ treeElements k w g
-  grammar-elements k g = ap (λ (t : Trace). (counters t) .elements) (loud k) ∙ tree-elements k g
+  grammar-elements k g = ap (λ (t : Trace). (counters t) .elements) (in-walked k w g) ∙ tree-elements k g
 
--- The same of the first n bits of some bytes, as a call walks them.
-module _ (k : Walker) (bytes : List ℕ) (n : ℕ) (some : 1 ≤ n) (inside : n ≤ 8 * length bytes) where
-  pub clean-call : isClean (counters (walk k bytes n)) ≡ true → InGrammar k (windowOf bytes n)
+-- The same of the first n bits of some bytes, as a call walks them. Where the bytes hold fewer, that is one error, and not clean.
+module _ (k : Walker) (bytes : List ℕ) (n : ℕ) where
+  abbrev called : Verdict
+  called = verdictOf k n (counters (walk k bytes n))
+
+  -- what is walked clean lies in its bytes
+  pub clean-inside : called ≡ clean → n ≤ 8 * length bytes
+  clean-inside h =
+      let s = says-clean k n (counters (walk k bytes n)) h in
+      by-cases (ltb (8 * length bytes) n)
+      (λ e. absurd (broken-unclean at-error (subst Uncounted (past-walk k bytes n (loud k n (s .some)) e) (s .no-faults))))
+      (λ e. ltb-false (8 * length bytes) n e)
+    where
+      Uncounted : Trace → Type 0
+      Uncounted t = isClean (counters t) ≡ true
+
+  pub clean-call : called ≡ clean → InGrammar k (windowOf bytes n)
   clean-call h =
-      clean-in-grammar (windowOf bytes n) some (field-lt (num bytes) 0 n) k (subst (λ (t : Trace). isClean (counters t) ≡ true) (walk-inside k bytes n inside) h)
+      clean-in-grammar (windowOf bytes n) (field-lt (num bytes) 0 n) k
+      (subst (λ (t : Trace). verdictOf k n (counters t) ≡ clean) (walk-inside k bytes n (clean-inside h)) h)
 
-  pub grammar-call : InGrammar k (windowOf bytes n) → isClean (counters (walk k bytes n)) ≡ true
-  grammar-call g =
-      subst (λ (t : Trace). isClean (counters t) ≡ true) (sym (walk-inside k bytes n inside)) (grammar-clean (windowOf bytes n) some (field-lt (num bytes) 0 n) k g)
+  pub grammar-call : n ≤ 8 * length bytes → InGrammar k (windowOf bytes n) → called ≡ clean
+  grammar-call inside g =
+      subst (λ (t : Trace). verdictOf k n (counters t) ≡ clean) (sym (walk-inside k bytes n inside)) (grammar-clean (windowOf bytes n) (field-lt (num bytes) 0 n) k g)

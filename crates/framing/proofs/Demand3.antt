@@ -1,5 +1,6 @@
 -- Demand 3, of the definitions. The two traces agree until the shorter breaks off or both are behind their index terminator (Cut): a trace that
--- broke off has a fault, and behind both terminators a clean end means that nothing but a zero trailer is missing.
+-- broke off has a fault, and behind both terminators a clean end means that nothing but a zero trailer is missing. A struct or exact walk of no
+-- bits gives nothing, and its verdict is empty, not clean.
 use mathlib.Core.Path.{_≡_, refl, sym, ap, _∙_}
 use mathlib.Core.Bool.{Bool, true, false, _&&_}
 use mathlib.Core.List.{List, [], _∷_}
@@ -9,6 +10,7 @@ use lib.Dec.{eqb}
 use lib.ListN.{length}
 use borrow.Author.Tests.{le-ltb, eqb-true, eqb-false, eq-eqb, ne-eqb}
 use Rattle.bits.proofs.ChoiceLaws.{and-true}
+use Rattle.bits.proofs.Never.{never}
 use Rattle.bits.specs.Bits.{num, field}
 use Rattle.bits.specs.Packed.{packed}
 use Rattle.bits.proofs.FieldLaws.{field-low, field-same}
@@ -18,11 +20,13 @@ use Rattle.bits.specs.declared.Packed.the-variants.{Whole, Cut, GoesOn, Overflo
 use Rattle.bits.specs.Sizes.{trailerBits}
 use Rattle.framing.specs.Windows.{Window, windowOf, opening, Reading, got, failed, readingOf, reading}
 use Rattle.framing.specs.Events.{Leaf, rawHandle, Event, number, element, leaf, pair, truncation, error, implicit, nested, root, over, leaves, pairs, Trace}
-use Rattle.framing.specs.Counters.{counters, faults, isClean}
+use Rattle.framing.specs.Counters.{Counters, counters, faults, isClean}
 use Rattle.framing.specs.Walk.{Sink, trailerOf, closing}
 use Rattle.framing.specs.declared.Walk.the-variants as how
 use Rattle.framing.specs.Sinks.{structSink, objectSink, Walker, walker, sinkOf, silent, walkWindow, walk}
-use Rattle.framing.specs.Demand.{dropTail, Opens, nothing-sent, lacks-trailer, CutOf}
+use Rattle.framing.specs.Verdicts.{Verdict, clean, empty, verdictOf}
+use Rattle.framing.specs.Demand.{dropTail, Opens, LacksTrailer, CutOf}
+use Rattle.framing.proofs.VerdictLaws.{silent-empty, says-clean}
 use Rattle.framing.proofs.Shorter.{Reads, agree, short, reads}
 use Rattle.framing.proofs.Cut as Cuts
 use Rattle.framing.proofs.Cut.{Tail, skipped, kept, too-long, Broken, read, at-implicit, at-error, at-truncation, breaks, ending, same, level-cut}
@@ -65,7 +69,7 @@ broken-pairs (at-truncation skipped) = refl
 broken-pairs (at-truncation (kept e)) = refl
 broken-pairs (at-truncation too-long) = refl
 
--- ---- the verdict
+-- ---- faults
 
 pub clean-rest : (e : Event) (t : Trace) → isClean (counters (e ∷ t)) ≡ true → isClean (counters t) ≡ true
 clean-rest e t h = eq-eqb (faults (counters t)) 0 (let f = eqb-true (faults (counters (e ∷ t))) 0 h in omega arith)
@@ -81,14 +85,10 @@ root-clean n c = let f = eqb-true (faults (counters (root n ∷ []))) 0 c in ome
 
 -- ---- behind both terminators
 
--- behind bit m there is a trailer and nothing else
-abbrev LacksTrailer : Sink → Window → (m : ℕ) → Type 0
-LacksTrailer s w m = (s .trailer ≡ true) × (m + trailerBits ≡ w .size) × (field (w .bits) m trailerBits ≡ 0)
-
 record Ends (s : Sink) (w : Window) (m : ℕ) (a b : Trace) : Type 0 where
   no-leaves : leaves a ≡ []
   no-pairs : pairs a ≡ []
-  verdict : isClean (counters b) ≡ true → m < w .size → isClean (counters a) ≡ true
+  faultless : isClean (counters b) ≡ true → m < w .size → isClean (counters a) ≡ true
       → LacksTrailer s w m
 
 -- with the trailer's bits left, a number that is zero is a zero byte
@@ -135,7 +135,7 @@ module _ (s : Sink) (w : Window) (m : ℕ) (mn : m ≤ w .size) (tells : (n : �
           let ts = and-true (s .trailer) (eqb (w .size - q) trailerBits) t in
           let d = eqb-true (w .size - q) trailerBits (ts .1) in
           let fit : q + trailerBits ≡ w .size = omega arith in
-          (ts .0, fit, trailer-zero q fit (reading w q) refl (rw t at c))
+          record { takes-one = ts .0; lacks-one = fit; zero = trailer-zero q fit (reading w q) refl (rw t at c) }
       go false t =
           let f = root-clean (w .size - q) (rw (left-over w q t) at c) in
           absurd (omega arith)
@@ -155,10 +155,10 @@ module _ (s : Sink) (w : Window) (m : ℕ) (mn : m ≤ w .size) (tells : (n : �
       go : (x : Bool) → eqb v 0 ≡ x → Cuts.Cut (Ends s w m) (trailerOf s (opening m w) q (got v b)) (closing s w q)
       go true e =
           rw (e, tells 0)
-          (ending (record { no-leaves = refl; no-pairs = refl; verdict = λ c lt c′. absurd (past-q q d lt c) }))
+          (ending (record { no-leaves = refl; no-pairs = refl; faultless = λ c lt c′. absurd (past-q q d lt c) }))
       go false e =
           rw (e, tells trailerBits)
-          (ending {a = root trailerBits ∷ []} {b = closing s w q} (record { no-leaves = refl; no-pairs = refl; verdict = λ c lt c′. let f = root-clean trailerBits c′ in absurd (omega arith) }))
+          (ending {a = root trailerBits ∷ []} {b = closing s w q} (record { no-leaves = refl; no-pairs = refl; faultless = λ c lt c′. let f = root-clean trailerBits c′ in absurd (omega arith) }))
 
   closing-cut : (q : ℕ) → q ≤ m → Cuts.Cut (Ends s w m) (closing s (opening m w) q) (closing s w q)
   closing-cut q h = go (s .trailer && eqb (m - q) trailerBits) refl
@@ -169,7 +169,7 @@ module _ (s : Sink) (w : Window) (m : ℕ) (mn : m ≤ w .size) (tells : (n : �
           (took q (eqb-true (m - q) trailerBits (and-true (s .trailer) (eqb (m - q) trailerBits) t .1)) (reads w m mn q))
       go false t =
           rw (left-over (opening m w) q t)
-          (ending {a = root (m - q) ∷ []} {b = closing s w q} (record { no-leaves = refl; no-pairs = refl; verdict = λ c lt c′. let e : q ≡ m = (let f = root-clean (m - q) c′ in omega arith) in rw e at (at-q q e lt c) }))
+          (ending {a = root (m - q) ∷ []} {b = closing s w q} (record { no-leaves = refl; no-pairs = refl; faultless = λ c lt c′. let e : q ≡ m = (let f = root-clean (m - q) c′ in omega arith) in rw e at (at-q q e lt c) }))
 
 -- ---- the projections of two traces that agree until the shorter breaks off or both end
 
@@ -203,11 +203,11 @@ module _ (s : Sink) (w : Window) (m : ℕ) where
   cut-pairs (same {e = root n} c) = cut-pairs c
   cut-pairs (same {e = over} c) = cut-pairs c
 
-  cut-verdict : {a b : Trace} → Cuts.Cut (Ends s w m) a b → isClean (counters b) ≡ true → m < w .size → isClean (counters a) ≡ true
+  cut-faultless : {a b : Trace} → Cuts.Cut (Ends s w m) a b → isClean (counters b) ≡ true → m < w .size → isClean (counters a) ≡ true
       → LacksTrailer s w m
-  cut-verdict (breaks h) l lt c = absurd (broken-unclean h c)
-  cut-verdict (ending e) l lt c = e .verdict l lt c
-  cut-verdict (same {e = e} {a = a} {b = b} k) l lt c = cut-verdict k (clean-rest e b l) lt (clean-rest e a c)
+  cut-faultless (breaks h) l lt c = absurd (broken-unclean h c)
+  cut-faultless (ending e) l lt c = e .faultless l lt c
+  cut-faultless (same {e = e} {a = a} {b = b} k) l lt c = cut-faultless k (clean-rest e b l) lt (clean-rest e a c)
 
 -- ---- the walks
 
@@ -222,6 +222,10 @@ loud-mono (walker how.Struct t l) m n h e = let f = eqb-false m 0 e in ne-eqb n 
 loud-mono (walker how.Exact t lvl) m n h e = let f = eqb-false m 0 e in ne-eqb n 0 (λ z. f (omega arith))
 loud-mono (walker how.Object t lvl) m n h e = refl
 
+-- a silent walk is empty, not clean
+never-clean : (k : Walker) (m : ℕ) (c : Counters) → silent k m ≡ true → verdictOf k m c ≡ clean → ⊥
+never-clean k m c e h = let z : _≡_ {A = Verdict} empty clean = sym (silent-empty k m c e) ∙ h in never cc
+
 -- Demand 3 of a window and its first m bits.
 pub demand3-window : (k : Walker) (w : Window) (m : ℕ) → m ≤ w .size → CutOf k w m (walkWindow k (opening m w)) (walkWindow k w)
 unfolding walkWindow dropTail
@@ -230,7 +234,11 @@ demand3-window k w m mn = go (silent k m) refl
     go : (x : Bool) → silent k m ≡ x → CutOf k w m (walkWindow k (opening m w)) (walkWindow k w)
     go true e =
         rw e
-        (record { same-leaves = opens-nil (leaves (walkWindow k w)); same-pairs = opens-nil (pairs (walkWindow k w)); not-clean = λ l lt c. nothing-sent e })
+        (record {
+          same-leaves = opens-nil (leaves (walkWindow k w));
+          same-pairs = opens-nil (pairs (walkWindow k w));
+          not-clean = λ l lt c. absurd (never-clean k m _ e c);
+        })
     go false e =
         let s = sinkOf k in
         let c = level-cut s w m mn (Ends s w m) (closing-cut s w m mn (root-told k)) [] in
@@ -238,7 +246,8 @@ demand3-window k w m mn = go (silent k m) refl
         (record {
           same-leaves = cut-leaves s w m c;
           same-pairs = cut-pairs s w m c;
-          not-clean = λ l lt d. let v = cut-verdict s w m c l lt d in lacks-trailer (v .0) (v .1) (v .2);
+          not-clean = λ l lt d.
+              cut-faultless s w m c (says-clean k _ _ l .no-faults) lt (says-clean k _ _ d .no-faults);
         })
 
 -- a window inside its bytes
@@ -257,8 +266,8 @@ opening-of longer shorter n m mn e =
     λ i. record { bits = bits i; size = m; origin = 0 }
 
 -- Demand 3 of two slices whose first m bits are the same, walked the same way: without a last kept tail the shorter's leaves open the longer's
--- list unchanged, and so do pairs; and if the longer is clean and the shorter strictly shorter, the shorter is not clean, but for the empty window
--- of a struct or exact walk and the window that lacks exactly the zero trailer.
+-- list unchanged, and so do pairs; and if the longer is clean and the shorter strictly shorter, the shorter is not clean, but for the window that
+-- lacks exactly the zero trailer.
 pub demand3 : (k : Walker) (longer shorter : List ℕ) (n m : ℕ) → m ≤ n → n ≤ 8 * length longer → m ≤ 8 * length shorter
     → field (num shorter) 0 m ≡ field (num longer) 0 m → CutOf k (windowOf longer n) m (walk k shorter m) (walk k longer n)
 demand3 k longer shorter n m mn fits-longer fits-shorter e =

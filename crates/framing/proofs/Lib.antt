@@ -1,5 +1,7 @@
 pub mod Shorter
 pub mod Cut
+pub mod VerdictLaws
+pub mod WalkVerdicts
 pub mod Demand3
 pub mod CasesProved
 pub mod TraceLaws

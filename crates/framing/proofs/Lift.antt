@@ -20,6 +20,7 @@ use Rattle.framing.specs.Paths.{grownPath, overIfLong, leafOrOver}
 use Rattle.framing.specs.Walk.{numberAt, rawLeaf, tail, inItem, entering, level}
 use Rattle.framing.specs.declared.Walk.the-variants as how
 use Rattle.framing.specs.Sinks.{leafOf, onChild, structSinkOver, structSink, tooDeep, guidOf, objectField, objectSink, Walker, walker, sinkOf, silent, walkWindow, walk}
+use Rattle.framing.proofs.VerdictLaws.{silent-none}
 use Rattle.framing.proofs.Induct.{Inside, inside, nothing, reading-inside, Read, Here, at-level, at-item, level-holds}
 
 -- ---- what a property may lean on
@@ -223,18 +224,13 @@ module _ (P : Property) (𝓟 : Pieces P) where
   sink-holds (walker how.Exact t lvl) K 𝓚 w fit = struct-holds t K P 𝓟 𝓚 _ lvl _ root (𝓟 .left) w [] fit (K .first)
   sink-holds (walker how.Object t lvl) K 𝓚 w fit = object-holds P 𝓟 𝓚 w []
 
-  silent-none : (k : Walker) (n : ℕ) → silent k n ≡ true → n ≡ 0
-  silent-none (walker how.Struct t lvl) n e = eqb-true n 0 e
-  silent-none (walker how.Exact t lvl) n e = eqb-true n 0 e
-  silent-none (walker how.Object t lvl) n e = let z : _≡_ {A = ℕ} 0 1 = cc in omega arith
-
   module _ (k : Walker) (K : Known (tablesOf k)) (𝓚 : KindPieces k K P) where
     pub window-holds : (w : Window) → K .Fit w → P .Stop w 0 (walkWindow k w)
     unfolding walkWindow
     window-holds w fit = go (silent k (w .size)) refl
       where
         go : (x : Bool) → silent k (w .size) ≡ x → P .Stop w 0 (walkWindow k w)
-        go true e = rw e (𝓟 .silent w (silent-none k (w .size) e))
+        go true e = rw e (𝓟 .silent w (silent-none k (w .size) e .1))
         go false e = rw e (sink-holds k K 𝓚 w fit)
 
     pub walk-holds : (bytes : List ℕ) (n : ℕ) → K .Fit (windowOf bytes n) → P .Stop (windowOf bytes n) 0 (walk k bytes n)
@@ -242,6 +238,6 @@ module _ (P : Property) (𝓟 : Pieces P) where
     walk-holds bytes n fit = go (silent k n) (ltb (8 * length bytes) n) refl refl
       where
         go : (x y : Bool) → silent k n ≡ x → ltb (8 * length bytes) n ≡ y → P .Stop (windowOf bytes n) 0 (walk k bytes n)
-        go true y e f = rw e (𝓟 .silent (windowOf bytes n) (silent-none k n e))
+        go true y e f = rw e (𝓟 .silent (windowOf bytes n) (silent-none k n e .1))
         go false true e f = rw (e, f) (𝓟 .failed (windowOf bytes n) 0 (omega arith))
         go false false e f = rw (e, f) (window-holds (windowOf bytes n) fit)

@@ -9,8 +9,10 @@ use Rattle.bits.specs.Bits.{field}
 use Rattle.bits.specs.Sizes.{trailerBits}
 use Rattle.framing.specs.Windows.{Window}
 use Rattle.framing.specs.Events.{Leaf, leaves, pairs, rawHandle, Trace}
-use Rattle.framing.specs.Counters.{counters, isClean}
-use Rattle.framing.specs.Sinks.{Walker, sinkOf, silent}
+use Rattle.framing.specs.Counters.{counters}
+use Rattle.framing.specs.Walk.{Sink}
+use Rattle.framing.specs.Sinks.{Walker, sinkOf}
+use Rattle.framing.specs.Verdicts.{clean, verdictOf}
 
 -- without a last leaf that is a kept tail
 unfoldable pub dropTail : List Leaf → List Leaf
@@ -23,13 +25,15 @@ pub record Opens {A : Type 0} (xs ys : List A) : Type 0 where
   pub rest : List A
   pub whole : xs ++ rest ≡ ys
 
--- the two cuts to m bits that may be clean although the longer window is clean too
-pub data Excused (k : Walker) (w : Window) (m : ℕ) : Type 0 where
-  nothing-sent : silent k m ≡ true → Excused k w m
-  lacks-trailer : (sinkOf k) .trailer ≡ true → m + trailerBits ≡ w .size → field (w .bits) m trailerBits ≡ 0 → Excused k w m
+-- The one cut to m bits that may be clean although the longer window is clean too: in a walk that takes a trailer it leaves off exactly the eight
+-- bits of one, all of them zero. Where both windows are clean, these bits are the trailer.
+pub record LacksTrailer (s : Sink) (w : Window) (m : ℕ) : Type 0 where
+  pub takes-one : s .trailer ≡ true
+  pub lacks-one : m + trailerBits ≡ w .size
+  pub zero : field (w .bits) m trailerBits ≡ 0
 
 -- short: the trace of the first m bits; long: that of the window w
 pub record CutOf (k : Walker) (w : Window) (m : ℕ) (short long : Trace) : Type 0 where
   pub same-leaves : Opens (dropTail (leaves short)) (leaves long)
   pub same-pairs : Opens (pairs short) (pairs long)
-  pub not-clean : isClean (counters long) ≡ true → m < w .size → isClean (counters short) ≡ true → Excused k w m
+  pub not-clean : verdictOf k (w .size) (counters long) ≡ clean → m < w .size → verdictOf k m (counters short) ≡ clean → LacksTrailer (sinkOf k) w m

@@ -1,5 +1,4 @@
--- A window that is the bits of an array of the grammar, for each of the three walks; and what that array gives. The window of no bits isn't
--- among them: a struct or exact walk takes it as nothing sent, and as clean.
+-- A window that is the bits of an array of the grammar, for each of the three walks; and what that array gives.
 use Prim.Native.Nat.{ℕ}
 use mathlib.Core.Path.{_≡_}
 use mathlib.Core.Bool.{Bool, true, false}

@@ -16,7 +16,6 @@ use Rattle.framing.specs.declared.Walk.the-variants as how
 use Rattle.framing.specs.Windows.{Window, windowOf, Reading, got, failed, reading}
 use Rattle.framing.specs.Events as Ev
 use Rattle.framing.specs.Events.{Event, number, pair, truncation, error, nested, root, Trace}
-use Rattle.framing.specs.Counters.{Counters, isClean}
 use Rattle.framing.specs.Paths.{grownPath, overIfLong, leafOrOver}
 use Rattle.framing.specs.Walk.{Sink, numberAt, level}
 
@@ -114,6 +113,7 @@ exact d n = walker how.Exact (declaredOnly d n) absent
 abbrev pub object : Walker
 object = walker how.Object noTables absent
 
+-- the struct and the exact walks
 abbrev pub Leafy : Walker → Type 0
 Leafy (walker s t lvl) = givesLeaves s ≡ true
 
@@ -131,13 +131,3 @@ walkWindow k w = if silent k (w .size) then [] else level (sinkOf k) w []
 unfoldable pub walk : Walker → (bytes : List ℕ) (n : ℕ) → Trace
 walk k bytes n =
     if silent k n then [] else (if ltb (8 * length bytes) n then error ∷ [] else walkWindow k (windowOf bytes n))
-
--- ---- the verdict (01, Walking an array, behind rule 9)
-
-pub data Verdict : Type 0 where
-  clean : Verdict
-  partial : Verdict
-
--- of a walk of so many bits that gave these counters
-unfoldable pub verdictOf : Walker → (bits : ℕ) → Counters → Verdict
-verdictOf k bits c = if isClean c then clean else partial

@@ -10,5 +10,5 @@ pub all-cases : map (λ (r : CaseRow). r .given) table ≡ map (λ (r : CaseRow)
 all-cases = λ i. map walked (cases-hold i) ++ (outcome (case-14 .0 i) ∷ outcome (case-14 .1 i) ∷ [])
 
 -- No case is missing.
-pub every-case : map (λ (r : CaseRow). r .number) table ≡ 1 ∷ 2 ∷ 3 ∷ 4 ∷ 5 ∷ 6 ∷ 7 ∷ 8 ∷ 9 ∷ 10 ∷ 11 ∷ 11 ∷ 12 ∷ 13 ∷ 14 ∷ 14 ∷ []
+pub every-case : map (λ (r : CaseRow). r .number) table ≡ 1 ∷ 2 ∷ 3 ∷ 4 ∷ 5 ∷ 6 ∷ 7 ∷ 8 ∷ 9 ∷ 10 ∷ 11 ∷ 11 ∷ 11 ∷ 12 ∷ 13 ∷ 14 ∷ 14 ∷ []
 every-case = refl

@@ -7,7 +7,7 @@ use Rattle.bitio.specs.Numbers.{readIntPacked, readSerializedInt}
 use Rattle.bitio.specs.Reads.{readBits}
 use Rattle.schema.specs.Tables.{Tables}
 use Rattle.schema.specs.TwelveLevels.{fillAnswer, filledRows, filledNames}
-use Rattle.framing.specs.Sinks.{object}
+use Rattle.framing.specs.Verdicts.{countersVerdict}
 use Rattle.outputs.specs.Answers.{Call, Lent}
 use Rattle.array.specs.Calls.{structCall, exactCall}
 use Rattle.array.specs.Merges.{merge}
@@ -18,7 +18,7 @@ use Rattle.geometry.specs.Rotations.{readRotation}
 use Rattle.geometry.specs.Vectors.{readVector, readNormal}
 use Rattle.exports.specs.MoveResults.{vectorResult, rotationResult, movementResult, rotationKind, locationKind}
 use Rattle.exports.specs.ReadResults.{cursorOf, bitsResult, packedResult, serializedResult, copyResult}
-use Rattle.exports.specs.WalkResults.{Walks, WalksPairs, countersIn, mergeResult, JudgesByNumber, schemaResult, modeOf, DecodesBody}
+use Rattle.exports.specs.WalkResults.{Walks, WalksPairs, countersIn, mergeResult, verdictNumber, schemaResult, modeOf, DecodesBody}
 use Rattle.exports.specs.declared.VrfCounters.{VrfCounters}
 use Rattle.exports.specs.declared.VrfCursor.{VrfCursor}
 use Rattle.promises.specs.Determining.{Determines, DeterminesAll}
@@ -51,9 +51,9 @@ one-vrf-object-array bytes bits pairs = one-pairs bytes bits pairs
 pub one-vrf-merge : (left right : VrfCounters) → Determines (λ r. r ≡ mergeResult (merge (countersIn left) (countersIn right)))
 one-vrf-merge left right = one-equal (mergeResult (merge (countersIn left) (countersIn right)))
 
--- `vrf_verdict` has one answer: any walk and any number of bits tell its number.
-pub one-vrf-verdict : (counters : VrfCounters) → Determines (JudgesByNumber (countersIn counters))
-one-vrf-verdict counters r s f g = f object 0 ∙ sym (g object 0)
+-- `vrf_verdict` has one answer.
+pub one-vrf-verdict : (counters : VrfCounters) → Determines (λ r. r ≡ verdictNumber (countersVerdict (countersIn counters)))
+one-vrf-verdict counters = one-equal (verdictNumber (countersVerdict (countersIn counters)))
 
 -- ---- the schema, and the fast array
 

@@ -6,6 +6,7 @@ pub mod DeterminedArray
 pub mod DeterminedFastarray
 pub mod DeterminedGeometry
 pub mod DeterminedExports
+pub mod Accepted
 pub mod FrontLaws
 pub mod Prefix
 pub mod OutsideReads
@@ -24,3 +25,4 @@ pub mod RefusedMoves
 pub mod RefusedMovement
 pub mod RefusedExports
 pub mod ByteAngles
+pub mod Verdicts

@@ -1,29 +1,27 @@
 -- Demand 3 of accepted answers and of lent buffers. It holds because an accepted answer tells its walk's counters and needs, its buffers begin
 -- with the walk's leaves or pairs, and demand 3 holds of the walks. The theorem on a call is `prefix-` and the call's name, with `-` for `_`.
 use mathlib.Core.Path.{_≡_, refl, sym, ap, ap₂, _∙_, subst}
-use mathlib.Core.Bool.{Bool, true, false, not}
+use mathlib.Core.Bool.{true}
 use mathlib.Core.List.{List, [], _∷_, _++_, append-assoc}
 use Prim.Native.Nat.{ℕ, _+_, _*_, _≤_}
 use native.Mathlib.Nat.{zero-add}
 use native.Mathlib.Omega.{arith}
-use lib.Dec.{ltb}
 use lib.ListN.{length, getD, drop, length-append}
-use borrow.Author.Tests.{le-leb, eqb-true}
-use Rattle.bits.specs.Choice.{if_then_else_}
+use borrow.Author.Tests.{le-leb}
 use Rattle.bits.specs.Bits.{num, field}
 use Rattle.bits.specs.Runs.{filled}
 use Rattle.bits.proofs.FieldLaws.{field-same}
 use Rattle.bits.proofs.Never.{never}
-use Rattle.bits.specs.Sizes.{longestWindow, trailerBits}
 use Rattle.schema.specs.Tables.{Tables}
 use Rattle.framing.specs.Windows.{Window, windowOf}
-use Rattle.framing.specs.Events.{Leaf, leaves, pairs, overs, Trace}
-use Rattle.framing.specs.Counters.{Counters, counters, isClean}
-use Rattle.framing.specs.Sinks as F
-use Rattle.framing.specs.Sinks.{structSink, Walker, struct, exact, object, sinkOf, walk, verdictOf}
+use Rattle.framing.specs.Events.{Leaf, leaves, pairs}
+use Rattle.framing.specs.Counters.{Counters, counters}
+use Rattle.framing.specs.Sinks.{structSink, Walker, struct, exact, object, sinkOf, walk}
+use Rattle.framing.specs.Verdicts as F
+use Rattle.framing.specs.Verdicts.{verdictOf}
 use Rattle.framing.specs.Records.{pathStartAt, handleAt, payloadStartAt, pairWords, leafRecord, leafRecords, pathBytes, payloadBytes, pairRecords}
-use Rattle.framing.specs.Refusing.{Room, within, needed, refused, accepted, decided}
-use Rattle.framing.specs.Demand.{Opens, Excused, nothing-sent, lacks-trailer, CutOf}
+use Rattle.framing.specs.Refusing.{Room, within, needed}
+use Rattle.framing.specs.Demand.{Opens, LacksTrailer, CutOf}
 use Rattle.framing.proofs.RecordLaws.{records-append}
 use Rattle.framing.proofs.Demand3.{demand3}
 use Rattle.outputs.specs.Records.{leafNumber}
@@ -39,35 +37,15 @@ use Rattle.array.specs.declared.StructArray.the-variants as structs
 use Rattle.array.specs.declared.ObjectArray.the-variants as objects
 use Rattle.promises.specs.Prefix as P
 use Rattle.promises.specs.Prefix.{FirstBits, BeforeTail, tail-off, Begins, PairsBegin}
+use Rattle.promises.proofs.Accepted.{accepted-tells}
 use Rattle.promises.proofs.FrontLaws.{same-front, opens-length, getD-behind, records-size, pairs-size, Tailed, no-tail, one-tail, tailed}
 
 -- ---- what an accepted answer tells
 
-accepted-tells : {Need : Type 0} (bits : ℕ) (ok : Bool) (t : Trace) (nothing need : Need) (enough : Bool) {k : Counters} {n : Need}
-    → accepted k n ≡ decided bits ok t nothing need enough → (k ≡ counters t) × (n ≡ need)
-unfolding decided
-accepted-tells {Need} bits ok t nothing need enough {k} {n} e = go (ltb longestWindow bits) ok (ltb 0 (overs t)) enough e
-  where
-    go : (a b c d : Bool)
-        → accepted k n ≡ (if a then refused 1 nothing else (if not b then refused 2 nothing else (if c then refused 5 nothing else (if not d then refused 3 need else accepted (counters t) need))))
-        → (k ≡ counters t) × (n ≡ need)
-    go true b c d e = let z : _≡_ {A = ℕ} 0 1 = cc in never z
-    go false false c d e = let z : _≡_ {A = ℕ} 0 1 = cc in never z
-    go false true true d e = let z : _≡_ {A = ℕ} 0 1 = cc in never z
-    go false true false false e = let z : _≡_ {A = ℕ} 0 1 = cc in never z
-    go false true false true e = (cc, cc)
-
-clean-counters : (k : Walker) (bits : ℕ) (c : Counters) → F.clean ≡ verdictOf k bits c → isClean c ≡ true
-unfolding verdictOf
-clean-counters k bits c e = go (isClean c) refl e
-  where
-    go : (b : Bool) → isClean c ≡ b → F.clean ≡ (if b then F.clean else F.partial) → isClean c ≡ true
-    go true h e = h
-    go false h e = let z : _≡_ {A = ℕ} 0 1 = cc in never z
-
--- the counters of an accepted answer with a clean verdict
-judged-clean : (k : Walker) (bits : ℕ) (c d : Counters) (v : Verdict) → verdictIs v ≡ verdictOf k bits c → c ≡ d → v ≡ Clean → isClean d ≡ true
-judged-clean k bits c d v j e h = clean-counters k bits d (ap verdictIs (sym h) ∙ j ∙ ap (verdictOf k bits) e)
+-- an accepted answer that says clean has the counters of a clean walk
+judged-clean : (k : Walker) (bits : ℕ) (c d : Counters) (v : Verdict) → verdictIs v ≡ verdictOf k bits c → c ≡ d → v ≡ Clean
+    → verdictOf k bits d ≡ F.clean
+judged-clean k bits c d v j e h = sym (ap verdictIs (sym h) ∙ j ∙ ap (verdictOf k bits) e)
 
 -- ---- struct and exact walks
 
@@ -169,7 +147,8 @@ module _ (short long : Call) (cut : CutCall short long) where
           paths = same-front _ refl (g .0 .paths) (g .1 .paths);
           payloads = same-front _ refl (g .0 .payloads) (g .1 .payloads);
           not-clean = λ clean fewer also.
-              walks-cut .not-clean (judged-clean _ _ _ _ w (q .judged) (long-tells .0) clean) fewer (judged-clean _ _ _ _ v (p .judged) (short-tells .0) also);
+              walks-cut .not-clean (judged-clean _ _ _ _ w (q .judged) (long-tells .0) clean) fewer
+              (subst (λ (k : Walker). verdictOf k (short .bits) (counters (traceOf short)) ≡ F.clean) (cut .how) (judged-clean _ _ _ _ v (p .judged) (short-tells .0) also));
         }
 
 -- The opening's bits, as a number.
@@ -190,7 +169,7 @@ module _ (longer shorter : List ℕ) (n m : ℕ) (first : FirstBits longer short
   module _ (b d x y : Lent) (st su : ArrayDecodeStats) (v w : Verdict) (e f : Extent) where
     -- DEMAND 3 OF THE STRUCT WALK: neither of two calls with the same tables is refused, and the shorter's bits are the longer's first. The
     -- shorter's records, path bytes and payload bytes, but for a kept tail's, stand unchanged at the front of the longer's buffers; and if the
-    -- longer's verdict is clean and the shorter has fewer bits, its verdict is not clean, but for the two excuses.
+    -- longer's verdict is clean and the shorter has fewer bits, its verdict is not clean, but where it lacks exactly a zero trailer.
     pub prefix-decode-struct-array : (t : Tables) (levels root : ℕ) → Decodes (structCall shorter m t levels root) b (structs.Decoded st v e) x
         → Decodes (structCall longer n t levels root) d (structs.Decoded su w f) y
         → Begins (structCall shorter m t levels root) (structCall longer n t levels root) v w (roomIn e) (roomIn f) x y
@@ -220,8 +199,8 @@ module _ (longer shorter : List ℕ) (n m : ℕ) (first : FirstBits longer short
   long-pairs = accepted-tells _ _ _ _ _ _ (q .answered .says)
 
   -- DEMAND 3 OF THE OBJECT WALK: neither of two calls is refused, and the shorter's bits are the longer's first. All of the shorter's pairs stand
-  -- unchanged at the front of the longer's; and if the longer's verdict is clean and the shorter has fewer bits, its verdict is not clean, but for
-  -- the two excuses.
+  -- unchanged at the front of the longer's; and if the longer's verdict is clean and the shorter has fewer bits, its verdict is not clean, but
+  -- where it lacks exactly a zero trailer.
   pub prefix-decode-object-ref-array : PairsBegin longer n m v w e f x y
   unfolding finalPairs
   prefix-decode-object-ref-array =
@@ -240,15 +219,9 @@ module _ (longer shorter : List ℕ) (n m : ℕ) (first : FirstBits longer short
             pairs-cut .not-clean (judged-clean _ _ _ _ w (q .judged) (long-pairs .0) clean) fewer (judged-clean _ _ _ _ v (p .judged) (short-pairs .0) also);
       }
 
--- ---- the excuses, by walk
+-- ---- the exception, by walk
 
--- The exact walk takes no trailer: only a window of no bits is excused.
-pub exact-excused : (declared declaredNames : List ℕ) (w : Window) (m : ℕ) → Excused (exact declared declaredNames) w m → m ≡ 0
+-- The exact walk takes no trailer, so demand 3 has no exception for it.
+pub exact-lacks-none : (declared declaredNames : List ℕ) (w : Window) (m : ℕ) → LacksTrailer (sinkOf (exact declared declaredNames)) w m → ⊥
 unfolding sinkOf structSink
-exact-excused declared declaredNames w m (nothing-sent e) = eqb-true m 0 e
-exact-excused declared declaredNames w m (lacks-trailer t h z) = let y : _≡_ {A = ℕ} 0 1 = cc in never y
-
--- An object walk of no bits is never silent: only the zero trailer is excused.
-pub object-excused : (w : Window) (m : ℕ) → Excused object w m → (m + trailerBits ≡ w .size) × (field (w .bits) m trailerBits ≡ 0)
-object-excused w m (nothing-sent e) = let y : _≡_ {A = ℕ} 0 1 = cc in never y
-object-excused w m (lacks-trailer t h z) = (h, z)
+exact-lacks-none declared declaredNames w m l = let t = l .takes-one in let z : _≡_ {A = ℕ} 0 1 = cc in never z

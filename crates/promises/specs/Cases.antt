@@ -1,5 +1,5 @@
 -- The fourteen proved cases of document 01 as one table: the walks of framing's table and the two movements. A row has 01's number of the case,
--- what the definitions give, and what 01 says. Cases 11 and 14 are two rows each.
+-- what the definitions give, and what 01 says, of case 11 as request 05 changes it. Case 11 is three rows, case 14 two.
 use Prim.Native.Nat.{ℕ}
 use mathlib.Core.List.{List, [], _∷_, _++_}
 use Rattle.bits.specs.Refusals.{Numbered, refusal}
@@ -13,7 +13,7 @@ use Rattle.geometry.specs.declared.MovementRead.the-variants as M
 use Rattle.geometry.specs.declared.RotatorQuantization.the-variants.{ByteComponents}
 use Rattle.geometry.specs.declared.VectorQuantization.the-variants.{RoundWholeNumber}
 
--- a walk's leaves, pairs and counters; a movement and the bits that it used; or a refusal
+-- a walk's leaves, pairs, counters and verdict; a movement and the bits that it used; or a refusal
 pub data Outcome : Type 0 where
   walked : CaseAnswer → Outcome
   moves : Movement → (used : ℕ) → Outcome
@@ -42,5 +42,5 @@ moveRow n bits o = record { number = n; given = outcome (readMovement bytes bits
 
 abbrev pub table : List CaseRow
 table =
-    walkRows (1 ∷ 2 ∷ 3 ∷ 4 ∷ 5 ∷ 6 ∷ 7 ∷ 8 ∷ 9 ∷ 10 ∷ 11 ∷ 11 ∷ 12 ∷ 13 ∷ []) cases ++
+    walkRows (1 ∷ 2 ∷ 3 ∷ 4 ∷ 5 ∷ 6 ∷ 7 ∷ 8 ∷ 9 ∷ 10 ∷ 11 ∷ 11 ∷ 11 ∷ 12 ∷ 13 ∷ []) cases ++
     (moveRow 14 27 (moves moved 27) ∷ moveRow 14 26 (refuses (refusal 7 24 26 3)) ∷ [])

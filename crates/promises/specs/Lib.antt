@@ -7,3 +7,4 @@ pub mod WalkOrders
 pub mod MoveOrders
 pub mod ExportOrders
 pub mod ByteAngles
+pub mod Verdicts

@@ -6,10 +6,10 @@ use mathlib.Core.List.{List}
 use lib.ListN.{length, take}
 use Rattle.framing.specs.Windows.{windowOf}
 use Rattle.framing.specs.Events.{rawHandle}
-use Rattle.framing.specs.Sinks.{Walker, object}
+use Rattle.framing.specs.Sinks.{Walker, object, sinkOf}
 use Rattle.framing.specs.Records.{leafWords, pathStartAt, handleAt, payloadStartAt, pairWords}
 use Rattle.framing.specs.Refusing.{Room, within}
-use Rattle.framing.specs.Demand.{Excused}
+use Rattle.framing.specs.Demand.{LacksTrailer}
 use Rattle.outputs.specs.Records.{leafNumber}
 use Rattle.outputs.specs.Answers.{Call, Lent}
 use Rattle.array.specs.declared.Verdict.{Verdict}
@@ -31,9 +31,9 @@ pub data BeforeTail (all : Room) (records : List ℕ) : (shared : Room) → Type
       → leafNumber records (n .leaves) pathStartAt ≡ n .pathBytes → leafNumber records (n .leaves) payloadStartAt ≡ n .payloadBytes
       → BeforeTail all records n
 
--- m bits of a clean window of n are not clean, but for the two excuses: no bits of a struct or exact walk; exactly a zero trailer left off
+-- m bits of a clean window of n are not clean, but where exactly a zero trailer is left off, in a walk that takes one
 abbrev pub NotClean : Walker → (bytes : List ℕ) (n m : ℕ) → (long short : Verdict) → Type 0
-NotClean k bytes n m long short = long ≡ Clean → m < n → short ≡ Clean → Excused k (windowOf bytes n) m
+NotClean k bytes n m long short = long ≡ Clean → m < n → short ≡ Clean → LacksTrailer (sinkOf k) (windowOf bytes n) m
 
 -- Two struct or exact walks. The shorter filled `e` and left x, the longer filled `f` and left y.
 pub record Begins (short long : Call) (v w : Verdict) (e f : Room) (x y : Lent) : Type 0 where

@@ -45,8 +45,8 @@ pass-requires c κs =
 stats-of-requires : tie.Need-stats-of-requires
 stats-of-requires c κs = search needs
 
-verdict-requires : tie.Need-verdict-requires
-verdict-requires c κs = search needs
+window-verdict-requires : tie.Need-window-verdict-requires
+window-verdict-requires c κs = search needs
 
 same-length : tie.Need-same-length
 same-length c = search needs
@@ -66,7 +66,7 @@ returns-3 c =
     let again = wrote .pass .ensures ∙ ap (played _) (starts-fresh _ _ _) in
     has-room (needs-in _ _ _ _ _ (measured .measure .ensures) (found .before .before .if1 .left) (found .extent-of .ensures))
     (sym (fits .before .has-room .ensures) ∙ not-false _ (fits .if2 .left)) (held-in _ _ _ _ _ again) (c .before .stats-of .ensures ∙ stats-in _ _ _ _ _ again)
-    (c .verdict .ensures _ _)
+    (c .window-verdict .ensures _ _)
 
 pub two-passes-spec : {M : Type 1} → statement M
 two-passes-spec =
@@ -81,7 +81,7 @@ two-passes-spec =
     returns-2
     pass-requires
     stats-of-requires
-    verdict-requires
+    window-verdict-requires
     same-length
     same-length-2
     same-length-3
