@@ -122,6 +122,7 @@ def main():
         "none": plain(True),
         "exact": plain(False),
         "objects": objects(),
+        "no-elements": array(0, []),
         "fastarray-absent": fast_array(False),
         "fastarray-present": fast_array(True),
         "movement": movement(),

@@ -65,5 +65,6 @@ pub fn report(c: ArrayDecodeStats, judged: Verdict) {
             b"verdict: clean; the window was read to its end and nothing is missing\n",
         ),
         Verdict::Partial => say_partial(c),
+        Verdict::Empty => say::text(b"verdict: empty; nothing was sent\n"),
     }
 }

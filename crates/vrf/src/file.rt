@@ -8,6 +8,12 @@ use words::error;
 use words::input;
 use words::input::Input;
 
+// What became of the file: so many bytes, which may be none; or it couldn't be taken, and why is said.
+pub enum Fetched {
+    Bytes(usize),
+    Failed,
+}
+
 // The bytes of the longest window.
 pub const ROOM: usize = (LONGEST_WINDOW as usize) / 8;
 
@@ -33,15 +39,12 @@ fn say_unread(path: &[u8]) {
     );
 }
 
-// The open file to the front of the buffer. How many bytes it has, or 0 where that is said to be wrong.
-fn read(path: &[u8], fd: i32, buf: &mut [u8]) -> usize {
+// The open file to the front of the buffer.
+fn read(path: &[u8], fd: i32, buf: &mut [u8]) -> Fetched {
     let got = input::whole(fd, buf);
     match got {
         Input::Whole(n) => {
-            if n == 0 {
-                complain(path, b"the file is empty: there is no window in it");
-            }
-            return n;
+            return Fetched::Bytes(n);
         }
         Input::Longer => complain(
             path,
@@ -53,22 +56,22 @@ fn read(path: &[u8], fd: i32, buf: &mut [u8]) -> usize {
         ),
         Input::Failed => say_unread(path),
     }
-    0
+    Fetched::Failed
 }
 
-// The file that is named at the place, to the front of the buffer. How many bytes it has, or 0 where that is said to be wrong.
-pub fn fetch(at: usize, buf: &mut [u8]) -> usize {
+// The file that is named at the place, to the front of the buffer.
+pub fn fetch(at: usize, buf: &mut [u8]) -> Fetched {
     let mut word = io::buffer();
     let n = os::arg(at, &mut word);
     if os::errno() != 0 {
         os::fail(b"FILE");
-        return 0;
+        return Fetched::Failed;
     }
     let path = &word[..n];
     let fd = os::open_read(path);
     if fd < 0 {
         os::fail(path);
-        return 0;
+        return Fetched::Failed;
     }
     let got = read(path, fd, buf);
     libc::close(fd);

@@ -1,8 +1,9 @@
 // Reads one window of bits out of a file and prints what it holds: `vrf walk KIND FILE [BITS]` an array, `vrf fastarray MODE
 // FILE [BITS]` a fast-array body, `vrf movement SCALE WIDTH FILE [BITS]` a movement record. `vrf schema` prints the levels.
 //
-// The window is the first BITS bits of the file, without BITS all of it. Walks print a line for each leaf, the seven counters
-// and the verdict. The exit status is always 0: what went wrong is said in words, on standard error, and then there is no verdict.
+// The window is the first BITS bits of the file, without BITS all of it; of an empty file that is no bits. Walks print a line for
+// each leaf, the seven counters and the verdict. The exit status is always 0: what went wrong is said in words, on standard error,
+// and then there is no verdict.
 mod args;
 mod fast;
 mod file;
@@ -12,6 +13,7 @@ mod walk;
 use args::Asked;
 use args::Count;
 use args::Job;
+use file::Fetched;
 use tell::levels;
 use tell::say;
 use words::error;
@@ -27,7 +29,7 @@ fn usage() {
     error::text(
         b"flag of each item; SCALE is 1, 10 or 100 and WIDTH 8 or 16. The window is the first BITS bits of the file,\n",
     );
-    error::text(b"without BITS all of it.\n");
+    error::text(b"without BITS all of it; of an empty file that is no bits.\n");
 }
 
 fn run(job: Job, bytes: &[u8], bits: u32) {
@@ -42,13 +44,15 @@ fn run(job: Job, bytes: &[u8], bits: u32) {
 fn window(job: Job, at: usize, given: Count) {
     let mut space = file::room();
     let room: &mut [u8] = &mut space;
-    let n = file::fetch(at, room);
-    if n == 0 {
-        return;
+    let fetched = file::fetch(at, room);
+    match fetched {
+        Fetched::Bytes(n) => {
+            let bytes = say::front(room, n);
+            let bits = args::window_bits(given, n);
+            run(job, bytes, bits);
+        }
+        Fetched::Failed => {}
     }
-    let bytes = say::front(room, n);
-    let bits = args::window_bits(given, n);
-    run(job, bytes, bits);
 }
 
 fn asked_window(job: Job) {

@@ -15,7 +15,7 @@ use words::wide;
 pub struct Answer {
     // 0 for a walk, or the refusal's number by document 01.
     pub number: u64,
-    // The seven counters, and 1 for a partial walk; of a refusal all are 0.
+    // The seven counters and the verdict: 0 clean, 1 partial, 2 empty. Of a refusal all are 0.
     pub counts: [u64; 8],
     // What the outputs need: records, path bytes, payload bytes.
     pub records: u64,
@@ -36,10 +36,11 @@ pub struct Recorded {
     pub end: usize,
 }
 
-fn is_partial(v: Verdict) -> u64 {
+fn verdict_number(v: Verdict) -> u64 {
     match v {
         Verdict::Clean => 0,
         Verdict::Partial => 1,
+        Verdict::Empty => 2,
     }
 }
 
@@ -52,7 +53,7 @@ fn counts_of(stats: ArrayDecodeStats, v: Verdict) -> [u64; 8] {
         stats.unconsumed_nested_bits,
         stats.unconsumed_root_bits,
         stats.implicit_terminations,
-        is_partial(v),
+        verdict_number(v),
     ]
 }
 
@@ -143,7 +144,8 @@ fn recorded_counts(s: &[u8], at: usize) -> Counted {
 
 // What is recorded of a struct or exact walk.
 fn recorded_leaves(s: &[u8], at: usize) -> Recorded {
-    let counted = recorded_counts(s, at);
+    let number = fields::number(s, at);
+    let counted = recorded_counts(s, number.next);
     let leaves = fields::number(s, counted.next);
     let path_bytes = fields::number(s, leaves.next);
     let payload_bytes = fields::number(s, path_bytes.next);
@@ -158,7 +160,7 @@ fn recorded_leaves(s: &[u8], at: usize) -> Recorded {
     };
     let counts = counted.counts;
     let answer = answer_of(
-        0,
+        number.value,
         counts,
         leaves.value,
         path_bytes.value,
@@ -176,12 +178,13 @@ fn recorded_leaves(s: &[u8], at: usize) -> Recorded {
 
 // What is recorded of an object walk. Its only output is the pairs: at the end no run stands.
 fn recorded_pairs(s: &[u8], at: usize) -> Recorded {
-    let counted = recorded_counts(s, at);
+    let number = fields::number(s, at);
+    let counted = recorded_counts(s, number.next);
     let pairs = fields::number(s, counted.next);
     let records = pairs.next;
     let end = fields::after_run(s, records);
     let counts = counted.counts;
-    let answer = answer_of(0, counts, pairs.value, 0, 0);
+    let answer = answer_of(number.value, counts, pairs.value, 0, 0);
     Recorded {
         answer,
         whole: 1,

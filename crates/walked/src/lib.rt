@@ -3,8 +3,11 @@
 // The parts of their cases, in the words of `replay`'s format:
 //
 //     tables = list run list run: rows and their name pool, declared numbers and theirs
-//     counts = the seven counters, in the order of ArrayDecodeStats, then 1 for a partial walk, 0 for a clean one
-//     walk   = counts, leaves, path bytes, payload bytes, whole, and where whole is 1: list run run
+//     counts = the seven counters, in the order of ArrayDecodeStats, then the verdict: 0 clean, 1 partial, 2 empty
+//     walk   = number, counts, leaves, path bytes, payload bytes, whole, and where whole is 1: list run run
+//
+// The number is 0, or the refusal's by document 01. Of a refused walk counts and needs are 0, and its outputs stand there with
+// nothing in them.
 //
 // Behind the counts of a walk stands what it needs of each output, then what it writes: the records of the leaves (as the crate
 // `outputs` lays them out), the path bytes and the payload bytes. Where whole is 0, they don't stand there; such a walk, and one
