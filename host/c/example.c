@@ -29,6 +29,15 @@ static const char *refusal_in_words(uint32_t number) {
   }
 }
 
+/* What a sheet does with each verdict: vrf.h. */
+static const char *verdict_in_words(uint32_t verdict) {
+  switch (verdict) {
+  case VRF_CLEAN: return "clean";
+  case VRF_EMPTY: return "empty, nothing was sent";
+  default: return "partial, something is broken, cut off, over a limit or left unread";
+  }
+}
+
 /* Room for n things, at least one byte; the program ends if there is none. */
 static void *room(size_t n, size_t size) {
   void *p = calloc(n > 0 ? n : 1, size);
@@ -117,7 +126,7 @@ static int walk(const uint8_t *bytes, size_t size, uint32_t bits) {
       print_leaf(leaves + VRF_LEAF_WORDS * i, paths, payloads);
     }
     print_counters(&w.counters);
-    puts(w.verdict == VRF_CLEAN ? "verdict: clean" : "verdict: partial, something is damaged or missing");
+    printf("verdict: %s\n", verdict_in_words(w.verdict));
   }
   free(leaves);
   free(paths);

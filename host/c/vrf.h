@@ -28,6 +28,12 @@
  *   Behind it stand the values that the refusal names (below), then what only an accepted call gives. In a refused answer all that
  *   isn't named is 0, but for `position`; so a `verdict` of 0 says "clean" only where `refusal` is 0 too.
  *
+ * What a sheet does with a walk's verdict
+ *   VRF_CLEAN    its row stands: all of the window was read, as one whole array.
+ *   VRF_PARTIAL  its row stands with what there is, and is marked: something is broken, cut off, over a limit or left unread.
+ *   VRF_EMPTY    it gets no row: nothing was sent, which is something else than a round with nothing to report. That one has bits, an
+ *                array of no elements, and is clean. What the sheet had before stays, and is not taken for this round's.
+ *
  * Refusals, and the values that come with them; below, VRF_REFUSED_TOO_LONG and so on are the numbers by name
  *    1  a bit count over 524,288                                               none
  *    2  a schema or declared table breaks its layout or a size, or the root
@@ -85,15 +91,16 @@ enum {
   VRF_LONGEST_WINDOW = 524288, /* bits */
   VRF_LEAF_WORDS = 5,          /* uint32_t in a leaf */
   VRF_PAIR_WORDS = 2,          /* uint32_t in a pair */
-  VRF_CLEAN = 0,
-  VRF_PARTIAL = 1
+  VRF_CLEAN = 0,               /* verdicts; a refused walk has none, and 0 in its place */
+  VRF_PARTIAL = 1,
+  VRF_EMPTY = 2
 };
 
 /* A root level that means no schema; a declared name's start, with length 0, that means none; the handle of a kept tail, `_raw`;
  * what vrf_byte_angle_steps gives for a number that is no byte. */
 #define VRF_NONE UINT32_C(4294967295)
 
-/* What a walk counted. It is clean if all but the first two are 0. */
+/* What a walk counted. Of a window with bits the verdict is clean if all but the first two are 0. */
 typedef struct VrfCounters {
   uint64_t elements;              /* elements, of all levels */
   uint64_t fields;                /* leaves, kept tails among them; in an object walk pairs */
@@ -111,7 +118,7 @@ typedef struct VrfWalk {
   uint32_t path_bytes;
   uint32_t payload_bytes;
   VrfCounters counters;
-  uint32_t verdict; /* VRF_CLEAN or VRF_PARTIAL */
+  uint32_t verdict; /* VRF_CLEAN, VRF_PARTIAL or, of no bits, VRF_EMPTY */
 } VrfWalk;
 
 /* The array of structs in the first `bits` bits, taken apart into leaves.
@@ -147,7 +154,7 @@ typedef struct VrfObjects {
   uint32_t refusal; /* 1, 3 */
   uint32_t pairs;   /* filled, or with refusal 3 needed */
   VrfCounters counters;
-  uint32_t verdict;
+  uint32_t verdict; /* VRF_CLEAN or VRF_PARTIAL; of no bits it is partial, with one error */
 } VrfObjects;
 
 /* The array of object references in the first `bits` bits. A pair is two uint32_t: index, object. How large to lend: call once
@@ -162,7 +169,9 @@ typedef struct VrfMerge {
 /* The counters of two walks added up, counter by counter. */
 VrfMerge vrf_merge(VrfCounters left, VrfCounters right);
 
-/* VRF_CLEAN or VRF_PARTIAL, of a walk that counted this. It refuses nothing. */
+/* VRF_CLEAN or VRF_PARTIAL, of a set of counters: of one walk, or of several merged. It refuses nothing. Never VRF_EMPTY: the
+ * rule on no bits is a window's, and counters don't tell how many bits were walked. Of a single window take the verdict that its walk
+ * answered: the counters of an empty one are all 0, which this calls clean. */
 uint32_t vrf_verdict(VrfCounters counters);
 
 /* ---- the schema */

@@ -216,6 +216,8 @@ pub fn rows() -> Vec<Row> {
     }
     rows.push(row("one element, one field, schema", &windows::least(), Kind::Combat, Way::Lent));
     rows.push(row("one element, one field, exact", &windows::least(), Kind::Exact, Way::Lent));
+    rows.push(row("no elements", &windows::no_elements(), Kind::Plain, Way::Lent));
+    rows.push(row("nothing sent", &Bits::default(), Kind::Plain, Way::Lent));
     rows.push(row("damaged: combat cut", &cut, Kind::Combat, Way::Lent));
     rows.push(row(
         "damaged: combat broken inside",

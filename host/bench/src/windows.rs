@@ -42,6 +42,11 @@ pub fn least() -> Bits {
     array([element(&[(1, 0xab, 8)])])
 }
 
+/// An array of no elements.
+pub fn no_elements() -> Bits {
+    array([])
+}
+
 /// A count above the limit: all that follows is kept as one leaf.
 pub fn tail(bits: u32) -> Bits {
     let mut out = Bits::default();

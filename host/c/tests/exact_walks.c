@@ -96,6 +96,23 @@ void exact_walks(void) {
   SAME(a.verdict, VRF_PARTIAL);
   w.bits += 16;
 
+  /* Of no bits nothing was sent; of an array of no elements something was. */
+  static const uint8_t no_elements[] = {0x00, 0x00};
+  lay_out(&lent, sizeof lent);
+  a = vrf_struct_array_exact(w.bytes, window_bytes(&w), 0, names_of_handles, NUMBERS, deaths, DEATHS, lent.leaves, WORDS_EXACT, lent.paths,
+                             PATHS_EXACT, lent.payloads, PAYLOADS_EXACT);
+  SAME(a.refusal, 0);
+  SAME(a.leaves, 0);
+  SAME_COUNTERS(a.counters, 0, 0, 0, 0, 0, 0, 0);
+  SAME(a.verdict, VRF_EMPTY);
+  SAME_UNTOUCHED(&lent, sizeof lent);
+  a = vrf_struct_array_exact(w.bytes, window_bytes(&w), 0, names_of_handles, NUMBERS - 1, deaths, DEATHS, NULL, 0, NULL, 0, NULL, 0);
+  SAME(a.refusal, 2);
+  SAME(a.verdict, 0);
+  a = vrf_struct_array_exact(no_elements, 2, 16, NULL, 0, NULL, 0, NULL, 0, NULL, 0, NULL, 0);
+  SAME_COUNTERS(a.counters, 0, 0, 0, 0, 0, 0, 0);
+  SAME(a.verdict, VRF_CLEAN);
+
   lay_out(&lent, sizeof lent);
   a = vrf_struct_array_exact(w.bytes, window_bytes(&w), VRF_LONGEST_WINDOW + 1, names_of_handles, NUMBERS - 1, deaths, DEATHS, lent.leaves,
                              WORDS_EXACT, lent.paths, PATHS_EXACT, lent.payloads, PAYLOADS_EXACT);

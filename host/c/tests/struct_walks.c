@@ -179,6 +179,35 @@ static void without_tables(void) {
   SAME(v.verdict, VRF_PARTIAL);
 }
 
+/* No bits: nothing was sent, whatever bytes and tables there are. An array of no elements was sent, and is clean. */
+static void of_no_bits(const Window *w) {
+  static const uint8_t no_elements[] = {0x00, 0x00};
+  Lent lent;
+  lay_out(&lent, sizeof lent);
+  VrfWalk v = vrf_struct_array(w->bytes, window_bytes(w), 0, rows, ROWS, LEVELS, ROOT, names, NAMES, declared, DECLARED, pool, POOL,
+                               lent.leaves, LEAF_WORDS, lent.paths, PATHS, lent.payloads, PAYLOADS);
+  SAME(v.refusal, 0);
+  SAME(v.leaves, 0);
+  SAME(v.path_bytes, 0);
+  SAME(v.payload_bytes, 0);
+  SAME_COUNTERS(v.counters, 0, 0, 0, 0, 0, 0, 0);
+  SAME(v.verdict, VRF_EMPTY);
+  SAME_UNTOUCHED(&lent, sizeof lent);
+  SAME(vrf_verdict(v.counters), VRF_CLEAN); /* of counters alone: they don't tell that there were no bits */
+  v = vrf_struct_array(NULL, 0, 0, NULL, 0, 0, VRF_NONE, NULL, 0, NULL, 0, NULL, 0, NULL, 0, NULL, 0, NULL, 0);
+  SAME(v.refusal, 0);
+  SAME(v.verdict, VRF_EMPTY);
+  v = over(w, 0, rows, ROWS - 1, LEVELS, ROOT, NAMES, declared, DECLARED, POOL);
+  SAME(v.refusal, 2);
+  SAME(v.verdict, 0);
+  v = vrf_struct_array(NULL, 0, 1, NULL, 0, 0, VRF_NONE, NULL, 0, NULL, 0, NULL, 0, NULL, 0, NULL, 0, NULL, 0);
+  SAME_COUNTERS(v.counters, 0, 0, 0, 1, 0, 0, 0);
+  SAME(v.verdict, VRF_PARTIAL);
+  v = vrf_struct_array(no_elements, 2, 16, NULL, 0, 0, VRF_NONE, NULL, 0, NULL, 0, NULL, 0, NULL, 0, NULL, 0, NULL, 0);
+  SAME_COUNTERS(v.counters, 0, 0, 0, 0, 0, 0, 0);
+  SAME(v.verdict, VRF_CLEAN);
+}
+
 void struct_walks(void) {
   Window w;
   Lent lent;
@@ -200,4 +229,5 @@ void struct_walks(void) {
   /* Refusal 5 can't be shown: no tables are known that make a path of over 1,024 bytes. */
   broken_tables(&w);
   without_tables();
+  of_no_bits(&w);
 }

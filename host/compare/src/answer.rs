@@ -2,7 +2,7 @@
 use decode::decode::DecodeError;
 use std::fmt;
 use vrf_bitio::BitError;
-use vrf_proved::lent::Refusal;
+use vrf_proved::lent::{Refusal, Verdict};
 
 /// Where the two differ: in which call, and both answers.
 pub struct Difference {
@@ -32,8 +32,11 @@ pub enum Outcome {
     Refused,
 }
 
-pub fn walked(clean: bool) -> Outcome {
-    if clean { Outcome::Accepted } else { Outcome::Partial }
+pub fn walked(verdict: Verdict) -> Outcome {
+    match verdict {
+        Verdict::Clean | Verdict::Empty => Outcome::Accepted,
+        Verdict::Partial => Outcome::Partial,
+    }
 }
 
 pub fn refused(number: u32, values: [u64; 3]) -> Refusal {

@@ -61,14 +61,14 @@ fn same_stats(rust: &ArrayDecodeStats, given: &mut port::ArrayDecodeStats) -> bo
     port_counters(given) == expected && clean == rust.is_clean()
 }
 
-/// What a form that says a refusal gives: the walk's own counters, from zero.
-fn same_decoded<T>(given: &Result<Decoded<T>, Refusal>, stats: &ArrayDecodeStats, values: impl FnOnce(&[T]) -> bool) -> bool {
+/// What a form that says a refusal gives: the walk's own counters, from zero, and the verdict on its window.
+fn same_decoded<T>(given: &Result<Decoded<T>, Refusal>, stats: &ArrayDecodeStats, verdict: Verdict, values: impl FnOnce(&[T]) -> bool) -> bool {
     given
         .as_ref()
-        .is_ok_and(|d| values(&d.values) && port_counters(&d.stats) == counters(stats) && (d.verdict == Verdict::Clean) == stats.is_clean())
+        .is_ok_and(|d| values(&d.values) && port_counters(&d.stats) == counters(stats) && d.verdict == verdict)
 }
 
-pub fn walk(case: &WalkCase, fields: &[FlattenedField], stats: &ArrayDecodeStats) -> Result<(), Difference> {
+pub fn walk(case: &WalkCase, fields: &[FlattenedField], stats: &ArrayDecodeStats, verdict: Verdict) -> Result<(), Difference> {
     if case.schema.dropin.is_none() && case.schema.linked.is_some() {
         return Ok(()); // an unrolled table that is larger than a table may be
     }
@@ -89,7 +89,7 @@ pub fn walk(case: &WalkCase, fields: &[FlattenedField], stats: &ArrayDecodeStats
         port::try_decode_struct_array(&w.bytes, w.bits, case.schema.dropin, &names)
     };
     faults::answer(Call::TryLeaves, &mut tried);
-    if same(&leaves) && same_stats(stats, &mut given) && same_decoded(&tried, stats, same) {
+    if same(&leaves) && same_stats(stats, &mut given) && same_decoded(&tried, stats, verdict, same) {
         return Ok(());
     }
     Err(Difference::new(
@@ -99,7 +99,7 @@ pub fn walk(case: &WalkCase, fields: &[FlattenedField], stats: &ArrayDecodeStats
     ))
 }
 
-pub fn objects(w: &Window, pairs: &[(u32, u32)], stats: &ArrayDecodeStats) -> Result<(), Difference> {
+pub fn objects(w: &Window, pairs: &[(u32, u32)], stats: &ArrayDecodeStats, verdict: Verdict) -> Result<(), Difference> {
     let mut given = before();
     let mut found = port::decode_object_ref_array_with_stats(&w.bytes, w.bits, &mut given);
     let mut plain = port::decode_object_ref_array(&w.bytes, w.bits);
@@ -107,7 +107,7 @@ pub fn objects(w: &Window, pairs: &[(u32, u32)], stats: &ArrayDecodeStats) -> Re
     faults::answer(Call::DropInPlainPairs, &mut plain);
     let mut tried = port::try_decode_object_ref_array(&w.bytes, w.bits);
     faults::answer(Call::TryPairs, &mut tried);
-    if found == pairs && plain == pairs && same_stats(stats, &mut given) && same_decoded(&tried, stats, |found| found == pairs) {
+    if found == pairs && plain == pairs && same_stats(stats, &mut given) && same_decoded(&tried, stats, verdict, |found| found == pairs) {
         return Ok(());
     }
     Err(Difference::new(

@@ -11,7 +11,7 @@ use crate::tables::{Declared, Schema};
 use crate::walk::WalkCase;
 use crate::window::Window;
 use std::rc::Rc;
-use vrf_proved::lent::Cursor;
+use vrf_proved::lent::{Cursor, Verdict};
 
 /// The four walks that short windows are given to.
 pub const WALKS: [&str; 4] = ["S", "S cycle", "X", "O"];
@@ -214,7 +214,7 @@ impl Search {
             self.answer(bench, len + 1)?;
             let long = &self.given[len as usize + 1];
             self.windows += 1;
-            self.clean += u64::from(long.clean);
+            self.clean += u64::from(long.verdict == Verdict::Clean);
             for (i, short) in self.given[..=len as usize].iter().enumerate() {
                 if let Some(what) = self.case.broken(i as u32, short, len + 1, long) {
                     return Err(Difference::new(

@@ -29,6 +29,7 @@ mod runner;
 mod selftest;
 mod tables;
 mod twelve;
+mod verdicts;
 mod walk;
 mod window;
 

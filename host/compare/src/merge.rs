@@ -2,10 +2,11 @@
 use crate::answer::{Difference, Outcome, refused};
 use crate::faults::{self, Call};
 use crate::port;
+use crate::verdicts;
 use crate::walk::port_counters;
 use decode::array::ArrayDecodeStats;
 use oracle::answers::counters;
-use vrf_proved::lent::{RefusedMerge, Verdict};
+use vrf_proved::lent::RefusedMerge;
 
 #[derive(Clone, Debug)]
 pub struct MergeCase {
@@ -59,14 +60,12 @@ impl MergeCase {
         if answer != expected {
             return Err(Difference::new("merge", format!("{expected:?}"), format!("{answer:?}")));
         }
-        let clean = of_rust(self.left).is_clean();
-        let verdict = port::verdict(&of_port(self.left));
-        if (verdict == Verdict::Clean) != clean {
-            return Err(Difference::new(
-                "verdict of the left",
-                format!("clean: {clean}"),
-                format!("{verdict:?}"),
-            ));
+        for (set, name) in [(Some(self.left), "verdict of the left"), (expected.ok(), "verdict of the sum")] {
+            let Some(set) = set else { continue };
+            let (rust, port) = (verdicts::of_set(of_rust(set).is_clean()), port::verdict(&of_port(set)));
+            if port != rust {
+                return Err(Difference::new(name, format!("{rust:?}"), format!("{port:?}")));
+            }
         }
         self.dropin(fits)?;
         Ok(if fits { Outcome::Accepted } else { Outcome::Refused })

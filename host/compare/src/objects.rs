@@ -2,6 +2,7 @@
 use crate::answer::{Difference, Outcome, told, walked};
 use crate::lent::Room;
 use crate::port::Desk;
+use crate::verdicts;
 use crate::walk::port_counters;
 use crate::window::Window;
 use decode::array::{ArrayDecodeStats, decode_object_ref_array_with_stats};
@@ -19,13 +20,14 @@ impl ObjectCase {
     pub fn check(&self, desk: &mut Desk) -> Result<Outcome, Difference> {
         let mut stats = ArrayDecodeStats::default();
         let given = decode_object_ref_array_with_stats(&self.0.bytes, self.0.bits, &mut stats);
+        let verdict = verdicts::of_pairs(self.0.bits, stats.is_clean());
         let pairs: Vec<u32> = given.iter().flat_map(|(index, object)| [*index, *object]).collect();
         for room in Room::all([pairs.len()]) {
             let [lent] = room.of([pairs.len()]);
             desk.pairs.lend(lent, room.words());
             let answer = desk.object_array(&self.0.bytes, self.0.bits);
-            if !agrees(&answer, desk, &stats, &pairs, room) {
-                let rust = text(counters(&stats), stats.is_clean(), &pairs);
+            if !agrees(&answer, desk, &stats, verdict, &pairs, room) {
+                let rust = text(counters(&stats), verdict, &pairs);
                 let port = match &answer {
                     Err(r) => format!(
                         "{}{}",
@@ -39,25 +41,25 @@ impl ObjectCase {
                         } else {
                             ", and a cell behind the filled ones is written"
                         };
-                        text(port_counters(&o.counters), o.verdict == Verdict::Clean, filled) + behind
+                        text(port_counters(&o.counters), o.verdict, filled) + behind
                     }
                 };
                 return Err(Difference::new(room.name(["pairs"]), rust, port));
             }
         }
-        crate::dropin::objects(&self.0, &given, &stats)?;
-        Ok(walked(stats.is_clean()))
+        crate::dropin::objects(&self.0, &given, &stats, verdict)?;
+        Ok(walked(verdict))
     }
 }
 
-fn agrees(answer: &Result<Objects, Refusal>, desk: &Desk, stats: &ArrayDecodeStats, pairs: &[u32], room: Room) -> bool {
+fn agrees(answer: &Result<Objects, Refusal>, desk: &Desk, stats: &ArrayDecodeStats, verdict: Verdict, pairs: &[u32], room: Room) -> bool {
     let need = pairs.len() / PAIR_WORDS;
     match (answer, room) {
         (Err(r), Room::Short(_)) => r.number == 3 && r.values == [need as u64, 0, 0] && desk.pairs.holds(&[]),
         (Ok(o), Room::Full | Room::Longer) => {
             o.pairs == need
                 && port_counters(&o.counters) == counters(stats)
-                && (o.verdict == Verdict::Clean) == stats.is_clean()
+                && o.verdict == verdict
                 && desk.pairs.holds(pairs)
         }
         _ => false,
@@ -65,9 +67,9 @@ fn agrees(answer: &Result<Objects, Refusal>, desk: &Desk, stats: &ArrayDecodeSta
 }
 
 /// In the oracle's form.
-fn text(counters: [u64; 7], clean: bool, pairs: &[u32]) -> String {
+fn text(counters: [u64; 7], verdict: Verdict, pairs: &[u32]) -> String {
     let counters = counters.map(|c| c.to_string()).join(" ");
-    let verdict = if clean { "clean" } else { "partial" };
+    let verdict = verdicts::word(verdict);
     let pairs: String = pairs.chunks(PAIR_WORDS).map(|p| format!(" {}:{}", p[0], p[1])).collect();
     format!("{counters} {verdict} need{pairs}")
 }

@@ -1,5 +1,5 @@
 //! Demand 3 on the port itself: what a cut window gives is the front of what the whole one gives, and both are clean only where the cut
-//! took nothing, or a zero trailer.
+//! took nothing off, or a zero trailer.
 use crate::answer::{Difference, Outcome, walked};
 use crate::port::Desk;
 use crate::walk::WalkCase;
@@ -13,12 +13,24 @@ pub enum OpeningCase {
 }
 
 /// An answer of the port, by itself.
-#[derive(Default, Clone)]
+#[derive(Clone)]
 pub struct Given {
     records: Vec<u32>,
     paths: Vec<u8>,
     payloads: Vec<u8>,
-    pub clean: bool,
+    pub verdict: Verdict,
+}
+
+/// Of a walk that was sent nothing.
+impl Default for Given {
+    fn default() -> Self {
+        Self {
+            records: vec![],
+            paths: vec![],
+            payloads: vec![],
+            verdict: Verdict::Empty,
+        }
+    }
 }
 
 impl OpeningCase {
@@ -58,7 +70,7 @@ impl OpeningCase {
                 let o = desk.object_array(&w.bytes, w.bits)?;
                 into.records.clear();
                 into.records.extend_from_slice(desk.pairs.front(PAIR_WORDS * o.pairs));
-                into.clean = o.verdict == Verdict::Clean;
+                into.verdict = o.verdict;
             }
             Self::Walk(c) => {
                 let w = c.port(desk)?;
@@ -68,7 +80,7 @@ impl OpeningCase {
                 into.paths.extend_from_slice(desk.paths.front(w.path_bytes));
                 into.payloads.clear();
                 into.payloads.extend_from_slice(desk.payloads.front(w.payload_bytes));
-                into.clean = w.verdict == Verdict::Clean;
+                into.verdict = w.verdict;
             }
         }
         Ok(())
@@ -79,13 +91,12 @@ impl OpeningCase {
         if !self.fronts(short, long) {
             return Some("what the opening gives is not the front of what the window gives");
         }
-        if len == bits || !short.clean || !long.clean {
+        if len == bits || (short.verdict, long.verdict) != (Verdict::Clean, Verdict::Clean) {
             return None;
         }
-        let nothing = len == 0 && self.walk().is_some();
         let exact = self.walk().is_some_and(|w| w.exact);
         let trailer = len + 8 == bits && !exact && (len..bits).all(|i| !bit(&self.window().bytes, i));
-        (!nothing && !trailer).then_some("the opening and the window are both clean")
+        (!trailer).then_some("the opening and the window are both clean")
     }
 
     /// A kept tail at the opening's end doesn't count: the whole window may go on in it.
@@ -129,7 +140,7 @@ impl OpeningCase {
                 ));
             }
         }
-        Ok((walked(long.clean), u64::from(bits) + 1))
+        Ok((walked(long.verdict), u64::from(bits) + 1))
     }
 
     pub fn line(&self) -> String {

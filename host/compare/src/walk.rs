@@ -3,6 +3,7 @@ use crate::answer::{Difference, Outcome, told, walked};
 use crate::lent::Room;
 use crate::port::Desk;
 use crate::tables::{Declared, Schema};
+use crate::verdicts;
 use crate::window::Window;
 use decode::array::{ArrayDecodeStats, FlattenedField, decode_struct_array, decode_struct_array_exact};
 use oracle::answers::counters;
@@ -20,19 +21,32 @@ pub struct WalkCase {
 }
 
 /// A walk's whole answer: what is counted, and what stands in the buffers.
-#[derive(Default, PartialEq)]
+#[derive(PartialEq)]
 pub struct Flat {
     pub counters: [u64; 7],
-    pub clean: bool,
+    pub verdict: Verdict,
     pub leaves: Vec<u32>,
     pub paths: Vec<u8>,
     pub payloads: Vec<u8>,
 }
 
+/// Of a walk that was sent nothing.
+impl Default for Flat {
+    fn default() -> Self {
+        Self {
+            counters: [0; 7],
+            verdict: Verdict::Empty,
+            leaves: vec![],
+            paths: vec![],
+            payloads: vec![],
+        }
+    }
+}
+
 impl Flat {
-    fn fill(&mut self, fields: &[FlattenedField], stats: &ArrayDecodeStats) {
+    fn fill(&mut self, bits: u32, fields: &[FlattenedField], stats: &ArrayDecodeStats) {
         self.counters = counters(stats);
-        self.clean = stats.is_clean();
+        self.verdict = verdicts::of_leaves(bits, stats.is_clean());
         self.leaves.clear();
         self.paths.clear();
         self.payloads.clear();
@@ -55,7 +69,7 @@ impl fmt::Display for Flat {
         for c in self.counters {
             write!(f, "{c} ")?;
         }
-        let verdict = if self.clean { "clean" } else { "partial" };
+        let verdict = verdicts::word(self.verdict);
         let (leaves, paths, payloads) = (self.leaves.len() / LEAF_WORDS, self.paths.len(), self.payloads.len());
         write!(f, "{verdict} need {leaves} {paths} {payloads}")?;
         for l in self.leaves.chunks(LEAF_WORDS) {
@@ -121,7 +135,7 @@ impl WalkCase {
     /// `expected` is scratch: it holds the Rust's answer afterwards.
     pub fn check(&self, desk: &mut Desk, expected: &mut Flat) -> Result<Outcome, Difference> {
         let (fields, stats) = self.rust();
-        expected.fill(&fields, &stats);
+        expected.fill(self.window.bits, &fields, &stats);
         let needs = expected.needs();
         for room in Room::all(needs) {
             let lent = room.of(needs);
@@ -139,8 +153,8 @@ impl WalkCase {
                 return Err(Difference::new(call, format!("{asked}{expected}"), shown(&answer, desk, needs)));
             }
         }
-        crate::dropin::walk(self, &fields, &stats)?;
-        Ok(walked(expected.clean))
+        crate::dropin::walk(self, &fields, &stats, expected.verdict)?;
+        Ok(walked(expected.verdict))
     }
 
     pub fn smaller(&self) -> Box<dyn Iterator<Item = Self> + '_> {
@@ -168,7 +182,7 @@ fn agrees(answer: &Result<Walk, Refusal>, desk: &Desk, e: &Flat, room: Room) -> 
         (Ok(w), Room::Full | Room::Longer) => {
             (w.leaves, w.path_bytes, w.payload_bytes) == (leaves, paths, payloads)
                 && port_counters(&w.counters) == e.counters
-                && (w.verdict == Verdict::Clean) == e.clean
+                && w.verdict == e.verdict
                 && desk.leaves.holds(&e.leaves)
                 && desk.paths.holds(&e.paths)
                 && desk.payloads.holds(&e.payloads)
@@ -184,7 +198,7 @@ fn shown(answer: &Result<Walk, Refusal>, desk: &Desk, needs: [usize; 3]) -> Stri
         Ok(w) => {
             let flat = Flat {
                 counters: port_counters(&w.counters),
-                clean: w.verdict == Verdict::Clean,
+                verdict: w.verdict,
                 leaves: desk.leaves.front(LEAF_WORDS * w.leaves).to_vec(),
                 paths: desk.paths.front(w.path_bytes).to_vec(),
                 payloads: desk.payloads.front(w.payload_bytes).to_vec(),

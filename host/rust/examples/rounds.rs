@@ -14,7 +14,12 @@ fn main() -> std::io::Result<()> {
         let bits = u32::try_from(bytes.len() * 8).unwrap_or(u32::MAX);
         let mut stats = ArrayDecodeStats::default();
         let leaves = decode_struct_array(&bytes, bits, Some(&COMBAT_ROUNDS_SCHEMA), &DECLARED, &mut stats);
-        println!("{file}: {}", if stats.is_clean() { "clean" } else { "partial" });
+        let found = match stats.is_clean() {
+            _ if bits == 0 => "empty, nothing was sent",
+            true => "clean",
+            false => "partial",
+        };
+        println!("{file}: {found}");
         for leaf in leaves {
             println!("  {}, {} bits: {:02x?}", leaf.path, leaf.bit_count, leaf.raw_bits);
         }

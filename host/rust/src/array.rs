@@ -36,7 +36,7 @@ pub struct Decoded<T> {
     pub values: Vec<T>,
     /// What this walk counted.
     pub stats: ArrayDecodeStats,
-    /// Whether anything is damaged or missing.
+    /// Whether anything is damaged or missing, or nothing was sent.
     pub verdict: Verdict,
 }
 
@@ -85,6 +85,10 @@ pub fn decode_struct_array(
 /// // without the last of its closing zeros
 /// let walk = try_decode_struct_array(&window, 48, None, &[])?;
 /// assert_eq!((walk.values.len(), walk.stats.implicit_terminations, walk.verdict), (1, 1, Verdict::Partial));
+///
+/// // nothing was sent; and an array of no elements, which was
+/// assert_eq!(try_decode_struct_array(&[], 0, None, &[])?.verdict, Verdict::Empty);
+/// assert_eq!(try_decode_struct_array(&[0x00, 0x00], 16, None, &[])?.verdict, Verdict::Clean);
 ///
 /// // a bit too long, and a name that is a byte too long
 /// assert_eq!(try_decode_struct_array(&window, 524_289, None, &[]).unwrap_err().number, 1);

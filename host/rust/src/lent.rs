@@ -127,22 +127,25 @@ impl fmt::Display for Refusal {
 
 impl std::error::Error for Refusal {}
 
-/// What a walk's window is worth.
+/// What a walk's window is worth. A sheet has a row for a clean window, a marked one for a partial, and none for an empty.
 #[derive(Debug, Clone, Copy, PartialEq, Eq)]
 #[must_use]
 pub enum Verdict {
-    /// It was read to its end and nothing is missing: the last five counters are 0.
+    /// All of it was read, as one whole array: it has bits, and the last five counters are 0.
     Clean,
-    /// Something is damaged or missing.
+    /// Something is broken, cut off, over a limit or left unread; the last five counters say which.
     Partial,
+    /// Nothing was sent: a struct or exact walk of no bits. A round with nothing to report is another thing: an array of no elements,
+    /// which has bits and is clean.
+    Empty,
 }
 
 #[inline]
 fn verdict_of(number: u32) -> Verdict {
-    if number == 0 {
-        Verdict::Clean
-    } else {
-        Verdict::Partial
+    match number {
+        0 => Verdict::Clean,
+        2 => Verdict::Empty,
+        _ => Verdict::Partial,
     }
 }
 
@@ -200,7 +203,7 @@ pub struct Walk {
     pub payload_bytes: usize,
     /// What the walk counted, from zero.
     pub counters: ArrayDecodeStats,
-    /// Clean or partial.
+    /// Clean, partial or, of no bits, empty.
     pub verdict: Verdict,
 }
 
@@ -212,7 +215,7 @@ pub struct Objects {
     pub pairs: usize,
     /// What the walk counted, from zero.
     pub counters: ArrayDecodeStats,
-    /// Clean or partial.
+    /// Clean or partial; of no bits it is partial, with one error.
     pub verdict: Verdict,
 }
 
@@ -381,12 +384,16 @@ pub fn merge(left: &ArrayDecodeStats, right: &ArrayDecodeStats) -> Result<ArrayD
     }
 }
 
-/// The verdict on what a walk counted.
+/// The verdict on a set of counters, of one walk or of several merged: clean or partial. Never empty: the rule on no bits is a window's,
+/// and counters don't tell how many bits were walked. Of a single window take the verdict of its walk.
 ///
 /// ```
-/// # use vrf_proved::{lent::{self, Verdict}, ArrayDecodeStats};
+/// # use vrf_proved::{lent::{self, Buffers, Tables, Verdict}, ArrayDecodeStats};
+/// let nothing = lent::struct_array(&[], 0, Tables::NONE, Buffers::default())?;
+/// assert_eq!((nothing.verdict, lent::verdict(&nothing.counters)), (Verdict::Empty, Verdict::Clean));
 /// assert_eq!(lent::verdict(&ArrayDecodeStats { fields_emitted: 1, ..Default::default() }), Verdict::Clean);
 /// assert_eq!(lent::verdict(&ArrayDecodeStats { truncations: 1, ..Default::default() }), Verdict::Partial);
+/// # Ok::<(), lent::Refusal>(())
 /// ```
 #[inline]
 pub fn verdict(counters: &ArrayDecodeStats) -> Verdict {

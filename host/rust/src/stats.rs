@@ -60,7 +60,8 @@ impl ArrayDecodeStats {
         Ok(())
     }
 
-    /// Whether nothing is damaged or missing: the last five counters are 0.
+    /// Whether nothing is damaged or missing: the last five counters are 0. That is so too where nothing was sent: the counters of a window
+    /// of no bits are all 0. The `try_` forms give a window's own verdict, which is [`Verdict::Empty`] then.
     ///
     /// ```
     /// use vrf_proved::ArrayDecodeStats;

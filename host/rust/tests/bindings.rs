@@ -159,8 +159,11 @@ fn struct_walks() {
 
     let cut = lent::struct_array(&window.bytes[1..], window.bits, Tables::NONE, Buffers::default()).unwrap();
     assert_eq!(cut.counters, stats([0, 0, 0, 1, 0, 0, 0]), "a window past its bytes");
-    let empty = lent::struct_array(&[0, 0], 16, Tables::NONE, Buffers::default()).unwrap();
-    assert_eq!((empty.counters, empty.verdict), (stats([0; 7]), Verdict::Clean));
+    let no_elements = lent::struct_array(&[0, 0], 16, Tables::NONE, Buffers::default()).unwrap();
+    assert_eq!((no_elements.counters, no_elements.verdict), (stats([0; 7]), Verdict::Clean));
+    let no_bits = lent::struct_array(&window.bytes, 0, tables, Buffers::default()).unwrap();
+    assert_eq!((no_bits.counters, no_bits.verdict), (stats([0; 7]), Verdict::Empty));
+    assert_eq!(refused(0, broken), (2, [0; 3]), "a refusal, however few bits");
 }
 
 #[test]
@@ -188,6 +191,10 @@ fn exact_walks() {
     assert_eq!(refused(&window.bytes, lent::LONGEST_WINDOW + 1, &declared[1..], pool), (1, [0; 3]));
     assert_eq!(refused(&window.bytes, window.bits, &declared[1..], pool), (2, [0; 3]));
     assert_eq!(refused(&window.bytes, window.bits, &declared, &pool[1..]), (2, [0; 3]));
+    let no_bits = lent::struct_array_exact(&window.bytes, 0, &declared, pool, Buffers::default()).unwrap();
+    assert_eq!((no_bits.counters, no_bits.verdict), (stats([0; 7]), Verdict::Empty));
+    let no_elements = lent::struct_array_exact(&[0, 0], 16, &[], &[], Buffers::default()).unwrap();
+    assert_eq!((no_elements.counters, no_elements.verdict), (stats([0; 7]), Verdict::Clean));
 }
 
 #[test]
@@ -226,6 +233,8 @@ fn object_walks() {
     assert_eq!((long.number, long.values, pairs), (1, [0; 3], [WORD; 5]));
     let whole = lent::object_array(&[0, 0], 16, &mut []).unwrap();
     assert_eq!((whole.pairs, whole.counters, whole.verdict), (0, stats([0; 7]), Verdict::Clean));
+    let no_bits = lent::object_array(&window.bytes, 0, &mut []).unwrap();
+    assert_eq!((no_bits.counters, no_bits.verdict), (stats([0, 0, 0, 1, 0, 0, 0]), Verdict::Partial));
 }
 
 #[test]

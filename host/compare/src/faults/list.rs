@@ -1,7 +1,7 @@
 //! Which faults there are, and the kinds that have to tell of each.
 use super::cells::{Buffer, DELETED, FIELDS, ITEMS, LEAVES, NAMES, PAIRS, PATHS, PAYLOADS, ROWS, TARGET};
 use super::parts::Parts;
-use super::{CLEAN, Call, Fault, GIVEN, LOST, REFUSED, probed};
+use super::{CLEAN, Call, EMPTY, Fault, GIVEN, LOST, NO_BITS, REFUSED, UNCOUNTED, probed};
 use crate::probes::{Probe, ProbeCall};
 use std::sync::OnceLock;
 use vrf_proved::fastarray::FastArrayDelta;
@@ -146,8 +146,12 @@ impl List {
         self.add(Call::TryLeaves, Refusal::names("refused"), &["refusals"]);
         self.add(Call::TryPairs, Refusal::names("refused"), &["refusals"]);
         self.add(Call::Walk, vec![CLEAN.into()], &["windows", "strings", "openings", "all-openings"]);
+        self.add(Call::Walk, vec![EMPTY.into()], &["windows", "openings", "all-openings"]);
+        self.add(Call::Walk, vec![UNCOUNTED.into()], &["windows", "strings"]);
         self.add(Call::Walk, vec![LOST.into()], &["openings"]);
         self.add(Call::Objects, vec![CLEAN.into()], &["openings", "all-openings"]);
+        self.add(Call::Objects, vec![UNCOUNTED.into()], &["windows", "strings"]);
+        self.add(Call::Objects, vec![NO_BITS.into()], &["windows"]);
         self.add(Call::Objects, vec![LOST.into()], &["openings"]);
     }
 }

@@ -10,6 +10,7 @@ pub use list::all;
 use parts::Parts;
 use std::cell::Cell;
 use std::fmt;
+use vrf_proved::ArrayDecodeStats;
 use vrf_proved::lent::{
     Buffers, FIELD_WORDS, FastArray, ITEM_WORDS, LEAF_WORDS, Objects, PAIR_WORDS, Read, Refusal, Schema, Verdict, Walk,
 };
@@ -67,6 +68,9 @@ impl fmt::Display for Fault {
 }
 
 const CLEAN: &str = "partial passes for clean";
+const EMPTY: &str = "empty passes for clean";
+const UNCOUNTED: &str = "nothing counted passes for empty";
+const NO_BITS: &str = "no bits pass for empty";
 const LOST: &str = "the first record of a cut window is another";
 
 const GIVEN: &str = "given";
@@ -109,7 +113,9 @@ pub fn walk(r: &mut Result<Walk, Refusal>, lent: Buffers<'_>) {
     let filled = r.as_ref().ok().map(|w| [LEAF_WORDS * w.leaves, w.path_bytes, w.payload_bytes]);
     let Buffers { leaves, paths, payloads } = lent;
     match r {
-        Ok(w) if part == CLEAN => w.verdict = Verdict::Clean,
+        Ok(w) if part == CLEAN && w.verdict == Verdict::Partial => w.verdict = Verdict::Clean,
+        Ok(w) if part == EMPTY && w.verdict == Verdict::Empty => w.verdict = Verdict::Clean,
+        Ok(w) if part == UNCOUNTED && w.counters == ArrayDecodeStats::default() => w.verdict = Verdict::Empty,
         Ok(w) if part == LOST && w.counters.implicit_terminations > 0 && w.leaves > 0 => leaves[2] ^= 1,
         _ => r.alter(part),
     }
@@ -118,11 +124,13 @@ pub fn walk(r: &mut Result<Walk, Refusal>, lent: Buffers<'_>) {
     PAYLOADS.alter(part, payloads, filled.map(|f| f[2]));
 }
 
-pub fn objects(r: &mut Result<Objects, Refusal>, pairs: &mut [u32]) {
+pub fn objects(r: &mut Result<Objects, Refusal>, bits: u32, pairs: &mut [u32]) {
     let Some(part) = part(Call::Objects) else { return };
     let filled = r.as_ref().ok().map(|o| PAIR_WORDS * o.pairs);
     match r {
         Ok(o) if part == CLEAN => o.verdict = Verdict::Clean,
+        Ok(o) if part == UNCOUNTED && o.counters == ArrayDecodeStats::default() => o.verdict = Verdict::Empty,
+        Ok(o) if part == NO_BITS && bits == 0 => o.verdict = Verdict::Empty,
         Ok(o) if part == LOST && o.counters.implicit_terminations > 0 && o.pairs > 0 => pairs[1] ^= 1,
         _ => r.alter(part),
     }

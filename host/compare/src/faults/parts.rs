@@ -39,7 +39,11 @@ scalars! {
     bool: |b| !b;
     f32: |x| f32::from_bits(x.to_bits() ^ 1);
     f64: |x| f64::from_bits(x.to_bits() ^ 1);
-    Verdict: |v| if *v == Verdict::Clean { Verdict::Partial } else { Verdict::Clean };
+    Verdict: |v| match v {
+        Verdict::Clean => Verdict::Partial,
+        Verdict::Partial => Verdict::Empty,
+        Verdict::Empty => Verdict::Clean,
+    };
     String: |s| format!("{s}'");
     &'static str: |s| if s.is_empty() { "something" } else { "" };
 }

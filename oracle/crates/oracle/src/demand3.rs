@@ -30,7 +30,7 @@ fn bit(d: &[u8], i: u32) -> bool {
     d[(i / 8) as usize] >> (i % 8) & 1 == 1
 }
 
-/// None, or what broke. `exc` says which of the two exceptions was used.
+/// What broke, or which exception was used. By the Rust's `is_clean` there are two: a struct or exact walk of no bits, and the zero trailer.
 fn check(kind: char, data: &[u8], ls: u32, s: &Ans, ll: u32, l: &Ans) -> Result<&'static str, &'static str> {
     let mut n = s.leaves.len();
     if kind != 'O' && n > 0 && s.leaves[n - 1].1 == u32::MAX {
