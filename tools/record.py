@@ -4,17 +4,17 @@
     record.py CASES ANSWERS OUT
 
 CASES and ANSWERS are text, one line a case, matched by the id that starts each line. A case that the Rust can't answer
-has its expected answer in its own line, behind a `=`. A `#` between blanks, or at a line's start, begins a comment. OUT is
-eight bytes of magic, then for each case its size, its kind's letter, its id, its fields and the answer, all numbers with the
-low byte first; the comment at the top of crates/replay/src/main.rt states the format. Cases of other kinds are left out and
-counted on standard error.
+has its expected answer in its own line, behind a `=`. A `#` between blanks, or at a line's start, begins a comment. A struct
+or exact walk of no bits, which the Rust calls clean, is recorded as empty. OUT is eight bytes of magic, then for each case its
+size, its kind's letter, its id, its fields and the answer, all numbers with the low byte first; the comment at the top of
+crates/replay/src/main.rt states the format. Cases of other kinds are left out and counted on standard error.
 
 In the lists and pools of a case of kind L parts may be joined by `+` and repeated by `count*`: `2*0,1+5` is `0,1,0,1,5`.
 """
 import struct
 import sys
 
-MAGIC = b"VRFCASE1"
+MAGIC = b"VRFCASE2"
 # The most bytes of a case that the replay takes.
 LARGEST = 1310720
 # The numbers that it takes of a case of kind L: of rows, of declared names.
@@ -313,11 +313,23 @@ def declared_of(word):
     return listed(flat(entries), DECLARED_ROOM) + run(hexed(names or "-"))
 
 
+# The verdict's number by its word.
+VERDICTS = {"clean": 0, "partial": 1, "empty": 2}
+# The refusals of a walk that are no question of room, by their words.
+REFUSED_WALKS = {"refused 1": 1, "refused 2": 2}
+
+
 def counted(words):
-    """Seven counters and the verdict, and the words behind `need`."""
-    if len(words) < 9 or words[7] not in ("clean", "partial") or words[8] != "need":
+    """No refusal, seven counters and the verdict, and the words behind `need`."""
+    if len(words) < 9 or words[7] not in VERDICTS or words[8] != "need":
         raise Broken("no answer of a walk")
-    return u64(*map(number, words[:7]), words[7] == "partial"), words[9:]
+    return u64(0, *map(number, words[:7]), VERDICTS[words[7]]), words[9:]
+
+
+def refused_walk(words):
+    """The refusal of a walk, with no counters and no verdict; `None` for any other answer."""
+    refusal = REFUSED_WALKS.get(" ".join(words))
+    return None if refusal is None else u64(refusal, *[0] * 8)
 
 
 def unescaped(text):
@@ -352,26 +364,32 @@ def leaves_of(words):
     return u64(*needs, 1) + run(u32(*records)) + run(bytes(paths)) + run(bytes(payloads))
 
 
+def flattened(answer):
+    """The answer of a struct or exact walk."""
+    refused = refused_walk(answer)
+    counts, rest = (refused, ["0", "0", "0"]) if refused else counted(answer)
+    return counts + leaves_of(rest)
+
+
 def struct_walk(words, answer):
     if len(words) != 4:
         raise Broken("4 fields were expected")
     bits, data, schema, declared = words
-    counts, rest = counted(answer)
-    return schema_of(schema) + declared_of(declared) + u64(number(bits, 32)) + run(hexed(data)) + counts + leaves_of(rest)
+    return schema_of(schema) + declared_of(declared) + u64(number(bits, 32)) + run(hexed(data)) + flattened(answer)
 
 
 def exact_walk(words, answer):
     if len(words) != 4 or words[2] != "-":
         raise Broken("4 fields were expected, the third `-`")
     bits, data, _, declared = words
-    counts, rest = counted(answer)
-    return declared_of(declared) + u64(number(bits, 32)) + run(hexed(data)) + counts + leaves_of(rest)
+    return declared_of(declared) + u64(number(bits, 32)) + run(hexed(data)) + flattened(answer)
 
 
 def object_walk(words, answer):
     if len(words) != 2:
         raise Broken("2 fields were expected")
-    counts, rest = counted(answer)
+    refused = refused_walk(answer)
+    counts, rest = (refused, ["0"]) if refused else counted(answer)
     pairs = [number(v, 32) for w in rest[1:] for v in w.split(":")]
     if number(rest[0]) != len(pairs) // 2:
         raise Broken("the need is not that of the pairs")
@@ -420,12 +438,19 @@ def answers_of(path):
     return answers
 
 
+def by_the_rules(words, answer):
+    """The Rust's answer, with the verdict of the rules: it calls a struct or exact walk of no bits clean, which is empty."""
+    if answer and words[1] in ("S", "X") and words[2:3] == ["0"] and answer[7:8] == ["clean"]:
+        return answer[:7] + ["empty"] + answer[8:]
+    return answer
+
+
 def answered(words, answers):
     """A case's words, and those of its answer: its own, or the one of its id."""
     words, own = before(words, "=")
     if own and words[0] in answers:
         raise Broken("a second answer of case %s" % words[0])
-    answer = own or answers.get(words[0])
+    answer = own or by_the_rules(words, answers.get(words[0]))
     if answer is None:
         raise Broken("no answer of case %s" % words[0])
     if answer[:1] == ["PANIC"]:

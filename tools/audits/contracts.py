@@ -22,7 +22,6 @@ RELATIONS = {
     ("fastarray", "specs/Answers", "Answered"),
     ("exports", "specs/WalkResults", "Walks"),
     ("exports", "specs/WalkResults", "WalksPairs"),
-    ("exports", "specs/WalkResults", "JudgesByNumber"),
     ("exports", "specs/WalkResults", "DecodesBody"),
 }
 # records of several lists side by side: nothing but a name for all of them

@@ -16,6 +16,10 @@ NEVER_REFUSING = ("bits::decimal::", "bits::digits::", "schema::labels::", "sche
 SAYING = "said"
 # walks: a cut window is the front of the whole one
 CUT = {"array::decode_struct_array", "array::decode_struct_array_exact", "array::decode_object_ref_array"}
+# calls that answer a verdict, on a window or on counters
+JUDGE = CUT | {
+    "exports::vrf_struct_array", "exports::vrf_struct_array_exact", "exports::vrf_object_array", "array::stats::verdict", "exports::vrf_verdict",
+}
 
 
 def refuses(call):
@@ -43,4 +47,5 @@ KINDS = {
     "outside": lambda call: window_of(call) is not None,
     "longer": owes_longer,
     "prefix": lambda call: call.name in CUT,
+    "judged": lambda call: call.name in JUDGE,
 }

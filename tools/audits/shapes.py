@@ -16,6 +16,8 @@ for several lists side by side (MAKERS of contracts.py). In all kinds:
              and each buffer; or two answers that meet it coincide, with the buffers
   longer-    the same where both lists hold the cursor's window, however many bytes follow
   prefix-    under FirstBits, and two accepted answers that meet the contract: Begins, or PairsBegin, of these answers and buffers
+  judged-    under the contract: OnWindow of an accepted answer's counters and verdict, or InC of the struct for C, with the call's own walk
+             and bits; OnSet of an answer on counters alone
 """
 import re
 
@@ -28,9 +30,16 @@ from .terms import arguments, head, parts, parts_as_variables, sides, variables
 OF_DETERMINING = ("promises", "specs/Determining")
 OF_OUTSIDE = ("promises", "specs/Outside")
 OF_PREFIX = ("promises", "specs/Prefix")
+OF_VERDICTS = ("promises", "specs/Verdicts")
 FIRST_OF = ("bits", "specs/Refusals", "firstOf")
 NUMBERED_RULES = ("promises", "specs/ExportOrders", "numberedRules")
 ROOM_IN = ("array", "specs/Refusals", "roomIn")
+COUNTERS_OF = ("array", "specs/Refusals", "countersOf")
+COUNTERS_IN = ("exports", "specs/WalkResults", "countersIn")
+VERDICT_NAMED = ("array", "specs/Calls", "verdictNamed")
+VERDICT_NUMBER = ("exports", "specs/WalkResults", "verdictNumber")
+# the walk that a call of `array` is: its arguments, by their places among the call's
+WALKERS = {"structCall": ("struct", (2, 4)), "exactCall": ("exact", (2, 3))}
 SOME = ("library", "mathlib.Core.Option", "some")
 LENGTH = ("library", "lib.ListN", "length")
 STORE = ("bits", "specs/Runs", "store")
@@ -40,6 +49,19 @@ ACCEPTED = {"Decoded"}
 
 def length(tree):
     return ("app", ("name", LENGTH, "length"), (tree,))
+
+
+def named(meaning):
+    return ("name", meaning, meaning[2])
+
+
+def walker_in(premise):
+    """The walk that a contract speaks of, as a definition of framing; the object walk's contract has no call among its arguments."""
+    call = arguments(premise)[0]
+    if head(call) is None:
+        return named(("framing", "specs/Sinks", "object"))
+    name, places = WALKERS[head(call)[2]]
+    return ("app", named(("framing", "specs/Sinks", name)), tuple(arguments(call)[k] for k in places))
 
 
 class Shapes(Spoken):
@@ -227,20 +249,8 @@ class Shapes(Spoken):
         rest = [p for p in statement.premises if p not in bits]
         if len(bits) != 1 or len(rest) != 2 or len(self.contract.clauses) != 1:
             raise Wrong("its premises are not FirstBits and two answers that meet the contract")
-        whole = self.contract.clauses[0].whole
-        place = arguments(whole).index(ANSWER)
-        told, found = [], [{}, {}]
-        for premise, held in zip(rest, found):
-            answer = arguments(premise)[place] if len(arguments(premise)) > place else ("var", "")
-            kind = self.code.resolve(*self.call.node[:2], self.call.returns)
-            if head(answer) is None or head(answer)[1] != kind or head(answer)[2] not in ACCEPTED or any(a[0] != "var" for a in arguments(answer)):
-                raise Wrong("its answers are not accepted ones")
-            told.append([a[1] for a in arguments(answer)])
-            plain = list(arguments(premise))
-            plain[place] = ("var", " r")
-            self.open.add(" r")
-            if not self.fits(("app", premise[1], tuple(plain)), whole, held):
-                raise Wrong("its premises are not two answers that meet the contract")
+        found = [{}, {}]
+        told = [self.accepted(premise, held) for premise, held in zip(rest, found)]
         longer, shorter, n, m = arguments(bits[0])
         window, count = ("var", window_of(self.call)), next(("var", p.name) for p in self.call.parameters if p.name in COUNTS)
         if [found[1].get(longer[1]), found[0].get(shorter[1]), found[1].get(n[1]), found[0].get(m[1])] != [window, window, count, count]:
@@ -262,3 +272,54 @@ class Shapes(Spoken):
         if name is None or name[1][:2] != OF_PREFIX or arguments(statement.conclusion) != expected.get(name[2]):
             raise Wrong("it doesn't end in what begins with what")
         self.all_stand(statement, *found, dict.fromkeys(values))
+
+    def accepted(self, premise, found):
+        """The variables of an accepted answer that meets the contract, which the premise says."""
+        whole = self.contract.clauses[0].whole
+        place = arguments(whole).index(ANSWER)
+        answer = arguments(premise)[place] if len(arguments(premise)) > place else ("var", "")
+        kind = self.code.resolve(*self.call.node[:2], self.call.returns)
+        if head(answer) is None or head(answer)[1] != kind or head(answer)[2] not in ACCEPTED or any(a[0] != "var" for a in arguments(answer)):
+            raise Wrong("its answers are not accepted ones")
+        plain = list(arguments(premise))
+        plain[place] = ("var", " r")
+        self.open.add(" r")
+        if not self.fits(("app", premise[1], tuple(plain)), whole, found):
+            raise Wrong("its premises are not answers that meet the contract")
+        return [a[1] for a in arguments(answer)]
+
+    def judged(self, statement):
+        self.opened(statement)
+        if len(statement.premises) != 1 or len(self.contract.clauses) != 1:
+            raise Wrong("its premise is not an answer that meets the contract")
+        premise, found, told = statement.premises[0], {}, []
+        if window_of(self.call) and self.call.name.startswith("array::"):
+            told = self.accepted(premise, found)
+        elif not self.fits(premise, self.contract.clauses[0].whole, found):
+            raise Wrong("its premise is not an answer that meets the contract")
+        name = head(statement.conclusion)
+        expected = self.of_window(premise, found, told) if window_of(self.call) else self.of_set(found)
+        if name is None or name[1] != (*OF_VERDICTS, expected[0]) or arguments(statement.conclusion) != expected[1]:
+            raise Wrong("it doesn't end in what the verdict says of this call's window or counters")
+        if len(set(told)) != len(told) or set(told) & set(found):
+            raise Wrong("its answer is not any accepted one")
+        self.all_stand(statement, found, dict.fromkeys(told))
+
+    def of_window(self, premise, found, told):
+        """What has to be said of the verdict on a walk's window."""
+        bits = next(("var", v) for v in found if found[v] == ("var", "bits"))
+        walk = (walker_in(premise), bits)
+        if told:
+            stats, verdict = (("var", v) for v in told[:2])
+            return "OnWindow", (named(VERDICT_NAMED), *walk, ("app", named(COUNTERS_OF), (stats,)), verdict)
+        r = next(("var", v) for v in found if found[v] == ANSWER)
+        counters = ("app", named(COUNTERS_IN), (("get", r, "counters"),))
+        return "InC", (*walk, ("get", r, "refusal"), counters, ("get", r, "verdict"))
+
+    def of_set(self, found):
+        """What has to be said of the verdict on counters alone."""
+        r = next(("var", v) for v in found if found[v] == ANSWER)
+        counters = next(("var", v) for v in found if found[v] != ANSWER)
+        own = self.call.name.startswith("array::")
+        form = VERDICT_NAMED if own else VERDICT_NUMBER
+        return "OnSet", (named(form), ("app", named(COUNTERS_OF if own else COUNTERS_IN), (counters,)), r)

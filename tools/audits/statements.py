@@ -40,7 +40,7 @@ STATED = {
               → BeforeTail all records n
 
         abbrev pub NotClean : Walker → (bytes : List ℕ) (n m : ℕ) → (long short : Verdict) → Type 0
-        NotClean k bytes n m long short = long ≡ Clean → m < n → short ≡ Clean → Excused k (windowOf bytes n) m
+        NotClean k bytes n m long short = long ≡ Clean → m < n → short ≡ Clean → LacksTrailer (sinkOf k) (windowOf bytes n) m
 
         pub record Begins (short long : Call) (v w : Verdict) (e f : Room) (x y : Lent) : Type 0 where
           pub shared : Room
@@ -57,9 +57,42 @@ STATED = {
           pub not-clean : NotClean object longer n m w v
         """,
     ("framing", "specs/Demand"): """
-        pub data Excused (k : Walker) (w : Window) (m : ℕ) : Type 0 where
-          nothing-sent : silent k m ≡ true → Excused k w m
-          lacks-trailer : (sinkOf k) .trailer ≡ true → m + trailerBits ≡ w .size → field (w .bits) m trailerBits ≡ 0 → Excused k w m
+        pub record LacksTrailer (s : Sink) (w : Window) (m : ℕ) : Type 0 where
+          pub takes-one : s .trailer ≡ true
+          pub lacks-one : m + trailerBits ≡ w .size
+          pub zero : field (w .bits) m trailerBits ≡ 0
+        """,
+    ("promises", "specs/Verdicts"): """
+        abbrev pub Exactly : (A B : Type 0) → Type 0
+        Exactly A B = (A → B) × (B → A)
+
+        pub record OnWindow {A : Type 0} (form : F.Verdict → A) (k : Walker) (bits : ℕ) (c : Counters) (v : A) : Type 0 where
+          pub empty : Exactly (v ≡ form F.empty) (Leafy k × (bits ≡ 0))
+          pub clean : Exactly (v ≡ form F.clean) ((1 ≤ bits) × (isClean c ≡ true))
+          pub partial : Exactly (v ≡ form F.partial) (isClean c ≡ false)
+          pub nothing-counted : Leafy k → bits ≡ 0 → c ≡ counted 0 0 0 0 0 0 0
+          pub error-counted : (Leafy k → ⊥) → bits ≡ 0 → c ≡ counted 0 0 0 1 0 0 0
+
+        pub record InC (k : Walker) (bits refusal : ℕ) (c : Counters) (v : ℕ) : Type 0 where
+          pub refused : (refusal ≡ 0 → ⊥) → v ≡ 0
+          pub accepted : refusal ≡ 0 → OnWindow verdictNumber k bits c v
+
+        pub record OnSet {A : Type 0} (form : F.Verdict → A) (c : Counters) (v : A) : Type 0 where
+          pub clean : Exactly (v ≡ form F.clean) (isClean c ≡ true)
+          pub partial : Exactly (v ≡ form F.partial) (isClean c ≡ false)
+          pub not-empty : v ≡ form F.empty → ⊥
+        """,
+    ("array", "specs/Calls"): """
+        abbrev pub verdictNamed : F.Verdict → Verdict
+        verdictNamed F.clean = verdict.Clean
+        verdictNamed F.partial = verdict.Partial
+        verdictNamed F.empty = verdict.Empty
+        """,
+    ("exports", "specs/WalkResults"): """
+        abbrev pub verdictNumber : Verdict → ℕ
+        verdictNumber clean = 0
+        verdictNumber partial = 1
+        verdictNumber empty = 2
         """,
     ("promises", "specs/ExportOrders"): """
         abbrev pub numberedRules : {R : Type 0} → (R → Numbered) → List (Rule R) → List (Rule Numbered)
