@@ -12,8 +12,7 @@ use Rattle.bits.specs.Sizes.{longestWindow, levelsBelow}
 use Rattle.schema.specs.Tables.{Tables, tables, absent}
 use Rattle.schema.specs.Spans.{spansOf}
 use Rattle.schema.specs.Layout.{laidOut, schemaLaid, declaredLaid, schemaSized, declaredSized, rootFits, allFrom}
-use Rattle.schema.proofs.LaidLaws.{leaf-lies, container-lies}
-use Rattle.schema.proofs.LaidLaws as Laws
+use Rattle.schema.proofs.LaidLaws.{labels-lie}
 use Rattle.framing.specs.declared.Walk.{Walk}
 use Rattle.framing.specs.Windows.{windowOf}
 use Rattle.framing.specs.Events.{error, Trace}
@@ -80,9 +79,7 @@ module _ (s : Walk) (t : Tables) (root : ℕ) (bytes : List ℕ) (n : ℕ) (x : 
 -- ---- what a pass asks
 
 pub passable : (n : ℕ) (t : Tables) (levels root : ℕ) → ltb longestWindow n ≡ false → laidOut t levels root ≡ true → Passable n t
-passable n t levels root small good =
-    let l = Laws.laid t levels root good in
-    record { small = ltb-false longestWindow n small; labels = record { leaf = leaf-lies t levels root l; container = container-lies t levels root l } }
+passable n t levels root small good = record { small = ltb-false longestWindow n small; labels = labels-lie t levels root good }
 
 -- no tables keep their layout
 pub none-laid : laidOut (tables [] [] [] []) 0 absent ≡ true

@@ -1,15 +1,15 @@
 -- The laws of decimals: the last digit apart, how many digits there are, and a run of bytes that grows to the left.
-use mathlib.Core.Path.{_≡_, sym, ap, _∙_}
+use mathlib.Core.Path.{_≡_, refl, sym, ap, _∙_}
 use mathlib.Core.List.{List, [], _∷_, _++_, append-assoc}
 use mathlib.Core.Bool.{Bool, true, false}
-use Prim.Native.Nat.{ℕ, zero, suc, _+_, _-_, _/_, _%_, _^_, _≤_, _<_}
-use native.Mathlib.Nat.{pow-suc}
+use Prim.Native.Nat.{ℕ, zero, suc, _+_, _-_, _*_, _/_, _%_, _^_, _≤_, _<_}
+use native.Mathlib.Nat.{pow-suc, div-lt-iff-lt-mul, zero-lt-suc}
 use native.Mathlib.Numerals.{add-one}
 use native.Mathlib.Omega.{arith}
 use lib.Dec.{ltb}
 use lib.ListN.{length, getD, take, drop, set, length-append}
 use lib.Seq.{take-suc, set-at, length-take-le}
-use borrow.Author.Tests.{lt-ltb, le-ltb}
+use borrow.Author.Tests.{lt-ltb, le-ltb, ltb-false}
 use Rattle.bits.specs.Choice.{if_then_else_}
 use Rattle.bits.specs.Runs.{put}
 use Rattle.bits.specs.Decimals.{digits, decimal}
@@ -54,6 +54,25 @@ digits-some (suc more) n = go (ltb n 10) (digits-some more (n / 10))
 pub decimal-some : (n : ℕ) → (1 ≤ length (decimal n)) × (length (decimal n) ≤ 10)
 unfolding decimal
 decimal-some n = digits-some 9 n
+
+-- a number below 10 ^ (k + 1) has at most k + 1 of them: each but the last takes a tenth
+digits-few : (more k n : ℕ) → n < 10 ^ suc k → length (digits more n) ≤ suc k
+unfolding digits
+digits-few zero k n h = omega arith
+digits-few (suc more) k n h = go (ltb n 10) refl k h (λ j. digits-few more j (n / 10))
+  where
+    go : (b : Bool) → ltb n 10 ≡ b → (j : ℕ) → n < 10 ^ suc j → ((i : ℕ) → n / 10 < 10 ^ suc i → length (digits more (n / 10)) ≤ suc i)
+        → length (digits (suc more) n) ≤ suc j
+    go true e j lt f = rw e (omega arith)
+    go false e zero lt f = let ge = ltb-false n 10 e in absurd (omega arith)
+    go false e (suc j) lt f =
+        let lt′ : n < 10 ^ suc j * 10 = rw pow-suc at lt in
+        let r = f j (div-lt-iff-lt-mul (zero-lt-suc 9) .1 lt′) in
+        rw (e, length-append) (omega arith)
+
+pub decimal-few : (k n : ℕ) → n < 10 ^ suc k → length (decimal n) ≤ suc k
+unfolding decimal
+decimal-few k n h = digits-few 9 k n h
 
 -- a run that is written from its end on
 pub put-before : (d run : List ℕ) (k x : ℕ) → k < length d → set (put d (k + 1) run) k x ≡ put d k (x ∷ run)

@@ -1,5 +1,5 @@
 -- The sizes of document 01 (Sizes), each once. crates/bits/src/sizes.rt has the same numbers for code.
-use Prim.Native.Nat.{ℕ, _-_}
+use Prim.Native.Nat.{ℕ, _+_, _-_}
 
 -- ---- windows and walks
 
@@ -27,10 +27,6 @@ levelsBelow = maxNesting - 1
 abbrev pub trailerBits : ℕ
 trailerBits = 8
 
--- bytes of a working path
-abbrev pub longestPath : ℕ
-longestPath = 1024
-
 -- ---- tables
 
 -- levels of a schema
@@ -52,3 +48,16 @@ maxName = 64
 -- bytes of a name pool
 abbrev pub maxPool : ℕ
 maxPool = 65536
+
+-- ---- paths
+
+-- bytes of `[index]`, whose index is below maxElements, and of `.label`, at most
+abbrev pub longestIndex : ℕ
+longestIndex = 6
+
+abbrev pub longestLabel : ℕ
+longestLabel = 1 + maxName
+
+-- bytes of a path: twelve levels of both (framing, proofs/LongestPath). Document 01 allows 1,024.
+abbrev pub longestPath : ℕ
+longestPath = 852

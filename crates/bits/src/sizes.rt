@@ -18,9 +18,6 @@ pub const LEVELS_BELOW: u32 = MAX_NESTING - 1;
 // The trailer's bits.
 pub const TRAILER_BITS: u64 = 8;
 
-// Bytes of a working path.
-pub const LONGEST_PATH: usize = 1024;
-
 // Levels of a schema.
 pub const MAX_LEVELS: u32 = 64;
 
@@ -35,3 +32,6 @@ pub const MAX_NAME: u32 = 64;
 
 // Bytes of a name pool.
 pub const MAX_POOL: usize = 65536;
+
+// Bytes of a path: twelve levels of an index of four digits in brackets, a dot and a name. Document 01 allows 1,024.
+pub const LONGEST_PATH: usize = 852;

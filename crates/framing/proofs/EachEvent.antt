@@ -39,7 +39,7 @@ May k (root n) = Unit
 
 -- ---- the pieces
 
-each-append : {A : Type 0} (ok : A → Type 0) (a b : List A) → Each ok a → Each ok b → Each ok (a ++ b)
+pub each-append : {A : Type 0} (ok : A → Type 0) (a b : List A) → Each ok a → Each ok b → Each ok (a ++ b)
 each-append ok [] b h k = k
 each-append ok (x ∷ a) b h k = (h .0, each-append ok a b (h .1) k)
 

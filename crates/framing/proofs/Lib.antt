@@ -10,6 +10,7 @@ pub mod RecordLaws
 pub mod Induct
 pub mod Lift
 pub mod EachEvent
+pub mod LongestPath
 pub mod Weighed
 pub mod Bounded
 pub mod PairOrder

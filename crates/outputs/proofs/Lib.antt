@@ -8,3 +8,4 @@ pub mod Passes
 pub mod Fronts
 pub mod Padding
 pub mod Example
+pub mod NeverFive

@@ -11,7 +11,7 @@ use Rattle.bits.specs.Choice.{if_then_else_}
 use Rattle.bits.specs.Sizes.{maxLevels, maxRows, maxHandles, maxName, maxPool}
 use Rattle.schema.specs.Tables.{Tables, absent, nameKind, cell, rowMatches, rowCount, rowOf, nameAt, schemaName, declaredName}
 use Rattle.schema.specs.Layout.{allFrom, nameFits, kindFits, rowFits, declaredFits, schemaSized, declaredSized, rootFits, schemaLaid, declaredLaid, laidOut}
-use Rattle.schema.specs.Labels.{bySchema, byDeclaration, containerLabel, leafLabel, labelBytes, labelLength, labelPart, NameLies, LabelLies}
+use Rattle.schema.specs.Labels.{bySchema, byDeclaration, containerLabel, leafLabel, labelBytes, labelLength, labelPart, NameLies, LabelLies, LabelsLie}
 use Rattle.schema.specs.declared.Row.{Row}
 use Rattle.schema.specs.declared.Row.the-variants as Row
 use Rattle.schema.specs.declared.Name.{Name}
@@ -157,6 +157,9 @@ module _ (t : Tables) (levels root : ℕ) (l : Laid t levels root) where
       go : (n : Name) → declaredName (t .declared) handle ≡ n → LabelLies t (containerLabel t level handle) → LabelLies t (byDeclaration n (containerLabel t level handle))
       go (At start len) e other = declared-lies t levels root l handle start len e
       go Unnamed e other = other
+
+pub labels-lie : (t : Tables) (levels root : ℕ) → laidOut t levels root ≡ true → LabelsLie t
+labels-lie t levels root good = let l = laid t levels root good in record { leaf = leaf-lies t levels root l; container = container-lies t levels root l }
 
 -- the part that a label names is its bytes, unless it is plain
 pub label-bytes : (t : Tables) (handle : ℕ) (x : Label) → LabelLies t x → (x ≡ Plain → ⊥)

@@ -5,3 +5,4 @@ pub mod LabelLaws
 pub mod LaidLaws
 pub mod CopyLaws
 pub mod TwelveLaws
+pub mod PathLengths
