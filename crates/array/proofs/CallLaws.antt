@@ -2,7 +2,7 @@
 use mathlib.Core.Path.{_≡_, refl, sym, ap, ap₂, _∙_, subst}
 use mathlib.Core.Bool.{Bool, true, false, _&&_}
 use mathlib.Core.List.{List, []}
-use Prim.Native.Nat.{ℕ, _^_, _≤_, _<_}
+use Prim.Native.Nat.{ℕ, _^_, _≤_}
 use native.Mathlib.Omega.{arith}
 use lib.Dec.{leb, ltb}
 use lib.ListN.{length}
@@ -17,15 +17,16 @@ use Rattle.framing.specs.Refusing.{Room, within, Answer, refused, accepted}
 use Rattle.outputs.specs.World.{World, fresh}
 use Rattle.outputs.specs.Answers.{Call, Lent, laid, roomOver, roomOf, measuredWith, measured, heldBy, Answered, PairsAnswered}
 use Rattle.outputs.proofs.NoWrap.{word}
-use Rattle.outputs.proofs.Gives.{no-leaves, no-overs}
-use Rattle.outputs.proofs.Passes.{Walked, walked-overs, walked-paths, walked-payloads, too-long, bad-tables, path-too-long, no-room, wrote, pairs-too-long, pairs-no-room, pairs-wrote}
+use Rattle.outputs.proofs.ShortPaths.{object-labelled}
+use Rattle.outputs.proofs.Gives.{no-leaves}
+use Rattle.outputs.proofs.Passes.{Walked, walked-paths, walked-payloads, too-long, bad-tables, no-room, wrote, pairs-too-long, pairs-no-room, pairs-wrote}
 use Rattle.steps.specs.Tally.{played}
 use Rattle.array.specs.Refusals.{countersOf, roomIn}
 use Rattle.array.specs.Calls.{callOf, lent, Decodes, DecodesPairs}
-use Rattle.array.specs.Passing.{wordsOf, measuring, Needs, writing, enough, TwoPasses, over-long, too-short, has-room}
+use Rattle.array.specs.Passing.{wordsOf, measuring, Needs, writing, enough, TwoPasses, too-short, has-room}
 use Rattle.array.specs.declared.Extent.{Extent}
 use Rattle.array.specs.declared.StructArray.{StructArray}
-use Rattle.array.specs.declared.StructArray.the-variants.{Decoded, TooLong, BrokenTables, PathTooLong, Short}
+use Rattle.array.specs.declared.StructArray.the-variants.{Decoded, TooLong, BrokenTables, Short}
 use Rattle.array.specs.declared.ObjectArray.{ObjectArray}
 use Rattle.array.specs.declared.ObjectArray.the-variants as objects
 use Rattle.array.proofs.PassLaws.{leafy-laid, leafy-words}
@@ -74,26 +75,24 @@ module _ (s : Walk) (flat : givesLeaves s ≡ true) (t : Tables) (levels root : 
       words = leafy-words s flat
 
       need-is : (e : Extent) → Needs k bytes bits e → roomIn e ≡ measured m
-      need-is e n = n .extent ∙ ap (λ (w : ℕ). measuredWith w m) words
+      need-is e n = n ∙ ap (λ (w : ℕ). measuredWith w m) words
 
       fits-as : (e : Extent) → Needs k bytes bits e → (x : Bool) → enough k bytes bits b e ≡ x → within (measured m) (roomOf b) ≡ x
       fits-as e n x h = sym (λ i. within (need-is e n i) (roomOver (words i) b)) ∙ h
 
       -- whatever both passes answer is the call's answer
       pub leaves-answered : (r : StructArray) (end : Lent) → TwoPasses k bytes bits b r end → Decodes call b r end
-      leaves-answered r end (over-long h) =
-          record { answered = path-too-long call b small keeps-layout flat (2 ^ 32) wide m measured-by h; judged = tt }
       leaves-answered r end (too-short {e = e} n h) =
           record {
             answered =
                 subst (λ (x : Room). Answered call b (refused 3 x) b) (sym (need-is e n))
-                (no-room call b small keeps-layout flat (2 ^ 32) wide m measured-by (n .fine) (fits-as e n false h));
+                (no-room call b small keeps-layout flat (2 ^ 32) wide m measured-by (fits-as e n false h));
             judged = tt;
           }
       leaves-answered r end (has-room {e = e} {stats = stats} n h held counts judged) =
           let u = writing k bytes bits b in
           let a : Answered call b (accepted (u .counters) (measured m)) (heldBy u) =
-          wrote call b small keeps-layout flat (2 ^ 32) wide m measured-by (n .fine) (fits-as e n true h) u (walked k bytes bits (b .leaves) (b .paths) (b .payloads) u refl) in
+          wrote call b small keeps-layout flat (2 ^ 32) wide m measured-by (fits-as e n true h) u (walked k bytes bits (b .leaves) (b .paths) (b .payloads) u refl) in
           record {
             answered =
                 subst (λ (x : Lent). Answered call b (accepted (countersOf stats) (roomIn e)) x) (sym held)
@@ -120,7 +119,6 @@ pairsAnswer (Decoded s v e) = objects.Decoded s v (e .leaves)
 pairsAnswer (Short e) = objects.Short (e .leaves)
 pairsAnswer TooLong = objects.TooLong
 pairsAnswer BrokenTables = objects.TooLong
-pairsAnswer PathTooLong = objects.TooLong
 
 module _ (bytes : List ℕ) (bits : ℕ) (b : List ℕ) where
   pub objects-long : ltb longestWindow bits ≡ true → DecodesPairs bytes bits b objects.TooLong b
@@ -139,29 +137,22 @@ module _ (bytes : List ℕ) (bits : ℕ) (b : List ℕ) where
     found-by : Walked (2 ^ 32) object bytes bits [] [] [] found
     found-by = walked object bytes bits [] [] [] found refl
 
-    -- no path grows in an object walk
-    never-over : 0 < found .overs → ⊥
-    never-over h =
-        let e = walked-overs (2 ^ 32) wide object bytes bits small-window [] [] [] found found-by in
-        let z = no-overs bytes bits in
-        omega arith
-
     module _ (e : Extent) (n : Needs object bytes bits e) where
       pairs-are : e .leaves ≡ wholeRecords pairWords (found .records .at)
-      pairs-are = ap (λ (r : Room). r .leaves) (n .extent)
+      pairs-are = ap (λ (r : Room). r .leaves) n
 
       no-paths : e .«path_bytes» ≡ 0
       unfolding pathBytes
       no-paths =
-          ap (λ (r : Room). r .pathBytes) (n .extent)
-          ∙ walked-paths (2 ^ 32) wide object bytes bits small-window [] [] [] found found-by
+          ap (λ (r : Room). r .pathBytes) n
+          ∙ walked-paths (2 ^ 32) wide object object-labelled bytes bits small-window [] [] [] found found-by
           ∙ ap (λ (l : _). length (pathBytes l)) (no-leaves bytes bits)
 
       no-payloads : e .«payload_bytes» ≡ 0
       unfolding payloadBytes
       no-payloads =
-          ap (λ (r : Room). r .payloadBytes) (n .extent)
-          ∙ walked-payloads (2 ^ 32) wide object bytes bits small-window [] [] [] found found-by
+          ap (λ (r : Room). r .payloadBytes) n
+          ∙ walked-payloads (2 ^ 32) wide object object-labelled bytes bits small-window [] [] [] found found-by
           ∙ ap (λ (l : _). length (payloadBytes l)) (no-leaves bytes bits)
 
       pairs-as : (x : Bool) → enough object bytes bits buffers e ≡ x → leb (e .leaves) (wholeRecords pairWords (length b)) ≡ x
@@ -169,7 +160,6 @@ module _ (bytes : List ℕ) (bits : ℕ) (b : List ℕ) where
 
     -- whatever both passes answer is the call's answer, a leaf of it being a pair
     pub objects-answered : (r : StructArray) (end : Lent) → TwoPasses object bytes bits buffers r end → DecodesPairs bytes bits b (pairsAnswer r) (end .leaves)
-    objects-answered r end (over-long h) = absurd (never-over h)
     objects-answered r end (too-short {e = e} n h) =
         let f = pairs-are e n in
         let few = leb-false (e .leaves) (wholeRecords pairWords (length b)) (pairs-as e n false h) in

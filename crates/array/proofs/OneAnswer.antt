@@ -58,14 +58,13 @@ structWith : Walker → (bits : ℕ) → Answer Room → StructArray
 structWith k bits (accepted c n) = structs.Decoded (statsWith c) (judged k bits c) (extentWith n)
 structWith k bits (refused number n) =
     if eqb number 1 then structs.TooLong else
-    (if eqb number 2 then structs.BrokenTables else (if eqb number 5 then structs.PathTooLong else structs.Short (extentWith n)))
+    (if eqb number 2 then structs.BrokenTables else structs.Short (extentWith n))
 
 struct-back : (k : Walker) (bits : ℕ) (r : StructArray) → Judged k bits r → structWith k bits (answerOf r) ≡ r
 unfolding structWith statsWith extentWith
 struct-back k bits (structs.Decoded s v e) j = ap (λ (x : Verdict). structs.Decoded s x e) (judged-back k bits (countersOf s) v j)
 struct-back k bits structs.TooLong j = refl
 struct-back k bits structs.BrokenTables j = refl
-struct-back k bits structs.PathTooLong j = refl
 struct-back k bits (structs.Short e) j = refl
 
 objectWith : (bits : ℕ) → Answer ℕ → ObjectArray

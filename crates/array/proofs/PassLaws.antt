@@ -16,6 +16,7 @@ use Rattle.schema.proofs.LaidLaws.{labels-lie}
 use Rattle.framing.specs.declared.Walk.{Walk}
 use Rattle.framing.specs.Windows.{windowOf}
 use Rattle.framing.specs.Events.{error, Trace}
+use Rattle.framing.specs.Paths.{levelAdds}
 use Rattle.framing.specs.Walk.{level}
 use Rattle.framing.specs.Sinks.{Walker, walker, givesLeaves, sinkOf, objectSink, walk, walkWindow}
 use Rattle.framing.specs.Counters.{counted}
@@ -24,7 +25,7 @@ use Rattle.framing.specs.Refusing.{Room, within}
 use Rattle.outputs.specs.World.{World, fresh}
 use Rattle.outputs.specs.Answers.{laid, measuredWith, heldBy}
 use Rattle.outputs.proofs.After.{no-length}
-use Rattle.steps.specs.Tally.{slots, slot, elementsSlot, fieldsSlot, truncationsSlot, errorsSlot, nestedSlot, rootSlot, implicitSlot, recordsSlot, pathsSlot, payloadsSlot, oversSlot, worldBy, worldOf, played}
+use Rattle.steps.specs.Tally.{slots, slot, elementsSlot, fieldsSlot, truncationsSlot, errorsSlot, nestedSlot, rootSlot, implicitSlot, recordsSlot, pathsSlot, payloadsSlot, worldBy, worldOf, played}
 use Rattle.steps.specs.Views.{inner, sinkFor}
 use Rattle.steps.proofs.TallyLaws.{played-none}
 use Rattle.cycle.specs.Cycle.{Ready}
@@ -87,7 +88,7 @@ unfolding laidOut schemaLaid declaredLaid schemaSized declaredSized rootFits all
 none-laid = refl
 
 pub ready : (bytes : List ℕ) (n : ℕ) (t : Tables) (spans : List ℕ) → Passable n t → spans ≡ spansOf (t .rows) → (n + 7) / 8 ≤ length bytes
-    → Ready bytes 0 n 0 t spans
+    → Ready bytes 0 n 0 (levelAdds levelsBelow) t spans
 ready bytes n t spans p e h =
     let small = p .small in
     record {
@@ -129,16 +130,9 @@ unfolding worldOf worldBy
 extent-in tally words leaves pathBytes payloadBytes e f g = λ i. record { leaves = e i; pathBytes = f i; payloadBytes = g i }
 
 module _ (k : Walker) (bytes : List ℕ) (bits : ℕ) where
-  overs-in : (tally : List ℕ) → worldOf tally [] [] [] ≡ measuring k bytes bits → slot tally oversSlot ≡ measuring k bytes bits .overs
-  unfolding worldOf worldBy
-  overs-in tally is = ap (λ (w : World). w .overs) is
-
-  pub long-in : (tally : List ℕ) → worldOf tally [] [] [] ≡ measuring k bytes bits → 0 < slot tally oversSlot → 0 < measuring k bytes bits .overs
-  long-in tally is h = let e = overs-in tally is in omega arith
-
-  pub needs-in : (e : Extent) (tally : List ℕ) → worldOf tally [] [] [] ≡ measuring k bytes bits → slot tally oversSlot ≤ 0
+  pub needs-in : (e : Extent) (tally : List ℕ) → worldOf tally [] [] [] ≡ measuring k bytes bits
       → roomIn e ≡ measuredWith (wordsOf k) (worldOf tally [] [] []) → Needs k bytes bits e
-  needs-in e tally is h x = record { fine = let z = overs-in tally is in omega arith; extent = x ∙ ap (measuredWith (wordsOf k)) is }
+  needs-in e tally is x = x ∙ ap (measuredWith (wordsOf k)) is
 
 module _ (tally records paths payloads : List ℕ) (u : World) (is : worldOf tally records paths payloads ≡ u) where
   pub held-in : lent records paths payloads ≡ heldBy u

@@ -59,7 +59,6 @@ abbrev pub Judged : Walker → (bits : ℕ) → StructArray → Type 0
 Judged k bits (structs.Decoded s v e) = verdictIs v ≡ verdictOf k bits (countersOf s)
 Judged k bits structs.TooLong = Unit
 Judged k bits structs.BrokenTables = Unit
-Judged k bits structs.PathTooLong = Unit
 Judged k bits (structs.Short e) = Unit
 
 abbrev pub PairsJudged : (bits : ℕ) → ObjectArray → Type 0

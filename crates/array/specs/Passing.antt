@@ -1,5 +1,5 @@
 -- One pass of the code over a window, and both passes: what they ask, and what they come to.
-use Prim.Native.Nat.{ℕ, _≤_, _<_}
+use Prim.Native.Nat.{ℕ, _≤_}
 use mathlib.Core.Path.{_≡_}
 use mathlib.Core.Bool.{Bool, true, false}
 use mathlib.Core.List.{List, []}
@@ -18,7 +18,7 @@ use Rattle.steps.specs.Tally.{played}
 use Rattle.array.specs.Refusals.{countersOf, roomIn}
 use Rattle.array.specs.Calls.{verdictIs}
 use Rattle.array.specs.declared.StructArray.{StructArray}
-use Rattle.array.specs.declared.StructArray.the-variants.{Decoded, PathTooLong, Short}
+use Rattle.array.specs.declared.StructArray.the-variants.{Decoded, Short}
 use Rattle.array.specs.declared.ArrayDecodeStats.{ArrayDecodeStats}
 use Rattle.array.specs.declared.Extent.{Extent}
 use Rattle.array.specs.declared.Verdict.{Verdict}
@@ -44,10 +44,9 @@ module _ (k : Walker) (bytes : List ℕ) (bits : ℕ) where
   abbrev pub measuring : World
   measuring = played (walk k bytes bits) (fresh [] [] [])
 
-  -- it meets no path too long, and finds that the walk needs so much
-  pub record Needs (e : Extent) : Type 0 where
-    pub fine : measuring .overs ≡ 0
-    pub extent : roomIn e ≡ measuredWith (wordsOf k) measuring
+  -- it finds that the walk needs so much
+  abbrev pub Needs : Extent → Type 0
+  Needs e = roomIn e ≡ measuredWith (wordsOf k) measuring
 
   -- Both passes over the lent outputs: what they answer, and what the outputs hold then. An object walk's pairs stand in for leaves.
   module _ (b : Lent) where
@@ -58,7 +57,6 @@ module _ (k : Walker) (bytes : List ℕ) (bits : ℕ) where
     enough e = within (roomIn e) (roomOver (wordsOf k) b)
 
     pub data TwoPasses : StructArray → Lent → Type 0 where
-      over-long : 0 < measuring .overs → TwoPasses PathTooLong b
       too-short : {e : Extent} → Needs e → enough e ≡ false → TwoPasses (Short e) b
       has-room : {e : Extent} {stats : ArrayDecodeStats} {v : Verdict} {end : Lent} → Needs e → enough e ≡ true → end ≡ heldBy writing
           → countersOf stats ≡ writing .counters → verdictIs v ≡ verdictOf k bits (countersOf stats) → TwoPasses (Decoded stats v e) end

@@ -29,7 +29,6 @@ abbrev pub answerOf : StructArray → Answer Room
 answerOf (structs.Decoded s v e) = accepted (countersOf s) (roomIn e)
 answerOf structs.TooLong = refused 1 noRoom
 answerOf structs.BrokenTables = refused 2 noRoom
-answerOf structs.PathTooLong = refused 5 noRoom
 answerOf (structs.Short e) = refused 3 (roomIn e)
 
 -- the object walk

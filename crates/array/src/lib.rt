@@ -5,8 +5,8 @@
 //     element = index + 1, field*, 0
 //     field   = handle + 1, width, `width` bits of payload: an array where the schema says so, else a leaf
 //
-// All numbers are packed. A window is walked twice: once lent nothing, which tells what is needed and whether a path gets too
-// long, and once to write. A refused call writes nothing.
+// All numbers are packed. A window is walked twice: once lent nothing, which tells what is needed, and once to write. A refused
+// call writes nothing.
 mod passes;
 pub mod said;
 pub mod stats;
@@ -69,8 +69,6 @@ pub enum StructArray {
     TooLong,
     // 2: the schema's rows or the declared names are not laid out as they have to be.
     BrokenTables,
-    // 5: a path would get longer than 1,024 bytes.
-    PathTooLong,
     // 3: some output has too little room. What each of them needs.
     Short(Extent),
 }
@@ -105,7 +103,7 @@ fn is_too_long(bits: u32) -> bool
     LONGEST_WINDOW < bits
 }
 
-// The leaves of the array of structs in the first `bits` bits; refusals in the order 1, 2, 5, 3. Of each leaf five numbers are
+// The leaves of the array of structs in the first `bits` bits; refusals in the order 1, 2, 3. Of each leaf five numbers are
 // written: where its path starts and how long it is, the handle (4294967295 for a kept tail), the bits of its payload and where
 // that starts.
 pub fn decode_struct_array<'a>(
@@ -217,9 +215,8 @@ pub fn decode_object_ref_array(bytes: &[u8], bits: u32, pairs: &mut [u32]) -> Ob
             ObjectArray::Decoded(stats, judged, filled.leaves)
         }
         StructArray::Short(need) => ObjectArray::Short(need.leaves),
-        // Never taken: the passes test neither a length nor tables, and an object walk has no paths.
+        // Never taken: the passes test neither a length nor tables.
         StructArray::TooLong => ObjectArray::TooLong,
         StructArray::BrokenTables => ObjectArray::TooLong,
-        StructArray::PathTooLong => ObjectArray::TooLong,
     }
 }

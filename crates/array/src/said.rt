@@ -38,7 +38,6 @@ pub fn said(answer: StructArray) -> Saying
         StructArray::Decoded(_, _, _) => numbers(0, 0, 0, 0),
         StructArray::TooLong => numbers(1, 0, 0, 0),
         StructArray::BrokenTables => numbers(2, 0, 0, 0),
-        StructArray::PathTooLong => numbers(5, 0, 0, 0),
         StructArray::Short(need) => numbers(3, need.leaves, need.path_bytes, need.payload_bytes),
     }
 }

@@ -14,7 +14,6 @@ use crate::verdicts::window_verdict;
 use bits::sizes::LONGEST_PATH;
 use framing::Walk;
 use schema::spans::level_spans;
-use steps::tally::OVERS;
 use steps::tally::SLOTS;
 
 pub fn two_passes<'a>(
@@ -52,9 +51,6 @@ pub fn two_passes<'a>(
         declared_names,
         &mut path,
     );
-    if 0 < need[OVERS] {
-        return StructArray::PathTooLong;
-    }
     let extent = extent_of(walk, &need);
     if !has_room(walk, extent, records.len(), paths.len(), payloads.len()) {
         return StructArray::Short(extent);

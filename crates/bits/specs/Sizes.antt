@@ -1,4 +1,4 @@
--- The sizes of document 01 (Sizes), each once. crates/bits/src/sizes.rt has the same numbers for code.
+-- The sizes of document 01 (Sizes), each once, and how long they let a path get. crates/bits/src/sizes.rt has the same numbers for code.
 use Prim.Native.Nat.{ℕ, _+_, _-_}
 
 -- ---- windows and walks
@@ -58,6 +58,6 @@ longestIndex = 6
 abbrev pub longestLabel : ℕ
 longestLabel = 1 + maxName
 
--- bytes of a path: twelve levels of both (framing, proofs/LongestPath). Document 01 allows 1,024.
+-- bytes of a path, at most: twelve levels of both (framing, proofs/LongestPath). Document 01 allows 1,024.
 abbrev pub longestPath : ℕ
 longestPath = 852

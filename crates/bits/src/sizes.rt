@@ -33,5 +33,5 @@ pub const MAX_NAME: u32 = 64;
 // Bytes of a name pool.
 pub const MAX_POOL: usize = 65536;
 
-// Bytes of a path: twelve levels of an index of four digits in brackets, a dot and a name. Document 01 allows 1,024.
+// Bytes of a path, at most: twelve levels of an index of four digits in brackets, a dot and a name. Document 01 allows 1,024.
 pub const LONGEST_PATH: usize = 852;

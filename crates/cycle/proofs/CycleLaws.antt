@@ -4,7 +4,7 @@ use Prim.Native.Nat.{ℕ, _+_, _-_, _*_, _/_, _%_, _≤_}
 use native.Mathlib.Omega.{arith}
 use mathlib.Core.Path.{_≡_, refl, sym, ap, ap₂, subst, _∙_}
 use mathlib.Core.Bool.{Bool, true, _&&_}
-use mathlib.Core.List.{List, _∷_}
+use mathlib.Core.List.{List, [], _∷_}
 use lib.Dec.{eqb}
 use lib.ListN.{length, take, drop, length-drop}
 use lib.Seq.{take-take, length-take-le}
@@ -15,14 +15,13 @@ use Rattle.schema.specs.Labels.{labelBytes, dot}
 use Rattle.schema.specs.declared.Label.{Label}
 use Rattle.framing.specs.Windows.{Window}
 use Rattle.framing.specs.Events.{element, Trace}
-use Rattle.framing.specs.Paths.{grownPath, overIfLong}
-use Rattle.framing.specs.Walk.{Run, done, stopped, prepend, fields, behind, elements, level, inItem, entering}
+use Rattle.framing.specs.Walk.{Run, done, stopped, prepend, fields, behind, elements, level, inItem}
 use Rattle.outputs.specs.World.{World}
 use Rattle.steps.specs.Tally.{played}
 use Rattle.steps.specs.Steps.{Lies}
 use Rattle.steps.specs.Views.{inner, upTo, sinkFor, exitSink}
 use Rattle.steps.specs.Heads.{levelHead, elementHead, fieldHead}
-use Rattle.steps.specs.Paths.{itemPath, itemOver}
+use Rattle.steps.specs.Paths.{itemPath}
 use Rattle.steps.specs.Kinds.{kindOf, KindLies}
 use Rattle.steps.specs.Gives.{fieldsStop, levelStop, flatField}
 use Rattle.framing.specs.declared.Walk.{Walk}
@@ -31,9 +30,10 @@ use Rattle.steps.specs.declared.Head.the-variants as head
 use Rattle.steps.specs.declared.Kind.{Kind}
 use Rattle.steps.specs.declared.Kind.the-variants as kind
 use Rattle.steps.proofs.CaseLaws.{NotGo, NotClosed, NotArray}
+use Rattle.steps.proofs.TallyLaws.{played-array}
 use Rattle.steps.proofs.ShiftLaws.{size-inner}
 use Rattle.steps.proofs.WalkLaws.{played-append, Alike, Ends, Shuts, Goes, level-exit, level-walks, level-next, elements-exit, elements-walk, element-next, fields-exit, fields-closed, fields-walk, field-next}
-use Rattle.steps.proofs.FieldKindLaws.{sink-alike, item-path, item-over, kind-tables, kind-lies, field-flat, field-array}
+use Rattle.steps.proofs.FieldKindLaws.{sink-alike, item-path, kind-tables, kind-lies, field-flat, field-array}
 use Rattle.cycle.specs.Cycle.{Place, place, sinkAt, windowAt, Ready, LevelWalked, Done, finished, FieldsWalked, FieldWalked}
 use Rattle.cycle.specs.declared.After.{After}
 use Rattle.cycle.specs.declared.After.the-variants as after
@@ -191,7 +191,7 @@ module _ (q : Place) (inside : Bool) (start : ℕ) (fit : start ≤ q .end) wher
 
     -- an element was entered with the world x₁ and the path p₁, and its fields left the world y and r
     module _ (i next m : ℕ) (e : elementHead (upTo (q .bytes) (q .end)) count left at ≡ head.Go i next m) (x₁ y : World) (p₁ path′ : List ℕ)
-        (counts : x₁ ≡ played (element i ∷ itemOver (q .walk) path i) x) (is : p₁ ≡ itemPath (q .walk) path i) (r : After) (p₂ : List ℕ)
+        (counts : (p : List ℕ) → x₁ ≡ played (element p ∷ []) x) (is : p₁ ≡ itemPath (q .walk) path i) (r : After) (p₂ : List ℕ)
         (f : FieldsWalked (place (q .walk) (q .tables) (q .below) (q .level) (q .bytes) (q .end) p₁) i next x₁ y r p₂) (same : path′ ≡ path) where
       later′ : start ≤ next
       later′ = let n = element-next (q .bytes) (q .end) count left at e in let z = v .later in omega arith
@@ -199,18 +199,12 @@ module _ (q : Place) (inside : Bool) (start : ℕ) (fit : start ≤ q .end) wher
       path-here : p₁ ≡ inItem (sinkAt q inside) (q .path) i
       path-here = is ∙ ap (λ (p : List ℕ). itemPath (q .walk) p i) (v .kept) ∙ sym (item-path (q .walk) (q .tables) (q .below) inside (q .level) (q .path) i)
 
-      world-here : x₁ ≡ played (element i ∷ entering (sinkAt q inside) (q .path) i) x
-      world-here =
-          counts
-          ∙ ap (λ (p : List ℕ). played (element i ∷ itemOver (q .walk) p i) x) (v .kept)
-          ∙ ap (λ (t : Trace). played (element i ∷ t) x) (sym (item-over (q .walk) (q .tables) (q .below) inside (q .level) (q .path) i))
-
       -- the element's fields by the definition, and the world and the elements behind them
       abbrev fieldsOf : ℕ → Run
       fieldsOf o = fields (sinkAt q inside) (windowAt q start o) i (inItem (sinkAt q inside) (q .path) i) maxFields (next - start) true
 
       abbrev entered : World
-      entered = played (element i ∷ entering (sinkAt q inside) (q .path) i) x
+      entered = played (element (inItem (sinkAt q inside) (q .path) i) ∷ []) x
 
       abbrev more : ℕ → ℕ → Trace
       more o k = elements (sinkAt q inside) (windowAt q start o) (q .path) count (left - 1) k
@@ -218,7 +212,7 @@ module _ (q : Place) (inside : Bool) (start : ℕ) (fit : start ≤ q .end) wher
       runs : (o : ℕ) → ended y r ≡ finished start (fieldsOf o) entered
       runs o =
           f .out start o inside later′
-          ∙ ap₂ (λ (p : List ℕ) (w : World). finished start (fields (sinkAt q inside) (windowAt q start o) i p maxFields (next - start) true) w) path-here world-here
+          ∙ ap₂ (λ (p : List ℕ) (w : World). finished start (fields (sinkAt q inside) (windowAt q start o) i p maxFields (next - start) true) w) path-here (counts (inItem (sinkAt q inside) (q .path) i))
 
       walked : (o : ℕ) → played (elements (sinkAt q inside) (windowAt q start o) (q .path) count left (at - start)) x ≡ played (behind (more o) (fieldsOf o)) entered
       walked o = elements-walk (sinkAt q inside) (exitSink (q .walk) inside) alike (q .bytes) start (q .end) (q .path) fit count left at (v .later) e x o
@@ -258,21 +252,19 @@ module _ (q : Place) (index : ℕ) (first : Bool) (handle start : ℕ) (x : Worl
       }
 
   -- an array: its label is put behind the path, and its level is walked
-  pub field-walked : (lower : ℕ) (l : Label) → kind.Array lower l ≡ kindOf (q .walk) (q .tables) (q .below) (q .level) handle (q .end - start) → (x₁ y : World) (longer path : List ℕ) (c : Place) (start′ : ℕ) (path′ : List ℕ)
-      → x₁ ≡ played (overIfLong (dot (q .path) (labelBytes (q .tables) handle l))) x → longer ≡ grownPath (q .path) (dot (q .path) (labelBytes (q .tables) handle l))
-      → LevelWalked c true start′ x₁ y path′ → c ≡ place (q .walk) (q .tables) (q .below - 1) lower (c .bytes) (c .end) longer
+  pub field-walked : (lower : ℕ) (l : Label) → kind.Array lower l ≡ kindOf (q .walk) (q .tables) (q .below) (q .level) handle (q .end - start) → (y : World) (longer path : List ℕ) (c : Place) (start′ : ℕ) (path′ : List ℕ)
+      → longer ≡ dot (q .path) (labelBytes (q .tables) handle l) → LevelWalked c true start′ x y path′ → c ≡ place (q .walk) (q .tables) (q .below - 1) lower (c .bytes) (c .end) longer
       → ((o : ℕ) → windowAt c start′ o ≡ windowAt q start o) → path ≡ q .path
       → FieldWalked q index first handle start x y path
-  field-walked lower l e x₁ y longer path c start′ path′ counts is r ec window same =
+  field-walked lower l e y longer path c start′ path′ is r ec window same =
       record {
         out = λ o inside.
             let e′ = e ∙ ap (kindOf (q .walk) (q .tables) (q .below) (q .level) handle) (sym (size-here o)) in
             let s = sinkFor (q .walk) (q .tables) (q .below - 1) true lower in
             r .out o
-            ∙ ap (λ (p : Place). played (level (sinkAt p true) (windowAt c start′ o) (p .path)) x₁) ec
-            ∙ ap₂ (λ (w : Window) (p : List ℕ). played (level s w p) x₁) (window o) is
-            ∙ ap (played (level s (windowAt q start o) (grownPath (q .path) (dot (q .path) (labelBytes (q .tables) handle l))))) counts
-            ∙ sym (played-append (overIfLong (dot (q .path) (labelBytes (q .tables) handle l))) (level s (windowAt q start o) (grownPath (q .path) (dot (q .path) (labelBytes (q .tables) handle l)))) x)
+            ∙ ap (λ (p : Place). played (level (sinkAt p true) (windowAt c start′ o) (p .path)) x) ec
+            ∙ ap₂ (λ (w : Window) (p : List ℕ). played (level s w p) x) (window o) is
+            ∙ played-array (dot (q .path) (labelBytes (q .tables) handle l)) (level s (windowAt q start o) (dot (q .path) (labelBytes (q .tables) handle l))) x
             ∙ ap (λ (t : Trace). played t x) (sym (field-array (q .walk) (q .tables) (q .below) inside (q .level) index (q .path) first handle (windowAt q start o) lower l e′));
         kept = same;
       }
@@ -293,7 +285,7 @@ module _ (rows names declared declaredNames : List ℕ) where
       → k ≡ kindOf s (tables rows names declared declaredNames) below lvl handle width
   kind-is s below lvl handle width e = e ∙ kind-tables s rows names declared declaredNames below lvl handle width
 
-  pub kind-ready : {bytes : List ℕ} {start end plen : ℕ} {spans : List ℕ} → Ready bytes start end plen (tables rows names declared declaredNames) spans
+  pub kind-ready : {bytes : List ℕ} {start end plen adds : ℕ} {spans : List ℕ} → Ready bytes start end plen adds (tables rows names declared declaredNames) spans
       → (s : Walk) (below lvl handle width : ℕ) {k : Kind} → k ≡ kindOf s (lookUps rows declared) below lvl handle width
       → KindLies (tables rows names declared declaredNames) k
   kind-ready r s below lvl handle width e =
@@ -301,13 +293,14 @@ module _ (rows names declared declaredNames : List ℕ) where
       subst (KindLies t) (sym (kind-is s below lvl handle width e)) (kind-lies s t below lvl handle width (r .labels .leaf) (r .labels .container))
 
 -- a window that lies in its bytes lies there from their first bit on
-pub up-to : {bytes : List ℕ} {start end plen : ℕ} {t : Tables} {spans : List ℕ} → Ready bytes start end plen t spans → Lies bytes 0 end
+pub up-to : {bytes : List ℕ} {start end plen adds : ℕ} {t : Tables} {spans : List ℕ} → Ready bytes start end plen adds t spans → Lies bytes 0 end
 up-to r = (omega arith, r .lies .1, r .lies .2)
 
 -- what the code asks for a child, and for a field or an element's fields of the same level
-pub ready-child : (bytes : List ℕ) (start end plen longer : ℕ) (t : Tables) (spans : List ℕ) → Ready bytes start end plen t spans → longer ≤ longestPath
-    → Ready (take ((end + 7) / 8 - start / 8) (drop (start / 8) bytes)) (start % 8) (start % 8 + (end - start)) longer t spans
-ready-child bytes start end plen longer t spans r h =
+pub ready-child : (bytes : List ℕ) (start end plen adds longer less : ℕ) (t : Tables) (spans : List ℕ) → Ready bytes start end plen adds t spans
+    → longer + less ≤ longestPath
+    → Ready (take ((end + 7) / 8 - start / 8) (drop (start / 8) bytes)) (start % 8) (start % 8 + (end - start)) longer less t spans
+ready-child bytes start end plen adds longer less t spans r h =
     let le = r .lies .0 in
     let fit = r .lies .1 in
     let few = r .lies .2 in
@@ -318,9 +311,9 @@ ready-child bytes start end plen longer t spans r h =
       spans-are = r .spans-are;
     }
 
-pub ready-part : (bytes : List ℕ) (start end from′ end′ plen longer : ℕ) (t : Tables) (spans : List ℕ) → Ready bytes start end plen t spans → from′ ≤ end′ → end′ ≤ end → longer ≤ longestPath
-    → Ready bytes from′ end′ longer t spans
-ready-part bytes start end from′ end′ plen longer t spans r le in-end h =
+pub ready-part : (bytes : List ℕ) (start end from′ end′ plen adds longer less : ℕ) (t : Tables) (spans : List ℕ) → Ready bytes start end plen adds t spans
+    → from′ ≤ end′ → end′ ≤ end → longer + less ≤ longestPath → Ready bytes from′ end′ longer less t spans
+ready-part bytes start end from′ end′ plen adds longer less t spans r le in-end h =
     let fit = r .lies .1 in
     let few = r .lies .2 in
     record {

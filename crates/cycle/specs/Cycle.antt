@@ -40,11 +40,11 @@ sinkAt q inside = sinkFor (q .walk) (q .tables) (q .below) inside (q .level)
 abbrev pub windowAt : Place → (b origin : ℕ) → Window
 windowAt q b o = inner (q .bytes) b (q .end) o
 
--- What the code asks: the window lies in its bytes and is not too long, the path fits, every label lies in its pool, and the spans are those of
--- the rows.
-pub record Ready (bytes : List ℕ) (start end plen : ℕ) (t : Tables) (spans : List ℕ) : Type 0 where
+-- What the code asks: the window lies in its bytes and is not too long, what may still be added to the path has room behind it, every label lies in
+-- its pool, and the spans are those of the rows.
+pub record Ready (bytes : List ℕ) (start end plen adds : ℕ) (t : Tables) (spans : List ℕ) : Type 0 where
   pub lies : Lies bytes start end
-  pub path : plen ≤ longestPath
+  pub path : plen + adds ≤ longestPath
   pub labels : LabelsLie t
   pub spans-are : spans ≡ spansOf (t .rows)
 

@@ -6,6 +6,7 @@ ghost use Prim.Native.Nat.{_-_, _≤_};
 ghost use lib.Dec.{eqb};
 ghost use lib.ListN.{take};
 ghost use Rattle.schema.specs.Tables.{tables};
+ghost use Rattle.framing.specs.Paths.{levelAdds, elementAdds};
 ghost use Rattle.steps.specs.Tally.{worldOf};
 ghost use Rattle.cycle.specs.Cycle.{place, Ready, LevelWalked, FieldsWalked, FieldWalked};
 use bits::sizes::MAX_ELEMENTS;
@@ -63,7 +64,7 @@ pub fn walk_level<'a>(
     paths: &mut [u8],
     payloads: &mut [u8],
 )
-    requires { ⌜ Ready (now bytes) «from» end plen (tables (now rows) (now names) (now declared) (now «declared_names»)) (now spans) ⌝ }
+    requires { ⌜ Ready (now bytes) «from» end plen (levelAdds below) (tables (now rows) (now names) (now declared) (now «declared_names»)) (now spans) ⌝ }
     ensures { λ _. ⌜ LevelWalked
         (place walk (tables (now (rows .entry)) (now (names .entry)) (now (declared .entry)) (now («declared_names» .entry))) below level
         (now (bytes .entry)) end (take plen (now (path .entry))))
@@ -169,7 +170,7 @@ fn walk_fields<'a>(
     paths: &mut [u8],
     payloads: &mut [u8],
 ) -> After
-    requires { ⌜ Ready (now bytes) «from» end plen (tables (now rows) (now names) (now declared) (now «declared_names»)) (now spans) ⌝ }
+    requires { ⌜ Ready (now bytes) «from» end plen (elementAdds below) (tables (now rows) (now names) (now declared) (now «declared_names»)) (now spans) ⌝ }
     ensures { λ r. ⌜ FieldsWalked
         (place walk (tables (now (rows .entry)) (now (names .entry)) (now (declared .entry)) (now («declared_names» .entry))) below level
         (now (bytes .entry)) end (take plen (now (path .entry))))
@@ -258,7 +259,7 @@ fn walk_field<'a>(
     paths: &mut [u8],
     payloads: &mut [u8],
 )
-    requires { ⌜ Ready (now bytes) «from» end plen (tables (now rows) (now names) (now declared) (now «declared_names»)) (now spans) ⌝ }
+    requires { ⌜ Ready (now bytes) «from» end plen (elementAdds below) (tables (now rows) (now names) (now declared) (now «declared_names»)) (now spans) ⌝ }
     ensures { λ _. ⌜ FieldWalked
         (place walk (tables (now (rows .entry)) (now (names .entry)) (now (declared .entry)) (now («declared_names» .entry))) below level
         (now (bytes .entry)) end (take plen (now (path .entry))))
@@ -289,15 +290,7 @@ fn walk_field<'a>(
         );
         return;
     };
-    let longer = grow_label(
-        &mut *tally,
-        &mut *path,
-        plen,
-        label,
-        handle,
-        names,
-        declared_names,
-    );
+    let longer = grow_label(&mut *path, plen, label, handle, names, declared_names);
     let a = (from / 8) as usize;
     let z = ((end + 7) / 8) as usize;
     let start = from % 8;

@@ -124,7 +124,6 @@ walk-says k bits (structs.Decoded s v e) j =
     }
 walk-says k bits structs.TooLong j = refl
 walk-says k bits structs.BrokenTables j = refl
-walk-says k bits structs.PathTooLong j = refl
 walk-says k bits (structs.Short e) j = refl
 
 pub walks-as : (c : Call) (b : Lent) {a : StructArray} {end : Lent} {r : VrfWalk} → Decodes c b a end → r ≡ walkOf a → Walks c b r end

@@ -92,7 +92,6 @@ abbrev pub walkOf : StructArray → VrfWalk
 walkOf (structs.Decoded s v e) = acceptedWalk (countersOf s) (verdictIs v) (e .leaves) (e .«path_bytes») (e .«payload_bytes»)
 walkOf structs.TooLong = notWalked (answerOf structs.TooLong)
 walkOf structs.BrokenTables = notWalked (answerOf structs.BrokenTables)
-walkOf structs.PathTooLong = notWalked (answerOf structs.PathTooLong)
 walkOf (structs.Short e) = notWalked (answerOf (structs.Short e))
 
 -- ---- the object walk

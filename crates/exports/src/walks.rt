@@ -116,7 +116,6 @@ pub fn walk_of(a: StructArray) -> VrfWalk
         }
         StructArray::TooLong => not_walked(a),
         StructArray::BrokenTables => not_walked(a),
-        StructArray::PathTooLong => not_walked(a),
         StructArray::Short(_) => not_walked(a),
     }
 }

@@ -8,14 +8,13 @@ use Rattle.bits.specs.Decimals.{digits, decimal}
 use Rattle.schema.specs.Labels.{bySchema, containerLabel, byDeclaration, leafLabel, labelBytes, atIndex, dot}
 use Rattle.schema.specs.TwelveLevels.{ascii, schemaRows, schemaNames}
 use Rattle.framing.specs.Windows.{reading}
-use Rattle.framing.specs.Paths.{grownPath, overIfLong, leafOrOver}
-use Rattle.framing.specs.Walk.{lead, fieldAt, tail, fields, closing, inItem, entering, elements, level}
+use Rattle.framing.specs.Walk.{lead, fieldAt, tail, fields, closing, inItem, elements, level}
 use Rattle.framing.specs.Sinks.{structSink, objectSink, sinkOf, walkWindow, walk}
 use Rattle.framing.specs.Verdicts.{countersVerdict, verdictOf}
 use Rattle.framing.specs.Cases.{cases, found}
 
 pub cases-hold : map found cases ≡ map (λ c. c .answer) cases
 unfolding ascii schemaRows schemaNames num field after earlierByte fifthByte packedFrom packed cell rowMatches firstRow rowOf child schemaName
-    declaredName digits decimal bySchema containerLabel byDeclaration leafLabel labelBytes atIndex dot reading grownPath overIfLong leafOrOver lead fieldAt
-    tail fields closing inItem entering elements level structSink objectSink sinkOf walkWindow walk countersVerdict verdictOf
+    declaredName digits decimal bySchema containerLabel byDeclaration leafLabel labelBytes atIndex dot reading lead fieldAt
+    tail fields closing inItem elements level structSink objectSink sinkOf walkWindow walk countersVerdict verdictOf
 cases-hold = refl

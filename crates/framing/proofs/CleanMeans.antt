@@ -16,7 +16,7 @@ use Rattle.bits.proofs.Never.{never}
 use Rattle.bits.specs.Sizes.{levelsBelow}
 use Rattle.schema.specs.Tables.{Tables}
 use Rattle.framing.specs.Windows.{Window, windowOf}
-use Rattle.framing.specs.Events.{root, leaves, pairs, overs, Trace}
+use Rattle.framing.specs.Events.{root, leaves, pairs, Trace}
 use Rattle.framing.specs.Counters.{counters, faults, isClean}
 use Rattle.framing.specs.Walk.{level}
 use Rattle.framing.specs.declared.Walk.the-variants as how
@@ -96,22 +96,20 @@ module _ (w : Window) (whole : w .bits < 2 ^ w .size) where
       some-clean k (w .size) (counters (walkWindow k w))
       (record { some = grammar-some k w g; no-faults = fine-clean (walkWindow k w) (subst Fine (sym (in-walked k w g)) (in-fine k g)) })
 
-  -- Then its leaves are the array's, unless a path is too long, which is refusal 5.
-  tree-leaves : (k : Walker) (g : InGrammar k w) → overs (level (sinkOf k) w []) ≡ 0 → Leafy k → leaves (level (sinkOf k) w []) ≡ treeLeaves k w g
+  -- Then its leaves are the array's.
+  tree-leaves : (k : Walker) (g : InGrammar k w) → Leafy k → leaves (level (sinkOf k) w []) ≡ treeLeaves k w g
   unfolding sinkOf
-  tree-leaves (walker how.Struct t lvl) g h leafy = struct-leaves levelsBelow t true root lvl refl (g .tree) (g .allowed) w (stands t true lvl g) [] h
-  tree-leaves (walker how.Exact t lvl) g h leafy =
-      struct-leaves levelsBelow t false root lvl refl (g .tree) (g .allowed) w (stands t false lvl g) [] h
-  tree-leaves (walker how.Object t lvl) g h leafy = never cc
+  tree-leaves (walker how.Struct t lvl) g leafy = struct-leaves levelsBelow t true root lvl refl (g .tree) (g .allowed) w (stands t true lvl g) []
+  tree-leaves (walker how.Exact t lvl) g leafy =
+      struct-leaves levelsBelow t false root lvl refl (g .tree) (g .allowed) w (stands t false lvl g) []
+  tree-leaves (walker how.Object t lvl) g leafy = never cc
 
-  pub grammar-leaves : (k : Walker) (g : InGrammar k w) → overs (walkWindow k w) ≡ 0 → Leafy k → leaves (walkWindow k w) ≡ treeLeaves k w g
-  grammar-leaves k g h leafy =
-      let e = in-walked k w g in
-      ap leaves e ∙ tree-leaves k g (ap overs (sym e) ∙ h) leafy
+  pub grammar-leaves : (k : Walker) (g : InGrammar k w) → Leafy k → leaves (walkWindow k w) ≡ treeLeaves k w g
+  grammar-leaves k g leafy = ap leaves (in-walked k w g) ∙ tree-leaves k g leafy
 
   -- Two arrays with the window's bits have the same leaves.
-  pub one-meaning : (k : Walker) (g h : InGrammar k w) → overs (walkWindow k w) ≡ 0 → Leafy k → treeLeaves k w g ≡ treeLeaves k w h
-  one-meaning k g h e leafy = sym (grammar-leaves k g e leafy) ∙ grammar-leaves k h e leafy
+  pub one-meaning : (k : Walker) (g h : InGrammar k w) → Leafy k → treeLeaves k w g ≡ treeLeaves k w h
+  one-meaning k g h leafy = sym (grammar-leaves k g leafy) ∙ grammar-leaves k h leafy
 
   -- An object walk's pairs are the array's.
   pub grammar-pairs : (g : InGrammar object w) → pairs (walkWindow object w) ≡ treePairs object w g

@@ -4,21 +4,18 @@ use mathlib.Core.Path.{_≡_, refl}
 use mathlib.Core.Bool.{Bool, true, false, _&&_}
 use mathlib.Core.List.{List, [], _∷_, _++_}
 use Prim.Native.Nat.{ℕ, zero, suc, _+_, _*_, _≤_}
-use lib.ListN.{length}
-use lib.Dec.{ltb, leb, eqb}
+use lib.Dec.{ltb, eqb}
 use Rattle.bits.specs.Packed.{Number}
-use Rattle.bits.specs.Sizes.{longestPath, maxFields, maxElements}
+use Rattle.bits.specs.Sizes.{maxFields, maxElements}
 use Rattle.framing.specs.Windows.{Window, part, opening, Reading, got}
-use Rattle.framing.specs.Events.{Leaf, rawHandle, numbers, Event, number, leaf, truncation, error, implicit, over, Trace}
-use Rattle.framing.specs.Paths.{leafOrOver}
-use Rattle.framing.specs.Walk.{Sink, Lead, opens, Due, rawLeaf, tail, Run, done, stopped, prepend, onField, onLastField, fields, closing, inItem, entering, behind, beyond, onIndex, onLastIndex, elements, tooMany, onCount, level}
+use Rattle.framing.specs.Events.{Leaf, rawHandle, numbers, Event, number, leaf, truncation, error, implicit, Trace}
+use Rattle.framing.specs.Walk.{Sink, Lead, opens, Due, tail, Run, done, stopped, prepend, onField, onLastField, fields, closing, inItem, behind, beyond, onIndex, onLastIndex, elements, tooMany, onCount, level}
 use Rattle.framing.proofs.Shorter.{part-opening, Reads, agree, short, reads, Leads, at-end, unread, at-zero, at-more, leads, Dues, at-field, dues}
 
 -- what may stand behind a truncation
 pub data Tail : Trace → Type 0 where
   skipped : Tail []
   kept : {x : Leaf} → x .handle ≡ rawHandle → Tail (leaf x ∷ [])
-  too-long : Tail (over ∷ [])
 
 -- how a walk breaks off
 pub data Broken : Trace → Type 0 where
@@ -73,20 +70,12 @@ pub numbers-error : (ns : List Number) → Broken (numbers ns ++ (error ∷ []))
 numbers-error [] = at-error
 numbers-error (x ∷ ns) = read (numbers-error ns)
 
-raw-tail : (x : Leaf) → x .handle ≡ rawHandle → Tail (leafOrOver x)
-unfolding leafOrOver
-raw-tail x h = go (leb (length (x .path)) longestPath) refl
-  where
-    go : (b : Bool) → leb (length (x .path)) longestPath ≡ b → Tail (leafOrOver x)
-    go true e = rw e (kept h)
-    go false e = rw e too-long
-
 pub tail-of : (s : Sink) (v : Window) (path : List ℕ) (p : ℕ) → Tail (tail s v path p)
 unfolding tail
 tail-of s v path p = go (s .flattens && ltb p (v .size)) refl
   where
     go : (x : Bool) → s .flattens && ltb p (v .size) ≡ x → Tail (tail s v path p)
-    go true e = rw e (raw-tail (rawLeaf v path p) refl)
+    go true e = rw e (kept refl)
     go false e = rw e skipped
 
 module _ (s : Sink) (w : Window) (m : ℕ) (mn : m ≤ w .size) where
@@ -135,7 +124,7 @@ module _ (s : Sink) (w : Window) (m : ℕ) (mn : m ≤ w .size) where
       where
         go : (b : Bool) → beyond count n ≡ b → Cut Ending (onIndex s (opening m w) path count f (opens x n q)) (onIndex s w path count g (opens x n q))
         go true e = rw e (same (breaks at-error))
-        go false e = rw e (same (same (after (entering s path n) (go-on f g r (fields-cut n (inItem s path n) maxFields q true)))))
+        go false e = rw e (same (same (go-on f g r (fields-cut n (inItem s path n) maxFields q true))))
 
     pub elements-cut : (path : List ℕ) (count left p : ℕ) → Cut Ending (elements s (opening m w) path count left p) (elements s w path count left p)
     unfolding elements

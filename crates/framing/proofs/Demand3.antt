@@ -19,7 +19,7 @@ use Rattle.bits.specs.declared.Packed.{Packed}
 use Rattle.bits.specs.declared.Packed.the-variants.{Whole, Cut, GoesOn, Overflows}
 use Rattle.bits.specs.Sizes.{trailerBits}
 use Rattle.framing.specs.Windows.{Window, windowOf, opening, Reading, got, failed, readingOf, reading}
-use Rattle.framing.specs.Events.{Leaf, rawHandle, Event, number, element, leaf, pair, truncation, error, implicit, nested, root, over, leaves, pairs, Trace}
+use Rattle.framing.specs.Events.{Leaf, rawHandle, Event, number, element, array, leaf, pair, truncation, error, implicit, nested, root, leaves, pairs, Trace}
 use Rattle.framing.specs.Counters.{Counters, counters, faults, isClean}
 use Rattle.framing.specs.Walk.{Sink, trailerOf, closing}
 use Rattle.framing.specs.declared.Walk.the-variants as how
@@ -29,7 +29,7 @@ use Rattle.framing.specs.Demand.{dropTail, Opens, LacksTrailer, CutOf}
 use Rattle.framing.proofs.VerdictLaws.{silent-empty, says-clean}
 use Rattle.framing.proofs.Shorter.{Reads, agree, short, reads}
 use Rattle.framing.proofs.Cut as Cuts
-use Rattle.framing.proofs.Cut.{Tail, skipped, kept, too-long, Broken, read, at-implicit, at-error, at-truncation, breaks, ending, same, level-cut}
+use Rattle.framing.proofs.Cut.{Tail, skipped, kept, Broken, read, at-implicit, at-error, at-truncation, breaks, ending, same, level-cut}
 
 -- ---- leaves and pairs
 
@@ -52,7 +52,6 @@ tail-leaves : {t : Trace} → Tail t → dropTail (leaves t) ≡ []
 unfolding dropTail
 tail-leaves skipped = refl
 tail-leaves (kept {x = x} e) = rw (eq-eqb (x .handle) rawHandle e)
-tail-leaves too-long = refl
 
 broken-leaves : {t : Trace} → Broken t → dropTail (leaves t) ≡ []
 unfolding dropTail
@@ -67,7 +66,6 @@ broken-pairs at-implicit = refl
 broken-pairs at-error = refl
 broken-pairs (at-truncation skipped) = refl
 broken-pairs (at-truncation (kept e)) = refl
-broken-pairs (at-truncation too-long) = refl
 
 -- ---- faults
 
@@ -179,7 +177,8 @@ module _ (s : Sink) (w : Window) (m : ℕ) where
   cut-leaves {a} {b} (breaks h) = rw (broken-leaves h) (opens-nil (leaves b))
   cut-leaves {a} {b} (ending e) = rw (e .no-leaves) (opens-nil (leaves b))
   cut-leaves (same {e = number x} c) = cut-leaves c
-  cut-leaves (same {e = element i} c) = cut-leaves c
+  cut-leaves (same {e = element p} c) = cut-leaves c
+  cut-leaves (same {e = array p} c) = cut-leaves c
   cut-leaves (same {e = leaf x} {a = a} c) = opens-drop x (leaves a) (cut-leaves c)
   cut-leaves (same {e = pair x} c) = cut-leaves c
   cut-leaves (same {e = truncation} c) = cut-leaves c
@@ -187,13 +186,13 @@ module _ (s : Sink) (w : Window) (m : ℕ) where
   cut-leaves (same {e = implicit} c) = cut-leaves c
   cut-leaves (same {e = nested n} c) = cut-leaves c
   cut-leaves (same {e = root n} c) = cut-leaves c
-  cut-leaves (same {e = over} c) = cut-leaves c
 
   cut-pairs : {a b : Trace} → Cuts.Cut (Ends s w m) a b → Opens (pairs a) (pairs b)
   cut-pairs {a} {b} (breaks h) = rw (broken-pairs h) (opens-nil (pairs b))
   cut-pairs {a} {b} (ending e) = rw (e .no-pairs) (opens-nil (pairs b))
   cut-pairs (same {e = number x} c) = cut-pairs c
-  cut-pairs (same {e = element i} c) = cut-pairs c
+  cut-pairs (same {e = element p} c) = cut-pairs c
+  cut-pairs (same {e = array p} c) = cut-pairs c
   cut-pairs (same {e = leaf x} c) = cut-pairs c
   cut-pairs (same {e = pair x} c) = opens-cons x (cut-pairs c)
   cut-pairs (same {e = truncation} c) = cut-pairs c
@@ -201,7 +200,6 @@ module _ (s : Sink) (w : Window) (m : ℕ) where
   cut-pairs (same {e = implicit} c) = cut-pairs c
   cut-pairs (same {e = nested n} c) = cut-pairs c
   cut-pairs (same {e = root n} c) = cut-pairs c
-  cut-pairs (same {e = over} c) = cut-pairs c
 
   cut-faultless : {a b : Trace} → Cuts.Cut (Ends s w m) a b → isClean (counters b) ≡ true → m < w .size → isClean (counters a) ≡ true
       → LacksTrailer s w m

@@ -1,36 +1,27 @@
 -- Which events a walk of a kind may give. Each event is tested where it arises, so what holds of every such event holds of the walk.
-use Prim.Native.Nat.{ℕ, _-_, _^_, _≤_, _<_}
+use Prim.Native.Nat.{ℕ, _-_, _^_, _<_}
 use mathlib.Core.Path.{_≡_, refl}
-use mathlib.Core.Bool.{Bool, true, false}
 use mathlib.Core.List.{List, [], _∷_, _++_}
-use lib.ListN.{length}
-use lib.Dec.{leb}
-use borrow.Author.Tests.{leb-true}
 use Rattle.bits.specs.Bits.{num}
-use Rattle.bits.specs.Sizes.{longestPath}
 use Rattle.bits.proofs.FieldLaws.{field-lt}
 use Rattle.bits.proofs.Never.{never}
 use Rattle.schema.specs.Tables.{Tables}
-use Rattle.schema.specs.Labels.{atIndex}
-use Rattle.framing.specs.Events.{Leaf, Event, number, element, leaf, pair, truncation, error, implicit, nested, root, over, leaves, pairs, overs, Trace}
-use Rattle.framing.specs.Paths.{overIfLong, leafOrOver}
-use Rattle.framing.specs.Walk.{rawLeaf}
+use Rattle.framing.specs.Events.{Leaf, Event, number, element, array, leaf, pair, truncation, error, implicit, nested, root, leaves, pairs, Trace}
 use Rattle.framing.specs.declared.Walk.the-variants as how
-use Rattle.framing.specs.Sinks.{leafOf, Walker, walker, Leafy, walk}
+use Rattle.framing.specs.Sinks.{Walker, walker, Leafy, walk}
 use Rattle.framing.specs.GrammarRules.{Each}
-use Rattle.framing.proofs.Lift.{Known, ofWindows, leafPath, arrayPath, Property, Pieces, StructPieces, ObjectPieces, tablesOf, KindPieces, walk-holds}
+use Rattle.framing.proofs.Lift.{Known, ofWindows, Property, Pieces, StructPieces, ObjectPieces, tablesOf, KindPieces, walk-holds}
 
--- a leaf whose payload has no bits above its width, and whose path is no longer than a working path
-pub record Sound (x : Leaf) : Type 0 where
-  pub proper : x .payload < 2 ^ x .width
-  pub short : length (x .path) ≤ longestPath
+-- a leaf whose payload has no bits above its width
+abbrev pub Proper : Leaf → Type 0
+Proper x = x .payload < 2 ^ x .width
 
 abbrev pub May : Walker → Event → Type 0
-May k (leaf x) = Leafy k × Sound x
-May k over = Leafy k
+May k (leaf x) = Leafy k × Proper x
 May k (pair x) = Leafy k → ⊥
 May k (number x) = Unit
-May k (element i) = Unit
+May k (element p) = Unit
+May k (array p) = Unit
 May k truncation = Unit
 May k error = Unit
 May k implicit = Unit
@@ -39,26 +30,9 @@ May k (root n) = Unit
 
 -- ---- the pieces
 
-pub each-append : {A : Type 0} (ok : A → Type 0) (a b : List A) → Each ok a → Each ok b → Each ok (a ++ b)
+each-append : {A : Type 0} (ok : A → Type 0) (a b : List A) → Each ok a → Each ok b → Each ok (a ++ b)
 each-append ok [] b h k = k
 each-append ok (x ∷ a) b h k = (h .0, each-append ok a b (h .1) k)
-
-module _ (k : Walker) (leafy : Leafy k) where
-  leaf-may : (x : Leaf) → x .payload < 2 ^ x .width → Each (May k) (leafOrOver x)
-  unfolding leafOrOver
-  leaf-may x h = go (leb (length (x .path)) longestPath) refl
-    where
-      go : (b : Bool) → leb (length (x .path)) longestPath ≡ b → Each (May k) (leafOrOver x)
-      go true e = rw e ((leafy, record { proper = h; short = leb-true _ _ e }), tt)
-      go false e = rw e (leafy, tt)
-
-  over-may : (longer : List ℕ) → Each (May k) (overIfLong longer)
-  unfolding overIfLong
-  over-may longer = go (leb (length longer) longestPath) refl
-    where
-      go : (b : Bool) → leb (length longer) longestPath ≡ b → Each (May k) (overIfLong longer)
-      go true e = rw e tt
-      go false e = rw e (leafy, tt)
 
 -- a window's number has no bits above its size
 abbrev pub whole : (t : Tables) → Known t
@@ -85,18 +59,18 @@ pieces k =
 struct-pieces : (k : Walker) → Leafy k → (t : Tables) → StructPieces t (whole t) (may k)
 struct-pieces k leafy t =
     record {
-      entered = λ w x i p q d path r low at. (tt, (tt, over-may k leafy (atIndex path i)));
-      kept = λ w p d path fit lt here. (tt, leaf-may k leafy (rawLeaf w path p) (field-lt (w .bits) p (w .size - p)));
-      leaf = λ w d lvl h path fit here low. leaf-may k leafy (leafOf (leafPath t lvl path h) h w) fit;
-      deep = λ w lvl h path fit some here low. (tt, leaf-may k leafy (leafOf (arrayPath t lvl path h) h w) fit);
-      child = λ w d lvl h path a some here low g. each-append (May k) (overIfLong (arrayPath t lvl path h)) a (over-may k leafy (arrayPath t lvl path h)) g;
+      entered = λ w x i p q d path r low at. (tt, (tt, tt));
+      kept = λ w p d path fit lt here. (tt, ((leafy, field-lt (w .bits) p (w .size - p)), tt));
+      deep = λ w lvl h path fit some here low. (tt, ((leafy, fit), tt));
+      leaf = λ w d lvl h path fit here low. ((leafy, fit), tt);
+      child = λ w d lvl h path a some here low g. (tt, g);
       left = λ w p h. (tt, tt);
     }
 
 object-pieces : (t : Tables) (lvl : ℕ) → ObjectPieces (may (walker how.Object t lvl))
 object-pieces t lvl =
     record {
-      entered = λ w x i p q r low. (tt, (tt, tt));
+      entered = λ w x p q r. (tt, (tt, tt));
       guid = λ w x i r. (tt, ((λ z. never cc), tt));
       longer = λ w x q r. (tt, (tt, tt));
       unread = λ w some. (tt, tt);
@@ -112,47 +86,34 @@ kind-pieces (walker how.Object t lvl) = object-pieces t lvl
 pub walk-may : (k : Walker) (bytes : List ℕ) (n : ℕ) → Each (May k) (walk k bytes n)
 walk-may k bytes n = walk-holds (may k) (pieces k) k (whole (tablesOf k)) (kind-pieces k) bytes n (field-lt (num bytes) 0 n)
 
--- ---- what it says of leaves, pairs and paths
+-- ---- what it says of leaves and pairs
 
 module _ (k : Walker) where
-  pub leaves-may : (t : Trace) → Each (May k) t → Each (λ x. Leafy k × Sound x) (leaves t)
+  pub leaves-may : (t : Trace) → Each (May k) t → Each (λ x. Leafy k × Proper x) (leaves t)
   leaves-may [] h = tt
   leaves-may (leaf x ∷ t) h = (h .0, leaves-may t (h .1))
   leaves-may (number x ∷ t) h = leaves-may t (h .1)
-  leaves-may (element i ∷ t) h = leaves-may t (h .1)
+  leaves-may (element p ∷ t) h = leaves-may t (h .1)
+  leaves-may (array p ∷ t) h = leaves-may t (h .1)
   leaves-may (pair x ∷ t) h = leaves-may t (h .1)
   leaves-may (truncation ∷ t) h = leaves-may t (h .1)
   leaves-may (error ∷ t) h = leaves-may t (h .1)
   leaves-may (implicit ∷ t) h = leaves-may t (h .1)
   leaves-may (nested n ∷ t) h = leaves-may t (h .1)
   leaves-may (root n ∷ t) h = leaves-may t (h .1)
-  leaves-may (over ∷ t) h = leaves-may t (h .1)
 
   pub pairs-may : (t : Trace) → Each (May k) t → Each (λ x. Leafy k → ⊥) (pairs t)
   pairs-may [] h = tt
   pairs-may (pair x ∷ t) h = (h .0, pairs-may t (h .1))
   pairs-may (number x ∷ t) h = pairs-may t (h .1)
-  pairs-may (element i ∷ t) h = pairs-may t (h .1)
+  pairs-may (element p ∷ t) h = pairs-may t (h .1)
+  pairs-may (array p ∷ t) h = pairs-may t (h .1)
   pairs-may (leaf x ∷ t) h = pairs-may t (h .1)
   pairs-may (truncation ∷ t) h = pairs-may t (h .1)
   pairs-may (error ∷ t) h = pairs-may t (h .1)
   pairs-may (implicit ∷ t) h = pairs-may t (h .1)
   pairs-may (nested n ∷ t) h = pairs-may t (h .1)
   pairs-may (root n ∷ t) h = pairs-may t (h .1)
-  pairs-may (over ∷ t) h = pairs-may t (h .1)
-
-  pub overs-may : (t : Trace) → Each (May k) t → (Leafy k → ⊥) → overs t ≡ 0
-  overs-may [] h none = refl
-  overs-may (over ∷ t) h none = absurd (none (h .0))
-  overs-may (number x ∷ t) h none = overs-may t (h .1) none
-  overs-may (element i ∷ t) h none = overs-may t (h .1) none
-  overs-may (leaf x ∷ t) h none = overs-may t (h .1) none
-  overs-may (pair x ∷ t) h none = overs-may t (h .1) none
-  overs-may (truncation ∷ t) h none = overs-may t (h .1) none
-  overs-may (error ∷ t) h none = overs-may t (h .1) none
-  overs-may (implicit ∷ t) h none = overs-may t (h .1) none
-  overs-may (nested n ∷ t) h none = overs-may t (h .1) none
-  overs-may (root n ∷ t) h none = overs-may t (h .1) none
 
 pub each-map : {A : Type 0} (ok fine : A → Type 0) → ((x : A) → ok x → fine x) → (l : List A) → Each ok l → Each fine l
 each-map ok fine f [] h = tt

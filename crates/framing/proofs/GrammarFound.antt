@@ -15,9 +15,9 @@ use Rattle.bits.specs.Packed.{Number}
 use Rattle.bits.proofs.Never.{never}
 use Rattle.bits.specs.Sizes.{maxElements, maxFields, trailerBits}
 use Rattle.framing.specs.Windows.{Window, part, Reading, got, failed, reading}
-use Rattle.framing.specs.Events.{numbers, Event, number, element, truncation, error, implicit, Trace}
+use Rattle.framing.specs.Events.{numbers, Event, number, element, array, truncation, error, implicit, Trace}
 use Rattle.framing.specs.Counters.{counters, faults}
-use Rattle.framing.specs.Walk.{Sink, numberAt, Lead, ends, fails, closes, opens, lead, Due, cut, broken, closed, present, fieldAt, tail, Run, done, stopped, prepend, onField, onLastField, fields, trailerOf, closing, inItem, entering, behind, beyond, onIndex, onLastIndex, elements, tooMany, onCount, level}
+use Rattle.framing.specs.Walk.{Sink, numberAt, Lead, ends, fails, closes, opens, lead, Due, cut, broken, closed, present, fieldAt, tail, Run, done, stopped, prepend, onField, onLastField, fields, trailerOf, closing, inItem, behind, beyond, onIndex, onLastIndex, elements, tooMany, onCount, level}
 use Rattle.framing.specs.Grammar.{Bits, noBits, numBits, Field, Element, Array, fieldBits, fieldsBits, elementBits, elementsBits, trailing, arrayBits}
 use Rattle.framing.specs.GrammarRules.{Each, FieldsOk, ElementOk, ArrayOk}
 use Rattle.framing.proofs.TraceLaws.{counters-append}
@@ -47,8 +47,11 @@ fine-rest e t h = omega arith
 pub fine-number : (x : Number) (t : Trace) → Fine t → Fine (number x ∷ t)
 fine-number x t h = omega arith
 
-pub fine-element : (i : ℕ) (t : Trace) → Fine t → Fine (element i ∷ t)
-fine-element i t h = omega arith
+pub fine-element : (p : List ℕ) (t : Trace) → Fine t → Fine (element p ∷ t)
+fine-element p t h = omega arith
+
+pub fine-array : (p : List ℕ) (t : Trace) → Fine t → Fine (array p ∷ t)
+fine-array p t h = omega arith
 
 -- the bits of a window
 abbrev pub bitsIn : Window → Bits
@@ -315,11 +318,10 @@ module _ (s : Sink) (P : Type 0) (bitsOf : P → Bits) (allowed : Bool → ℕ �
         go : (b : Bool) → beyond count i ≡ b → ElementsFound count (suc left) p
         go true k = let g′ : Fine (number x ∷ error ∷ []) = rw k at g in absurd (omega arith)
         go false k =
-            let g′ : Fine (number x ∷ element i ∷ (entering s path i ++ run (fields s w i (inItem s path i) maxFields q true))) = rw k at g in
-            let u : Trace = entering s path i ++ run (fields s w i (inItem s path i) maxFields q true) in
-            let h = fine-rest (element i) u (fine-rest (number x) (element i ∷ u) g′) in
-            ran (index-below count i k) (fields s w i (inItem s path i) maxFields q true) refl
-            (fine-append (entering s path i) (run (fields s w i (inItem s path i) maxFields q true)) h .1)
+            let u : Trace = run (fields s w i (inItem s path i) maxFields q true) in
+            let g′ : Fine (number x ∷ element (inItem s path i) ∷ u) = rw k at g in
+            let h = fine-rest (element (inItem s path i)) u (fine-rest (number x) (element (inItem s path i) ∷ u) g′) in
+            ran (index-below count i k) (fields s w i (inItem s path i) maxFields q true) refl h
 
     elements-found : (path : List ℕ) (count left p : ℕ) → Fine (elements s w path count left p) → ElementsFound count left p
     unfolding elements

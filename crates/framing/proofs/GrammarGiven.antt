@@ -1,203 +1,144 @@
 -- The leaves, pairs and element count of a walk without fault are those of the array that it walked: they are read off the trace that GrammarWalked
 -- finds, part by part.
 use Prim.Native.Nat.{ℕ, zero, suc, _+_, _-_, _*_}
-use mathlib.Core.Path.{_≡_, refl, sym, ap, ap₂, _∙_}
+use mathlib.Core.Path.{_≡_, refl, ap, ap₂, _∙_}
 use mathlib.Core.Bool.{Bool, true, false, _&&_}
 use mathlib.Core.List.{List, [], _∷_, _++_, append-nil}
 use native.Mathlib.Omega.{arith}
-use lib.Dec.{eqb, leb}
-use lib.ListN.{length}
+use lib.Dec.{eqb}
 use borrow.Author.Tests.{eq-eqb, ne-eqb}
-use Rattle.bits.specs.Sizes.{longestPath}
 use Rattle.schema.specs.Tables.{Tables, child}
-use Rattle.schema.specs.Labels.{atIndex, dot, labelBytes, containerLabel, leafLabel}
+use Rattle.schema.specs.Labels.{atIndex}
 use Rattle.schema.specs.declared.Child.{Child}
 use Rattle.schema.specs.declared.Child.the-variants as Child
 use Rattle.framing.specs.Windows.{Window}
-use Rattle.framing.specs.Events.{Leaf, Pair, Event, number, nested, over, leaves, pairs, overs, Trace}
+use Rattle.framing.specs.Events as Ev
+use Rattle.framing.specs.Events.{Leaf, Pair, Event, number, nested, leaves, pairs, Trace}
 use Rattle.framing.specs.Counters.{counters}
-use Rattle.framing.specs.Paths.{grownPath, overIfLong, leafOrOver}
-use Rattle.framing.specs.Walk.{Sink, inItem, entering, level}
-use Rattle.framing.specs.Sinks.{leafOf, onChild, structSink, tooDeep, objectSink}
+use Rattle.framing.specs.Paths.{arrayPath}
+use Rattle.framing.specs.Walk.{Sink, inItem, level}
+use Rattle.framing.specs.Sinks.{onChild, structSink, tooDeep, objectSink}
 use Rattle.framing.specs.Grammar.{Bits, numBits, Field, Element, Array, fieldBits, fieldsBits, elementBits, elementsBits, arrayBits}
 use Rattle.framing.specs.GrammarRules.{Each, FieldsOk, ElementOk, ArrayOk, plain, contentBits, PlainOk, NestedOk, array, allowedIn, IsStructArray, Reference, noGuid, guid, referenceBits, referenceIn, IsObjectArray}
 use Rattle.framing.specs.GrammarRules as G
 use Rattle.framing.specs.GrammarGives.{fieldsLeaves, elementsLeaves, arrayLeaves, plainLeaves, nestedLeaves, contentLeaves, structLeaves, referencePairs, fieldsPairs, elementsPairs, objectPairs, fieldsCount, elementsCount, arrayCount, contentCount}
-use Rattle.framing.proofs.TraceLaws.{leaves-append, pairs-append, overs-append, counters-append}
+use Rattle.framing.proofs.TraceLaws.{leaves-append, pairs-append, counters-append}
 use Rattle.framing.proofs.GrammarBits.{Span, Below}
 use Rattle.framing.proofs.GrammarWalked.{numAt, windowAt, fieldsTrace, elementsTrace, endTrace, arrayTrace, level-walked}
 use Rattle.framing.proofs.GrammarStruct.{whole-span, allowed-below}
 use Rattle.framing.proofs.GrammarObject.{guid-field, absent-field, object-walked}
-
--- ---- paths that are not too long are what they are
-
-within : (n m : ℕ) → n + m ≡ 0 → (n ≡ 0) × (m ≡ 0)
-within n m h = (omega arith, omega arith)
-
-split-overs : (t u : Trace) → overs (t ++ u) ≡ 0 → (overs t ≡ 0) × (overs u ≡ 0)
-split-overs t u h = within (overs t) (overs u) (sym (overs-append t u) ∙ h)
-
-leaf-is : (x : Leaf) → overs (leafOrOver x) ≡ 0 → leaves (leafOrOver x) ≡ x ∷ []
-unfolding leafOrOver
-leaf-is x h = go (leb (length (x .path)) longestPath) refl
-  where
-    go : (b : Bool) → leb (length (x .path)) longestPath ≡ b → leaves (leafOrOver x) ≡ x ∷ []
-    go true e = rw e refl
-    go false e = let h′ : overs (over ∷ []) ≡ 0 = rw e at h in absurd (omega arith)
-
-path-is : (path longer : List ℕ) → overs (overIfLong longer) ≡ 0 → grownPath path longer ≡ longer
-unfolding grownPath overIfLong
-path-is path longer h = go (leb (length longer) longestPath) refl
-  where
-    go : (b : Bool) → leb (length longer) longestPath ≡ b → grownPath path longer ≡ longer
-    go true e = rw e refl
-    go false e = let h′ : overs (over ∷ []) ≡ 0 = rw e at h in absurd (omega arith)
-
-over-leafless : (longer : List ℕ) → leaves (overIfLong longer) ≡ []
-unfolding overIfLong
-over-leafless longer = go (leb (length longer) longestPath) refl
-  where
-    go : (b : Bool) → leb (length longer) longestPath ≡ b → leaves (overIfLong longer) ≡ []
-    go true e = rw e refl
-    go false e = rw e refl
 
 -- ---- leaves of a level whose sink gives leaves
 
 module _ (s : Sink) (flat : s .flattens ≡ true) {P : Type 0} (bitsOf : P → Bits) (allowed : Bool → ℕ → P → Type 0)
     (ofPayload : (path : List ℕ) (handle start : ℕ) → P → List Leaf)
     (each : (i : ℕ) (path : List ℕ) (first : Bool) (h : ℕ) (x : P) → allowed first h x → (o p : ℕ)
-    → overs (s .field i path first h (windowAt o p (bitsOf x))) ≡ 0 → leaves (s .field i path first h (windowAt o p (bitsOf x))) ≡ ofPayload path h (o + p) x)
+    → leaves (s .field i path first h (windowAt o p (bitsOf x))) ≡ ofPayload path h (o + p) x)
     (rest : leaves (s .leftover 0 ∷ []) ≡ []) (o : ℕ) where
-  item-is : (path : List ℕ) (i : ℕ) → overs (entering s path i) ≡ 0 → inItem s path i ≡ atIndex path i
-  unfolding inItem entering
-  item-is path i h = let h′ : overs (overIfLong (atIndex path i)) ≡ 0 = rw flat at h in rw flat (path-is path (atIndex path i) h′)
-
-  entering-leafless : (path : List ℕ) (i : ℕ) → leaves (entering s path i) ≡ []
-  unfolding entering
-  entering-leafless path i = rw flat (over-leafless (atIndex path i))
+  item-is : (path : List ℕ) (i : ℕ) → inItem s path i ≡ atIndex path i
+  unfolding inItem
+  item-is path i = rw flat
 
   fields-leaves : (i : ℕ) (path : List ℕ) (first : Bool) (p : ℕ) (fs : List (Field P)) → FieldsOk bitsOf allowed first fs
-      → overs (fieldsTrace s bitsOf o i path first p fs) ≡ 0 → leaves (fieldsTrace s bitsOf o i path first p fs) ≡ fieldsLeaves bitsOf ofPayload o path p fs
+      → leaves (fieldsTrace s bitsOf o i path first p fs) ≡ fieldsLeaves bitsOf ofPayload o path p fs
   unfolding fieldsTrace fieldsLeaves
-  fields-leaves i path first p [] ok h = refl
-  fields-leaves i path first p (f ∷ fs) ok h =
+  fields-leaves i path first p [] ok = refl
+  fields-leaves i path first p (f ∷ fs) ok =
       let m = p + 8 * f .handle .bytes + 8 * f .width .bytes in
       let here = s .field i path first (f .handle .value - 1) (windowAt o m (bitsOf (f .payload))) in
       let later = fieldsTrace s bitsOf o i path (first && eqb (f .width .value) 0) (p + (fieldBits bitsOf f) .size) fs in
-      let parts = split-overs here later h in
       leaves-append here later
-      ∙ ap₂ (λ (a b : List Leaf). a ++ b) (each i path first (f .handle .value - 1) (f .payload) (ok .0 .content) o m (parts .0))
-      (fields-leaves i path (first && eqb (f .width .value) 0) (p + (fieldBits bitsOf f) .size) fs (ok .1) (parts .1))
+      ∙ ap₂ (λ (a b : List Leaf). a ++ b) (each i path first (f .handle .value - 1) (f .payload) (ok .0 .content) o m)
+      (fields-leaves i path (first && eqb (f .width .value) 0) (p + (fieldBits bitsOf f) .size) fs (ok .1))
 
   elements-leaves : (count : ℕ) (path : List ℕ) (p : ℕ) (es : List (Element P)) → Each (ElementOk bitsOf allowed count) es
-      → overs (elementsTrace s bitsOf o path p es) ≡ 0 → leaves (elementsTrace s bitsOf o path p es) ≡ elementsLeaves bitsOf ofPayload o path p es
+      → leaves (elementsTrace s bitsOf o path p es) ≡ elementsLeaves bitsOf ofPayload o path p es
   unfolding elementsTrace elementsLeaves
-  elements-leaves count path p [] ok h = refl
-  elements-leaves count path p (e ∷ es) ok h =
+  elements-leaves count path p [] ok = refl
+  elements-leaves count path p (e ∷ es) ok =
       let i = e .index .value - 1 in
       let q = p + 8 * e .index .bytes in
       let fs = fieldsTrace s bitsOf o i (inItem s path i) true q (e .fields) in
       let last : Trace = number (numAt o (q + (fieldsBits bitsOf (e .fields)) .size) (e .close)) ∷ [] in
       let later = elementsTrace s bitsOf o path (p + (elementBits bitsOf e) .size) es in
-      let h₁ = split-overs (entering s path i ++ (fs ++ last)) later h in
-      let h₂ = split-overs (entering s path i) (fs ++ last) (h₁ .0) in
-      let h₃ = split-overs fs last (h₂ .1) in
-      leaves-append (entering s path i ++ (fs ++ last)) later
+      leaves-append (fs ++ last) later
       ∙ ap₂ (λ (a b : List Leaf). a ++ b)
-      (leaves-append (entering s path i) (fs ++ last)
-      ∙ ap (λ (a : List Leaf). a ++ leaves (fs ++ last)) (entering-leafless path i)
-      ∙ leaves-append fs last
+      (leaves-append fs last
       ∙ append-nil (leaves fs)
-      ∙ fields-leaves i (inItem s path i) true q (e .fields) (ok .0 .fields) (h₃ .0)
-      ∙ ap (λ (l : List ℕ). fieldsLeaves bitsOf ofPayload o l q (e .fields)) (item-is path i (h₂ .0)))
-      (elements-leaves count path (p + (elementBits bitsOf e) .size) es (ok .1) (h₁ .1))
+      ∙ fields-leaves i (inItem s path i) true q (e .fields) (ok .0 .fields)
+      ∙ ap (λ (l : List ℕ). fieldsLeaves bitsOf ofPayload o l q (e .fields)) (item-is path i))
+      (elements-leaves count path (p + (elementBits bitsOf e) .size) es (ok .1))
 
   end-leafless : (t : Bool) (p : ℕ) → leaves (endTrace s bitsOf o t p) ≡ []
   end-leafless true p = rest
   end-leafless false p = rest
 
-  array-leaves : (takes : Bool) (path : List ℕ) (a : Array P) → ArrayOk bitsOf allowed takes a → overs (arrayTrace s bitsOf o path a) ≡ 0
+  array-leaves : (takes : Bool) (path : List ℕ) (a : Array P) → ArrayOk bitsOf allowed takes a
       → leaves (arrayTrace s bitsOf o path a) ≡ arrayLeaves bitsOf ofPayload o path a
-  array-leaves takes path a ok h =
+  array-leaves takes path a ok =
       let p = 8 * a .count .bytes in
       let q = p + (elementsBits bitsOf (a .elements)) .size in
       let es = elementsTrace s bitsOf o path p (a .elements) in
       let end : Trace = number (numAt o q (a .close)) ∷ endTrace s bitsOf o (a .trailer) (q + 8 * a .close .bytes) in
-      let parts = split-overs es end h in
       leaves-append es end
-      ∙ ap₂ (λ (x y : List Leaf). x ++ y) (elements-leaves (a .count .value) path p (a .elements) (ok .elements) (parts .0)) (end-leafless (a .trailer) (q + 8 * a .close .bytes))
+      ∙ ap₂ (λ (x y : List Leaf). x ++ y) (elements-leaves (a .count .value) path p (a .elements) (ok .elements)) (end-leafless (a .trailer) (q + 8 * a .close .bytes))
       ∙ append-nil (arrayLeaves bitsOf ofPayload o path a)
 
 -- ---- the struct walk
 
-plain-given : (t : Tables) (lvl : ℕ) (into : ℕ → List ℕ → List ℕ → ℕ → Window → Trace) (path : List ℕ) (h : ℕ) (b : Bits) (o p : ℕ) (c : Child) → PlainOk b c
-    → overs (onChild t lvl into path h (windowAt o p b) c) ≡ 0 → leaves (onChild t lvl into path h (windowAt o p b) c) ≡ plainLeaves t lvl path h (o + p) b c
-plain-given t lvl into path h b o p Child.Leaf ok e = leaf-is (leafOf (dot path (labelBytes t h (leafLabel t lvl h))) h (windowAt o p b)) e
-plain-given t lvl into path h b o p (Child.Array below) (G.empty z) e = rw (eq-eqb (b .size) 0 z) refl
+plain-given : (t : Tables) (lvl : ℕ) (into : ℕ → List ℕ → ℕ → Window → Trace) (path : List ℕ) (h : ℕ) (b : Bits) (o p : ℕ) (c : Child) → PlainOk b c
+    → leaves (onChild t lvl into path h (windowAt o p b) c) ≡ plainLeaves t lvl path h (o + p) b c
+plain-given t lvl into path h b o p Child.Leaf ok = refl
+plain-given t lvl into path h b o p (Child.Array below) (G.empty z) = rw (eq-eqb (b .size) 0 z) refl
 
 nested-given : (deeper : ℕ) (t : Tables) (takes : Bool) (lvl : ℕ) (a : Array (G.Content deeper)) (path : List ℕ) (h o p : ℕ)
     → Below (arrayBits (contentBits deeper) a)
     → ((below : ℕ) → IsStructArray deeper (t .rows) takes below a → (v : Window) → Span v 0 (v .size) (arrayBits (contentBits deeper) a) → (place : List ℕ)
-    → overs (level (structSink deeper t takes nested below) v place) ≡ 0
     → leaves (level (structSink deeper t takes nested below) v place) ≡ structLeaves deeper t below (v .origin) place a)
     → (c : Child) → NestedOk ((arrayBits (contentBits deeper) a) .size) (λ below. IsStructArray deeper (t .rows) takes below a) c
-    → overs (onChild t lvl (λ below path longer handle w. overIfLong longer ++ level (structSink deeper t takes nested below) w (grownPath path longer)) path h
-    (windowAt o p (arrayBits (contentBits deeper) a)) c) ≡ 0
-    → leaves (onChild t lvl (λ below path longer handle w. overIfLong longer ++ level (structSink deeper t takes nested below) w (grownPath path longer)) path h
+    → leaves (onChild t lvl (λ below path handle w. Ev.array path ∷ level (structSink deeper t takes nested below) w path) path h
     (windowAt o p (arrayBits (contentBits deeper) a)) c)
     ≡ nestedLeaves (λ below longer. structLeaves deeper t below (o + p) longer a) t lvl path h c
-nested-given deeper t takes lvl a path h o p b inside (Child.Array below) (array some inner) e =
+nested-given deeper t takes lvl a path h o p b inside (Child.Array below) (array some inner) =
     let v = windowAt o p (arrayBits (contentBits deeper) a) in
-    let longer = dot path (labelBytes t h (containerLabel t lvl h)) in
-    let k = ne-eqb ((arrayBits (contentBits deeper) a) .size) 0 (λ z. omega arith) in
-    let tr = level (structSink deeper t takes nested below) v (grownPath path longer) in
-    let e′ : overs (overIfLong longer ++ tr) ≡ 0 = rw k at e in
-    let parts = split-overs (overIfLong longer) tr e′ in
-    rw k
-    (leaves-append (overIfLong longer) tr
-    ∙ ap (λ (l : List Leaf). l ++ leaves tr) (over-leafless longer)
-    ∙ inside below inner v (whole-span v (arrayBits (contentBits deeper) a) b refl) (grownPath path longer) (parts .1)
-    ∙ ap (λ (q : List ℕ). structLeaves deeper t below (o + p) q a) (path-is path longer (parts .0)))
+    rw (ne-eqb ((arrayBits (contentBits deeper) a) .size) 0 (λ z. omega arith))
+    (inside below inner v (whole-span v (arrayBits (contentBits deeper) a) b refl) (arrayPath t lvl path h))
 
--- Where no path is too long, the leaves of the walk are those of the struct array.
+-- The leaves of the walk are those of the struct array.
 pub struct-leaves : (deeper : ℕ) (t : Tables) (takes : Bool) (leftover : ℕ → Event) (lvl : ℕ) → leaves (leftover 0 ∷ []) ≡ [] → (a : Array (G.Content deeper))
     → IsStructArray deeper (t .rows) takes lvl a → (w : Window) → Span w 0 (w .size) (arrayBits (contentBits deeper) a) → (path : List ℕ)
-    → overs (level (structSink deeper t takes leftover lvl) w path) ≡ 0
     → leaves (level (structSink deeper t takes leftover lvl) w path) ≡ structLeaves deeper t lvl (w .origin) path a
 unfolding structSink
-struct-leaves zero t takes leftover lvl rest a ok w sp path h =
+struct-leaves zero t takes leftover lvl rest a ok w sp path =
     let s = structSink zero t takes leftover lvl in
     let walked = level-walked (contentBits zero) (λ f k x. allowedIn zero (t .rows) takes lvl f k x) (λ f k x y. allowed-below zero (t .rows) takes lvl f k x y) s w path a ok sp in
     ap leaves walked
     ∙ array-leaves s refl (contentBits zero) (λ f k x. allowedIn zero (t .rows) takes lvl f k x) (λ q k n x. contentLeaves zero t lvl q k n x) each rest (w .origin) takes path a ok
-    (ap overs (sym walked) ∙ h)
   where
     each : (i : ℕ) (path : List ℕ) (first : Bool) (h : ℕ) (x : G.Content zero) → allowedIn zero (t .rows) takes lvl first h x → (o p : ℕ)
-        → overs ((structSink zero t takes leftover lvl) .field i path first h (windowAt o p (contentBits zero x))) ≡ 0
         → leaves ((structSink zero t takes leftover lvl) .field i path first h (windowAt o p (contentBits zero x))) ≡ contentLeaves zero t lvl path h (o + p) x
-    each i path first h (plain b) y o p e = plain-given t lvl tooDeep path h b o p (child (t .rows) lvl h) (y .1) e
-    each i path first h (G.nested z) y o p e = absurd y
-struct-leaves (suc deeper) t takes leftover lvl rest a ok w sp path h =
+    each i path first h (plain b) y o p = plain-given t lvl tooDeep path h b o p (child (t .rows) lvl h) (y .1)
+    each i path first h (G.nested z) y o p = absurd y
+struct-leaves (suc deeper) t takes leftover lvl rest a ok w sp path =
     let s = structSink (suc deeper) t takes leftover lvl in
     let walked = level-walked (contentBits (suc deeper)) (λ f k x. allowedIn (suc deeper) (t .rows) takes lvl f k x) (λ f k x y. allowed-below (suc deeper) (t .rows) takes lvl f k x y) s w
     path a ok sp in
     ap leaves walked
     ∙ array-leaves s refl (contentBits (suc deeper)) (λ f k x. allowedIn (suc deeper) (t .rows) takes lvl f k x) (λ q k n x. contentLeaves (suc deeper) t lvl q k n x)
-    (each (λ below x y v z place u. struct-leaves deeper t takes nested below refl x y v z place u)) rest (w .origin) takes path a ok (ap overs (sym walked) ∙ h)
+    (each (λ below x y v z place. struct-leaves deeper t takes nested below refl x y v z place)) rest (w .origin) takes path a ok
   where
     Inside : Type 0
     Inside = (below : ℕ) (x : Array (G.Content deeper)) → IsStructArray deeper (t .rows) takes below x → (v : Window)
-        → Span v 0 (v .size) (arrayBits (contentBits deeper) x) → (place : List ℕ) → overs (level (structSink deeper t takes nested below) v place) ≡ 0
+        → Span v 0 (v .size) (arrayBits (contentBits deeper) x) → (place : List ℕ)
         → leaves (level (structSink deeper t takes nested below) v place) ≡ structLeaves deeper t below (v .origin) place x
 
     each : Inside → (i : ℕ) (path : List ℕ) (first : Bool) (h : ℕ) (x : G.Content (suc deeper)) → allowedIn (suc deeper) (t .rows) takes lvl first h x → (o p : ℕ)
-        → overs ((structSink (suc deeper) t takes leftover lvl) .field i path first h (windowAt o p (contentBits (suc deeper) x))) ≡ 0
         → leaves ((structSink (suc deeper) t takes leftover lvl) .field i path first h (windowAt o p (contentBits (suc deeper) x))) ≡ contentLeaves (suc deeper) t lvl path h (o + p) x
-    each inside i path first h (plain b) y o p e =
-        plain-given t lvl (λ below path longer handle w. overIfLong longer ++ level (structSink deeper t takes nested below) w (grownPath path longer)) path h b o p (child (t .rows) lvl h) (y .1) e
-    each inside i path first h (G.nested z) y o p e =
+    each inside i path first h (plain b) y o p =
+        plain-given t lvl (λ below path handle w. Ev.array path ∷ level (structSink deeper t takes nested below) w path) path h b o p (child (t .rows) lvl h) (y .1)
+    each inside i path first h (G.nested z) y o p =
         nested-given deeper t takes lvl z path h o p (allowed-below (suc deeper) (t .rows) takes lvl first h (G.nested z) y)
-        (λ below u v q place r. inside below z u v q place r) (child (t .rows) lvl h) y e
+        (λ below u v q place. inside below z u v q place) (child (t .rows) lvl h) y
 
 -- ---- how many elements
 
@@ -209,7 +150,7 @@ entered-append t u = ap (λ c. c .elements) (counters-append t u)
 
 module _ (s : Sink) {P : Type 0} (bitsOf : P → Bits) (allowed : Bool → ℕ → P → Type 0) (ofPayload : P → ℕ)
     (each : (i : ℕ) (path : List ℕ) (first : Bool) (h : ℕ) (x : P) → allowed first h x → (o p : ℕ) → entered (s .field i path first h (windowAt o p (bitsOf x))) ≡ ofPayload x)
-    (enter : (path : List ℕ) (i : ℕ) → entered (entering s path i) ≡ 0) (rest : entered (s .leftover 0 ∷ []) ≡ 0) (o : ℕ) where
+    (rest : entered (s .leftover 0 ∷ []) ≡ 0) (o : ℕ) where
   fields-count : (i : ℕ) (path : List ℕ) (first : Bool) (p : ℕ) (fs : List (Field P)) → FieldsOk bitsOf allowed first fs
       → entered (fieldsTrace s bitsOf o i path first p fs) ≡ fieldsCount ofPayload fs
   unfolding fieldsTrace fieldsCount
@@ -233,10 +174,8 @@ module _ (s : Sink) {P : Type 0} (bitsOf : P → Bits) (allowed : Bool → ℕ �
       let fs = fieldsTrace s bitsOf o i (inItem s path i) true q (e .fields) in
       let last : Trace = number (numAt o (q + (fieldsBits bitsOf (e .fields)) .size) (e .close)) ∷ [] in
       let later = elementsTrace s bitsOf o path (p + (elementBits bitsOf e) .size) es in
-      let a = entered-append (entering s path i ++ (fs ++ last)) later in
-      let b = entered-append (entering s path i) (fs ++ last) in
+      let a = entered-append (fs ++ last) later in
       let c = entered-append fs last in
-      let d = enter path i in
       let f = fields-count i (inItem s path i) true q (e .fields) (ok .0 .fields) in
       let g = elements-count count path (p + (elementBits bitsOf e) .size) es (ok .1) in
       omega arith
@@ -256,34 +195,9 @@ module _ (s : Sink) {P : Type 0} (bitsOf : P → Bits) (allowed : Bool → ℕ �
       let z = end-count (a .trailer) (q + 8 * a .close .bytes) in
       omega arith
 
--- what a path or a leaf enters: nothing
-over-enters : (longer : List ℕ) → entered (overIfLong longer) ≡ 0
-unfolding overIfLong
-over-enters longer = go (leb (length longer) longestPath) refl
-  where
-    go : (b : Bool) → leb (length longer) longestPath ≡ b → entered (overIfLong longer) ≡ 0
-    go true e = rw e refl
-    go false e = rw e refl
-
-leaf-enters : (x : Leaf) → entered (leafOrOver x) ≡ 0
-unfolding leafOrOver
-leaf-enters x = go (leb (length (x .path)) longestPath) refl
-  where
-    go : (b : Bool) → leb (length (x .path)) longestPath ≡ b → entered (leafOrOver x) ≡ 0
-    go true e = rw e refl
-    go false e = rw e refl
-
-entering-enters : (s : Sink) (path : List ℕ) (i : ℕ) → entered (entering s path i) ≡ 0
-unfolding entering
-entering-enters s path i = go (s .flattens) refl
-  where
-    go : (b : Bool) → s .flattens ≡ b → entered (entering s path i) ≡ 0
-    go true e = rw e (over-enters (atIndex path i))
-    go false e = rw e refl
-
-plain-count : (t : Tables) (lvl : ℕ) (into : ℕ → List ℕ → List ℕ → ℕ → Window → Trace) (path : List ℕ) (h : ℕ) (b : Bits) (o p : ℕ) (c : Child) → PlainOk b c
+plain-count : (t : Tables) (lvl : ℕ) (into : ℕ → List ℕ → ℕ → Window → Trace) (path : List ℕ) (h : ℕ) (b : Bits) (o p : ℕ) (c : Child) → PlainOk b c
     → entered (onChild t lvl into path h (windowAt o p b) c) ≡ 0
-plain-count t lvl into path h b o p Child.Leaf ok = leaf-enters _
+plain-count t lvl into path h b o p Child.Leaf ok = refl
 plain-count t lvl into path h b o p (Child.Array below) (G.empty z) = rw (eq-eqb (b .size) 0 z) refl
 
 nested-count : (deeper : ℕ) (t : Tables) (takes : Bool) (lvl : ℕ) (a : Array (G.Content deeper)) (path : List ℕ) (h o p : ℕ)
@@ -291,16 +205,12 @@ nested-count : (deeper : ℕ) (t : Tables) (takes : Bool) (lvl : ℕ) (a : Array
     → ((below : ℕ) → IsStructArray deeper (t .rows) takes below a → (v : Window) → Span v 0 (v .size) (arrayBits (contentBits deeper) a) → (place : List ℕ)
     → entered (level (structSink deeper t takes nested below) v place) ≡ arrayCount (contentCount deeper) a)
     → (c : Child) → NestedOk ((arrayBits (contentBits deeper) a) .size) (λ below. IsStructArray deeper (t .rows) takes below a) c
-    → entered (onChild t lvl (λ below path longer handle w. overIfLong longer ++ level (structSink deeper t takes nested below) w (grownPath path longer)) path h
+    → entered (onChild t lvl (λ below path handle w. Ev.array path ∷ level (structSink deeper t takes nested below) w path) path h
     (windowAt o p (arrayBits (contentBits deeper) a)) c)
     ≡ arrayCount (contentCount deeper) a
 nested-count deeper t takes lvl a path h o p b inside (Child.Array below) (array some inner) =
     let v = windowAt o p (arrayBits (contentBits deeper) a) in
-    let longer = dot path (labelBytes t h (containerLabel t lvl h)) in
-    let tr = level (structSink deeper t takes nested below) v (grownPath path longer) in
-    let x = entered-append (overIfLong longer) tr in
-    let y = over-enters longer in
-    let z = inside below inner v (whole-span v (arrayBits (contentBits deeper) a) b refl) (grownPath path longer) in
+    let z = inside below inner v (whole-span v (arrayBits (contentBits deeper) a) b refl) (arrayPath t lvl path h) in
     rw (ne-eqb ((arrayBits (contentBits deeper) a) .size) 0 (λ z. omega arith)) (omega arith)
 
 -- The elements that the walk enters are those of the struct array.
@@ -311,7 +221,7 @@ unfolding structSink
 struct-elements zero t takes leftover lvl rest a ok w sp path =
     let s = structSink zero t takes leftover lvl in
     ap entered (level-walked (contentBits zero) (λ f k x. allowedIn zero (t .rows) takes lvl f k x) (λ f k x y. allowed-below zero (t .rows) takes lvl f k x y) s w path a ok sp)
-    ∙ array-count s (contentBits zero) (λ f k x. allowedIn zero (t .rows) takes lvl f k x) (contentCount zero) each (λ q i. entering-enters s q i) rest (w .origin) takes path a ok
+    ∙ array-count s (contentBits zero) (λ f k x. allowedIn zero (t .rows) takes lvl f k x) (contentCount zero) each rest (w .origin) takes path a ok
   where
     each : (i : ℕ) (path : List ℕ) (first : Bool) (h : ℕ) (x : G.Content zero) → allowedIn zero (t .rows) takes lvl first h x → (o p : ℕ)
         → entered ((structSink zero t takes leftover lvl) .field i path first h (windowAt o p (contentBits zero x))) ≡ contentCount zero x
@@ -323,7 +233,7 @@ struct-elements (suc deeper) t takes leftover lvl rest a ok w sp path =
     (level-walked (contentBits (suc deeper)) (λ f k x. allowedIn (suc deeper) (t .rows) takes lvl f k x) (λ f k x y. allowed-below (suc deeper) (t .rows) takes lvl f k x y) s w path a ok
     sp)
     ∙ array-count s (contentBits (suc deeper)) (λ f k x. allowedIn (suc deeper) (t .rows) takes lvl f k x) (contentCount (suc deeper))
-    (each (λ below x y v z place. struct-elements deeper t takes nested below refl x y v z place)) (λ q i. entering-enters s q i) rest (w .origin) takes path a ok
+    (each (λ below x y v z place. struct-elements deeper t takes nested below refl x y v z place)) rest (w .origin) takes path a ok
   where
     Inside : Type 0
     Inside = (below : ℕ) (x : Array (G.Content deeper)) → IsStructArray deeper (t .rows) takes below x → (v : Window)
@@ -333,7 +243,7 @@ struct-elements (suc deeper) t takes leftover lvl rest a ok w sp path =
     each : Inside → (i : ℕ) (path : List ℕ) (first : Bool) (h : ℕ) (x : G.Content (suc deeper)) → allowedIn (suc deeper) (t .rows) takes lvl first h x → (o p : ℕ)
         → entered ((structSink (suc deeper) t takes leftover lvl) .field i path first h (windowAt o p (contentBits (suc deeper) x))) ≡ contentCount (suc deeper) x
     each inside i path first h (plain b) y o p =
-        plain-count t lvl (λ below path longer handle w. overIfLong longer ++ level (structSink deeper t takes nested below) w (grownPath path longer)) path h b o p (child (t .rows) lvl h) (y .1)
+        plain-count t lvl (λ below path handle w. Ev.array path ∷ level (structSink deeper t takes nested below) w path) path h b o p (child (t .rows) lvl h) (y .1)
     each inside i path first h (G.nested z) y o p =
         nested-count deeper t takes lvl z path h o p (allowed-below (suc deeper) (t .rows) takes lvl first h (G.nested z) y)
         (λ below u v q place. inside below z u v q place) (child (t .rows) lvl h) y
@@ -351,10 +261,6 @@ reference-enters : (i : ℕ) (path : List ℕ) (first : Bool) (h : ℕ) (x : Ref
 reference-enters i path first h noGuid ok o p = ap entered (absent-field i h path first o p)
 reference-enters i path first h (guid n) ok o p =
     ap (λ (f : Bool). entered (objectSink .field i path f h (windowAt o p (numBits n)))) (ok .0) ∙ ap entered (guid-field i h path n (ok .1) o p)
-
-no-path : (path : List ℕ) (i : ℕ) → pairs (entering objectSink path i) ≡ []
-unfolding entering objectSink
-no-path path i = refl
 
 fields-pairs : (o i : ℕ) (path : List ℕ) (first : Bool) (p : ℕ) (fs : List (Field Reference)) → FieldsOk referenceBits referenceIn first fs
     → pairs (fieldsTrace objectSink referenceBits o i path first p fs) ≡ fieldsPairs i fs
@@ -378,11 +284,9 @@ elements-pairs o count path p (e ∷ es) ok =
     let fs = fieldsTrace objectSink referenceBits o i (inItem objectSink path i) true q (e .fields) in
     let last : Trace = number (numAt o (q + (fieldsBits referenceBits (e .fields)) .size) (e .close)) ∷ [] in
     let later = elementsTrace objectSink referenceBits o path (p + (elementBits referenceBits e) .size) es in
-    pairs-append (entering objectSink path i ++ (fs ++ last)) later
+    pairs-append (fs ++ last) later
     ∙ ap₂ (λ (a b : List Pair). a ++ b)
-    (pairs-append (entering objectSink path i) (fs ++ last)
-    ∙ ap (λ (a : List Pair). a ++ pairs (fs ++ last)) (no-path path i)
-    ∙ pairs-append fs last
+    (pairs-append fs last
     ∙ append-nil (pairs fs)
     ∙ fields-pairs o i (inItem objectSink path i) true q (e .fields) (ok .0 .fields))
     (elements-pairs o count path (p + (elementBits referenceBits e) .size) es (ok .1))
@@ -412,4 +316,4 @@ pub object-elements : (a : Array Reference) → IsObjectArray a → (w : Window)
 unfolding objectSink
 object-elements a ok w sp path =
     ap entered (object-walked a ok w sp path)
-    ∙ array-count objectSink referenceBits referenceIn (λ x. 0) reference-enters (λ q i. entering-enters objectSink q i) refl (w .origin) true path a ok
+    ∙ array-count objectSink referenceBits referenceIn (λ x. 0) reference-enters refl (w .origin) true path a ok

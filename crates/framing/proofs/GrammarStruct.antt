@@ -6,26 +6,23 @@ use mathlib.Core.Bool.{Bool, true, false, _&&_}
 use mathlib.Core.List.{List, [], _∷_, _++_}
 use native.Mathlib.Nat.{div-one, mod-eq-of-lt}
 use native.Mathlib.Omega.{arith}
-use lib.Dec.{eqb, leb}
-use lib.ListN.{length}
+use lib.Dec.{eqb}
 use borrow.Author.Tests.{eqb-true, eqb-false, eq-eqb, ne-eqb}
 use Rattle.bits.specs.Bits.{field}
-use Rattle.bits.specs.Sizes.{longestPath}
 use Rattle.schema.specs.Tables.{Tables, child}
-use Rattle.schema.specs.Labels.{atIndex, dot, labelBytes, containerLabel}
 use Rattle.schema.specs.declared.Child.{Child}
 use Rattle.schema.specs.declared.Child.the-variants as Child
 use Rattle.framing.specs.Windows.{Window}
 use Rattle.framing.specs.Events as Ev
 use Rattle.framing.specs.Events.{Event, number, element, truncation, nested, Trace}
-use Rattle.framing.specs.Paths.{grownPath, overIfLong, leafOrOver}
-use Rattle.framing.specs.Walk.{Sink, inItem, entering, level}
+use Rattle.framing.specs.Paths.{arrayPath}
+use Rattle.framing.specs.Walk.{Sink, inItem, level}
 use Rattle.framing.specs.Sinks.{leafOf, onChild, structSink, tooDeep}
 use Rattle.framing.specs.Grammar.{Bits, Field, Element, Array, fieldBits, fieldsBits, elementBits, elementsBits, arrayBits}
 use Rattle.framing.specs.GrammarRules.{Each, FieldsOk, ElementOk, ArrayOk, plain, contentBits, PlainOk, NestedOk, array, allowedIn, IsStructArray}
 use Rattle.framing.specs.GrammarRules as G
 use Rattle.framing.proofs.GrammarBits.{Span, Below}
-use Rattle.framing.proofs.GrammarFound.{Fine, fine-append, fine-join, fine-number, fine-element, bitsIn, Content, level-found}
+use Rattle.framing.proofs.GrammarFound.{Fine, fine-join, fine-number, fine-element, fine-array, fine-rest, bitsIn, Content, level-found}
 use Rattle.framing.proofs.GrammarWalked.{numAt, windowAt, fieldsTrace, bodyTrace, elementsTrace, endTrace, arrayTrace, array-below, level-walked}
 
 -- ---- a whole window as bits
@@ -101,8 +98,7 @@ found-struct zero t takes leftover lvl tells w path g =
         go : (x : Bool) → eqb (v .size) 0 ≡ x → Content (G.Content zero) (contentBits zero) (λ f k x. allowedIn zero (t .rows) takes lvl f k x) first h v
         go true k = plain-zero (t .rows) takes lvl first h v b (subst (λ (c : Child). PlainOk (bitsIn v) c) (sym e) (G.empty (eqb-true _ _ k)))
         go false k =
-            let longer = dot path (labelBytes t h (containerLabel t lvl h)) in
-            let g′ : Fine (truncation ∷ leafOrOver (leafOf longer h v)) = rw k at g in
+            let g′ : Fine (truncation ∷ Ev.leaf (leafOf (arrayPath t lvl path h) h v) ∷ []) = rw k at g in
             absurd (omega arith)
 
     find : (i : ℕ) (path : List ℕ) (first : Bool) (h : ℕ) (v : Window) → v .bits < 2 ^ v .size
@@ -117,7 +113,7 @@ found-struct (suc deeper) t takes leftover lvl tells w path g =
     Inside = (below : ℕ) (v : Window) (place : List ℕ) → Fine (level (structSink deeper t takes nested below) v place) → InStruct deeper (t .rows) takes below v
 
     look : Inside → (i : ℕ) (path : List ℕ) (first : Bool) (h : ℕ) (v : Window) → v .bits < 2 ^ v .size → (c : Child) → child (t .rows) lvl h ≡ c
-        → Fine (onChild t lvl (λ below path longer handle w. overIfLong longer ++ level (structSink deeper t takes nested below) w (grownPath path longer)) path h v c)
+        → Fine (onChild t lvl (λ below path handle w. Ev.array path ∷ level (structSink deeper t takes nested below) w path) path h v c)
         → Content (G.Content (suc deeper)) (contentBits (suc deeper)) (λ f k x. allowedIn (suc deeper) (t .rows) takes lvl f k x) first h v
     look inside i path first h v b Child.Leaf e g = plain-more deeper (t .rows) takes lvl first h v b (subst (λ (c : Child). PlainOk (bitsIn v) c) (sym e) G.leaf)
     look inside i path first h v b (Child.Array below) e g = go (eqb (v .size) 0) refl
@@ -125,10 +121,10 @@ found-struct (suc deeper) t takes leftover lvl tells w path g =
         go : (x : Bool) → eqb (v .size) 0 ≡ x → Content (G.Content (suc deeper)) (contentBits (suc deeper)) (λ f k x. allowedIn (suc deeper) (t .rows) takes lvl f k x) first h v
         go true k = plain-more deeper (t .rows) takes lvl first h v b (subst (λ (c : Child). PlainOk (bitsIn v) c) (sym e) (G.empty (eqb-true _ _ k)))
         go false k =
-            let longer = dot path (labelBytes t h (containerLabel t lvl h)) in
-            let g′ : Fine (overIfLong longer ++ level (structSink deeper t takes nested below) v (grownPath path longer)) = rw k at g in
-            nested-more deeper (t .rows) takes lvl first h below v b (eqb-false _ _ k) e
-            (inside below v (grownPath path longer) (fine-append (overIfLong longer) (level (structSink deeper t takes nested below) v (grownPath path longer)) g′ .1))
+            let q = arrayPath t lvl path h in
+            let u = level (structSink deeper t takes nested below) v q in
+            let g′ : Fine (Ev.array q ∷ u) = rw k at g in
+            nested-more deeper (t .rows) takes lvl first h below v b (eqb-false _ _ k) e (inside below v q (fine-rest (Ev.array q) u g′))
 
     find : Inside → (i : ℕ) (path : List ℕ) (first : Bool) (h : ℕ) (v : Window) → v .bits < 2 ^ v .size
         → Fine ((structSink (suc deeper) t takes leftover lvl) .field i path first h v)
@@ -136,30 +132,6 @@ found-struct (suc deeper) t takes leftover lvl tells w path g =
     find inside i path first h v b g = look inside i path first h v b (child (t .rows) lvl h) refl g
 
 -- ---- in the grammar, so clean
-
-over-fine : (longer : List ℕ) → Fine (overIfLong longer)
-unfolding overIfLong
-over-fine longer = go (leb (length longer) longestPath) refl
-  where
-    go : (b : Bool) → leb (length longer) longestPath ≡ b → Fine (overIfLong longer)
-    go true e = rw e refl
-    go false e = rw e refl
-
-leaf-fine : (x : Ev.Leaf) → Fine (leafOrOver x)
-unfolding leafOrOver
-leaf-fine x = go (leb (length (x .path)) longestPath) refl
-  where
-    go : (b : Bool) → leb (length (x .path)) longestPath ≡ b → Fine (leafOrOver x)
-    go true e = rw e refl
-    go false e = rw e refl
-
-entering-fine : (s : Sink) (path : List ℕ) (i : ℕ) → Fine (entering s path i)
-unfolding entering
-entering-fine s path i = go (s .flattens) refl
-  where
-    go : (b : Bool) → s .flattens ≡ b → Fine (entering s path i)
-    go true e = rw e (over-fine (atIndex path i))
-    go false e = rw e refl
 
 module _ (s : Sink) {P : Type 0} (bitsOf : P → Bits) (allowed : Bool → ℕ → P → Type 0)
     (always : (i : ℕ) (path : List ℕ) (first : Bool) (h : ℕ) (x : P) → allowed first h x → (o p : ℕ) → Fine (s .field i path first h (windowAt o p (bitsOf x))))
@@ -184,12 +156,11 @@ module _ (s : Sink) {P : Type 0} (bitsOf : P → Bits) (allowed : Bool → ℕ �
       let body = bodyTrace s bitsOf o i (inItem s path i) (p + 8 * e .index .bytes) e in
       let rest = elementsTrace s bitsOf o path (p + (elementBits bitsOf e) .size) es in
       let last : Trace = number (numAt o (p + 8 * e .index .bytes + (fieldsBits bitsOf (e .fields)) .size) (e .close)) ∷ [] in
-      fine-number (numAt o p (e .index)) (element i ∷ ((entering s path i ++ body) ++ rest))
-      (fine-element i ((entering s path i ++ body) ++ rest)
-      (fine-join (entering s path i ++ body) rest
-      (fine-join (entering s path i) body (entering-fine s path i)
+      fine-number (numAt o p (e .index)) (element (inItem s path i) ∷ (body ++ rest))
+      (fine-element (inItem s path i) (body ++ rest)
+      (fine-join body rest
       (fine-join (fieldsTrace s bitsOf o i (inItem s path i) true (p + 8 * e .index .bytes) (e .fields)) last
-      (fields-fine i (inItem s path i) true (p + 8 * e .index .bytes) (e .fields) (ok .0 .fields)) refl))
+      (fields-fine i (inItem s path i) true (p + 8 * e .index .bytes) (e .fields) (ok .0 .fields)) refl)
       (elements-fine count path (p + (elementBits bitsOf e) .size) es (ok .1))))
 
   end-fine : (t : Bool) (p : ℕ) → Fine (endTrace s bitsOf o t p)
@@ -221,9 +192,9 @@ allowed-below (suc deeper) rows takes lvl first h (G.nested a) ok =
     nested-below deeper rows takes a (λ l f k x y. allowed-below deeper rows takes l f k x y) ok
 
 -- a plain payload and a nested array as the sink takes them
-plain-fine : (t : Tables) (lvl : ℕ) (into : ℕ → List ℕ → List ℕ → ℕ → Window → Trace) (path : List ℕ) (h : ℕ) (v : Window) (c : Child) → PlainOk (bitsIn v) c
+plain-fine : (t : Tables) (lvl : ℕ) (into : ℕ → List ℕ → ℕ → Window → Trace) (path : List ℕ) (h : ℕ) (v : Window) (c : Child) → PlainOk (bitsIn v) c
     → Fine (onChild t lvl into path h v c)
-plain-fine t lvl into path h v Child.Leaf ok = leaf-fine _
+plain-fine t lvl into path h v Child.Leaf ok = refl
 plain-fine t lvl into path h v (Child.Array below) (G.empty e) = rw (eq-eqb (v .size) 0 e) refl
 
 nested-fine : (deeper : ℕ) (t : Tables) (takes : Bool) (lvl : ℕ) (a : Array (G.Content deeper))
@@ -231,13 +202,13 @@ nested-fine : (deeper : ℕ) (t : Tables) (takes : Bool) (lvl : ℕ) (a : Array 
     → Fine (level (structSink deeper t takes nested below) v path))
     → (path : List ℕ) (h o p : ℕ) {c : Child} → NestedOk ((arrayBits (contentBits deeper) a) .size) (λ below. IsStructArray deeper (t .rows) takes below a) c
     → Below (arrayBits (contentBits deeper) a)
-    → Fine (onChild t lvl (λ below path longer handle w. overIfLong longer ++ level (structSink deeper t takes nested below) w (grownPath path longer)) path h
+    → Fine (onChild t lvl (λ below path handle w. Ev.array path ∷ level (structSink deeper t takes nested below) w path) path h
     (windowAt o p (arrayBits (contentBits deeper) a)) c)
 nested-fine deeper t takes lvl a inside path h o p (array {below = below} some inner) b =
     let v = windowAt o p (arrayBits (contentBits deeper) a) in
-    let longer = dot path (labelBytes t h (containerLabel t lvl h)) in
+    let q = arrayPath t lvl path h in
     rw (ne-eqb ((arrayBits (contentBits deeper) a) .size) 0 (λ z. omega arith))
-    (fine-join (overIfLong longer) _ (over-fine longer) (inside below inner v (whole-span v (arrayBits (contentBits deeper) a) b refl) (grownPath path longer)))
+    (fine-array q (level (structSink deeper t takes nested below) v q) (inside below inner v (whole-span v (arrayBits (contentBits deeper) a) b refl) q))
 
 -- A struct array's bits are walked without fault.
 pub walked-struct : (deeper : ℕ) (t : Tables) (takes : Bool) (leftover : ℕ → Event) (lvl : ℕ) → Fine (leftover 0 ∷ []) → (a : Array (G.Content deeper))

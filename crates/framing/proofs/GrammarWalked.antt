@@ -16,7 +16,7 @@ use Rattle.bits.specs.Packed.{Number}
 use Rattle.bits.specs.Sizes.{maxElements, maxFields, trailerBits}
 use Rattle.framing.specs.Windows.{Window, part, got, reading}
 use Rattle.framing.specs.Events.{number, element, Trace}
-use Rattle.framing.specs.Walk.{Sink, numberAt, opens, closed, done, prepend, onField, onLastField, fields, closing, inItem, entering, behind, onIndex, onLastIndex, elements, onCount, level}
+use Rattle.framing.specs.Walk.{Sink, numberAt, opens, closed, done, prepend, onField, onLastField, fields, closing, inItem, behind, onIndex, onLastIndex, elements, onCount, level}
 use Rattle.framing.specs.Grammar.{Bits, _then_, Num, packedBits, numBits, IsNum, Field, Element, Array, fieldBits, fieldsBits, elementBits, elementsBits, trailing, arrayBits}
 use Rattle.framing.specs.GrammarRules.{Each, FieldOk, FieldsOk, ElementOk, ArrayOk}
 use Rattle.framing.proofs.StepLaws.{fields-last, fields-step, fields-present, elements-last, elements-step, level-count, count-allowed, index-allowed}
@@ -81,8 +81,8 @@ module _ (s : Sink) {P : Type 0} (bitsOf : P → Bits) (o : ℕ) where
   unfoldable pub elementsTrace : (path : List ℕ) (p : ℕ) → List (Element P) → Trace
   elementsTrace path p [] = []
   elementsTrace path p (e ∷ es) =
-      number (numAt o p (e .index)) ∷ element (e .index .value - 1)
-      ∷ ((entering s path (e .index .value - 1) ++ bodyTrace (e .index .value - 1) (inItem s path (e .index .value - 1)) (p + 8 * e .index .bytes) e)
+      number (numAt o p (e .index)) ∷ element (inItem s path (e .index .value - 1))
+      ∷ (bodyTrace (e .index .value - 1) (inItem s path (e .index .value - 1)) (p + 8 * e .index .bytes) e
       ++ elementsTrace path (p + (elementBits bitsOf e) .size) es)
 
   abbrev pub endTrace : (trailer : Bool) (p : ℕ) → Trace
@@ -239,15 +239,12 @@ module _ {P : Type 0} (bitsOf : P → Bits) (allowed : Bool → ℕ → P → Ty
         elements-step s w path count left p
         ∙ ap (onIndex s w path count (λ m. elements s w path count left m)) (stands-opens w p (p + ib .size) (x .index) (eo .index) i₁ (eo .opens))
         ∙ entered path count i (p + ib .size) (numAt (w .origin) p (x .index)) left (eo .below)
-        ∙ ap (λ (t : Trace). number (numAt (w .origin) p (x .index)) ∷ element i ∷ (entering s path i ++ t))
-        (ap (behind (λ m. elements s w path count left m)) ran ∙ ap (λ (t : Trace). body ++ t) rest)
-        ∙ ap (λ (t : Trace). number (numAt (w .origin) p (x .index)) ∷ element i ∷ t)
-        (sym (append-assoc (entering s path i) body (later ++ last))
-        ∙ sym (append-assoc (entering s path i ++ body) later last))
+        ∙ ap (λ (t : Trace). number (numAt (w .origin) p (x .index)) ∷ element (inItem s path i) ∷ t)
+        (ap (behind (λ m. elements s w path count left m)) ran ∙ ap (λ (t : Trace). body ++ t) rest ∙ sym (append-assoc body later last))
       where
         entered : (path : List ℕ) (count i q : ℕ) (n : Number) (left : ℕ) → i < count
             → onIndex s w path count (λ m. elements s w path count left m) (opens n i q)
-            ≡ number n ∷ element i ∷ (entering s path i ++ behind (λ m. elements s w path count left m) (fields s w i (inItem s path i) maxFields q true))
+            ≡ number n ∷ element (inItem s path i) ∷ behind (λ m. elements s w path count left m) (fields s w i (inItem s path i) maxFields q true)
         entered path count i q n left h = rw (index-allowed count i h) refl
 
     -- The level is walked as the array says.

@@ -13,7 +13,7 @@ use Rattle.bits.specs.Packed.{Number}
 use Rattle.bits.specs.Sizes.{maxFields, maxElements, trailerBits}
 use Rattle.framing.specs.Windows.{Window, part, Reading, got, failed, readingOf, reading}
 use Rattle.framing.specs.Events.{rawHandle, number, element, truncation, error, implicit, Trace}
-use Rattle.framing.specs.Walk.{Sink, numberAt, Lead, ends, fails, closes, opens, leadOf, lead, Due, cut, broken, closed, present, withWidth, fieldOf, fieldAt, tail, Run, done, stopped, prepend, onField, onLastField, fields, trailerOf, closing, inItem, entering, behind, beyond, onIndex, onLastIndex, elements, tooMany, onCount, level}
+use Rattle.framing.specs.Walk.{Sink, numberAt, Lead, ends, fails, closes, opens, leadOf, lead, Due, cut, broken, closed, present, withWidth, fieldOf, fieldAt, tail, Run, done, stopped, prepend, onField, onLastField, fields, trailerOf, closing, inItem, behind, beyond, onIndex, onLastIndex, elements, tooMany, onCount, level}
 use Rattle.framing.proofs.StepLaws.{count-few, index-below}
 use Rattle.framing.proofs.GrammarBits.{read-num}
 use Rattle.bits.proofs.ChoiceLaws.{and-true}
@@ -141,7 +141,7 @@ pub record Scheme (s : Sink) (w : Window) (path : List ℕ) (Good : ℕ → ℕ 
   pub join : {p q r : ℕ} {t u : Trace} → Good p q t → Good q r u → Good p r (t ++ u)
   pub halt : {p q : ℕ} {t u : Trace} → Good p q t → Stop q u → Stop p (t ++ u)
   pub read : {x : Number} {p q : ℕ} → Read w x p q → Good p q (number x ∷ [])
-  pub entered : {x : Number} {i p q : ℕ} → Read w x p q → i < maxElements → Good p q (number x ∷ element i ∷ entering s path i)
+  pub entered : {x : Number} {i p q : ℕ} → Read w x p q → i < maxElements → Good p q (number x ∷ element (inItem s path i) ∷ [])
   pub given : {x y : Number} {i h p q r k : ℕ} {first : Bool} → i < maxElements → h < rawHandle → Read w x p q → Read w y q r → r + k ≤ w .size
       → Good p (r + k) (number x ∷ number y ∷ s .field i (inItem s path i) first h (part w r k))
   pub ended : {p : ℕ} → w .size ≤ p → p ≤ w .size → Stop p (implicit ∷ [])

@@ -11,6 +11,7 @@ pub mod Induct
 pub mod Lift
 pub mod EachEvent
 pub mod LongestPath
+pub mod LongestReached
 pub mod Weighed
 pub mod Bounded
 pub mod PairOrder

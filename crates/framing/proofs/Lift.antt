@@ -11,26 +11,19 @@ use borrow.Author.Tests.{ltb-true, eqb-true, eqb-false}
 use Rattle.bits.specs.Packed.{Number}
 use Rattle.bits.specs.Sizes.{levelsBelow, maxElements}
 use Rattle.schema.specs.Tables.{Tables, child}
-use Rattle.schema.specs.Labels.{atIndex, dot, labelBytes, leafLabel, containerLabel}
+use Rattle.schema.specs.Labels.{atIndex}
 use Rattle.schema.specs.declared.Child.{Child}
 use Rattle.schema.specs.declared.Child.the-variants.{Array, Leaf}
 use Rattle.framing.specs.Windows.{Window, windowOf, part, Reading, got}
-use Rattle.framing.specs.Events.{rawHandle, Event, number, element, pair, truncation, error, implicit, nested, root, Trace}
-use Rattle.framing.specs.Paths.{grownPath, overIfLong, leafOrOver}
-use Rattle.framing.specs.Walk.{numberAt, rawLeaf, tail, inItem, entering, level}
+use Rattle.framing.specs.Events.{rawHandle, Event, number, element, array, leaf, pair, truncation, error, implicit, nested, root, Trace}
+use Rattle.framing.specs.Paths.{leafPath, arrayPath}
+use Rattle.framing.specs.Walk.{numberAt, rawLeaf, tail, inItem, level}
 use Rattle.framing.specs.declared.Walk.the-variants as how
 use Rattle.framing.specs.Sinks.{leafOf, onChild, structSinkOver, structSink, tooDeep, guidOf, objectField, objectSink, Walker, walker, sinkOf, silent, walkWindow, walk}
 use Rattle.framing.proofs.VerdictLaws.{silent-none}
 use Rattle.framing.proofs.Induct.{Inside, inside, nothing, reading-inside, Read, Here, at-level, at-item, level-holds}
 
 -- ---- what a property may lean on
-
--- the path of a field that is a leaf, and of one that is an array
-abbrev pub leafPath : Tables → (lvl : ℕ) (path : List ℕ) (handle : ℕ) → List ℕ
-leafPath t lvl path h = dot path (labelBytes t h (leafLabel t lvl h))
-
-abbrev pub arrayPath : Tables → (lvl : ℕ) (path : List ℕ) (handle : ℕ) → List ℕ
-arrayPath t lvl path h = dot path (labelBytes t h (containerLabel t lvl h))
 
 -- What is known of each window that is walked (`Fit`), of the path of a level that may have `deeper` levels below it, and of the path in an element
 -- of it; and that it stays known: of a payload, at the root, of a level's path where a tail is kept, in an element, in an array below.
@@ -41,8 +34,8 @@ pub record Known (t : Tables) : Type 1 where
   pub payload : (w : Window) (p k : ℕ) → Fit w → p + k ≤ w .size → Fit (part w p k)
   pub first : AtLevel levelsBelow []
   pub level : (deeper : ℕ) (path : List ℕ) → AtLevel deeper path → InElement deeper path
-  pub element : (deeper : ℕ) (path : List ℕ) (i : ℕ) → AtLevel deeper path → i < maxElements → InElement deeper (grownPath path (atIndex path i))
-  pub below : (deeper lvl h : ℕ) (path : List ℕ) → InElement (suc deeper) path → h < rawHandle → AtLevel deeper (grownPath path (arrayPath t lvl path h))
+  pub element : (deeper : ℕ) (path : List ℕ) (i : ℕ) → AtLevel deeper path → i < maxElements → InElement deeper (atIndex path i)
+  pub below : (deeper lvl h : ℕ) (path : List ℕ) → InElement (suc deeper) path → h < rawHandle → AtLevel deeper (arrayPath t lvl path h)
 
 -- something of windows, nothing of paths
 abbrev pub ofWindows : (Fit : Window → Type 0) → ((w : Window) (p k : ℕ) → Fit w → p + k ≤ w .size → Fit (part w p k)) → (t : Tables) → Known t
@@ -81,23 +74,24 @@ pub record Pieces (P : Property) : Type 0 where
   pub left : (w : Window) (p : ℕ) → p ≤ w .size → P .Stop w p (root (w .size - p) ∷ [])
   pub silent : (w : Window) → w .size ≡ 0 → P .Stop w 0 []
 
--- In struct and exact walks: an element was entered; a tail is kept; a field is a leaf, an array too deep, or a child; a child leaves bits.
+-- In struct and exact walks: an element was entered; a tail is kept; a field is an array too deep, a leaf, or a child; a child leaves bits.
+-- `leaf` comes behind those that speak of the event of that name.
 pub record StructPieces (t : Tables) (K : Known t) (P : Property) : Type 0 where
   pub entered : (w : Window) (x : Number) (i p q deeper : ℕ) (path : List ℕ) → Read w x p q → i < maxElements → K .AtLevel deeper path
-      → P .Good w p q (number x ∷ element i ∷ overIfLong (atIndex path i))
+      → P .Good w p q (number x ∷ element (atIndex path i) ∷ [])
   pub kept : (w : Window) (p deeper : ℕ) (path : List ℕ) → K .Fit w → p < w .size → K .InElement deeper path
-      → P .Stop w p (truncation ∷ leafOrOver (rawLeaf w path p))
-  pub leaf : (w : Window) (deeper lvl h : ℕ) (path : List ℕ) → K .Fit w → K .InElement deeper path → h < rawHandle
-      → P .Gave w (leafOrOver (leafOf (leafPath t lvl path h) h w))
+      → P .Stop w p (truncation ∷ leaf (rawLeaf w path p) ∷ [])
   pub deep : (w : Window) (lvl h : ℕ) (path : List ℕ) → K .Fit w → 0 < w .size → K .InElement 0 path → h < rawHandle
-      → P .Gave w (truncation ∷ leafOrOver (leafOf (arrayPath t lvl path h) h w))
+      → P .Gave w (truncation ∷ leaf (leafOf (arrayPath t lvl path h) h w) ∷ [])
+  pub leaf : (w : Window) (deeper lvl h : ℕ) (path : List ℕ) → K .Fit w → K .InElement deeper path → h < rawHandle
+      → P .Gave w (leaf (leafOf (leafPath t lvl path h) h w) ∷ [])
   pub child : (w : Window) (deeper lvl h : ℕ) (path : List ℕ) (a : Trace) → 0 < w .size → K .InElement (suc deeper) path → h < rawHandle → P .Stop w 0 a
-      → P .Gave w (overIfLong (arrayPath t lvl path h) ++ a)
+      → P .Gave w (array (arrayPath t lvl path h) ∷ a)
   pub left : (w : Window) (p : ℕ) → p ≤ w .size → P .Stop w p (nested (w .size - p) ∷ [])
 
 -- In object walks: an element was entered; a field is an object's number, another number, none, or behind the first.
 pub record ObjectPieces (P : Property) : Type 0 where
-  pub entered : (w : Window) (x : Number) (i p q : ℕ) → Read w x p q → i < maxElements → P .Good w p q (number x ∷ element i ∷ [])
+  pub entered : (w : Window) (x : Number) (p q : ℕ) → Read w x p q → P .Good w p q (number x ∷ element [] ∷ [])
   pub guid : (w : Window) (x : Number) (i : ℕ) → Read w x 0 (w .size) → P .Gave w (number x ∷ pair (record { index = i; guid = x .value }) ∷ [])
   pub longer : (w : Window) (x : Number) (q : ℕ) → Read w x 0 q → P .Gave w (number x ∷ error ∷ [])  -- bits are left behind the number
   pub unread : (w : Window) → 0 < w .size → P .Gave w (error ∷ [])
@@ -107,9 +101,9 @@ pub record ObjectPieces (P : Property) : Type 0 where
 
 module _ (t : Tables) (K : Known t) (P : Property) (𝓟 : Pieces P) (𝓢 : StructPieces t K P) where
   -- what walks an array inside a field of level lvl
-  module _ (deeper lvl : ℕ) (into : (below : ℕ) (path longer : List ℕ) (handle : ℕ) → Window → Trace)
+  module _ (deeper lvl : ℕ) (into : (below : ℕ) (path : List ℕ) (handle : ℕ) → Window → Trace)
       (f : (below h : ℕ) (path : List ℕ) (w : Window) → K .Fit w → 0 < w .size → K .InElement deeper path → h < rawHandle
-      → P .Gave w (into below path (arrayPath t lvl path h) h w))
+      → P .Gave w (into below (arrayPath t lvl path h) h w))
       (trailer : Bool) (leftover : ℕ → Event) (rest : (w : Window) (p : ℕ) → p ≤ w .size → P .Stop w p (leftover (w .size - p) ∷ [])) where
     child-holds : (path : List ℕ) (h : ℕ) (w : Window) → K .Fit w → K .InElement deeper path → h < rawHandle
         → (o : Child) → P .Gave w (onChild t lvl into path h w o)
@@ -136,7 +130,7 @@ module _ (t : Tables) (K : Known t) (P : Property) (𝓟 : Pieces P) (𝓢 : Str
       place-known (at-item {i = i} low) = K .element deeper path i at low
 
       over-holds : P .Stop w 0 (level (structSinkOver into t trailer leftover lvl) w path)
-      unfolding entering inItem
+      unfolding inItem
       over-holds =
           level-holds (structSinkOver into t trailer leftover lvl) w path (λ p q a. P .Good w p q a) (λ p a. P .Stop w p a)
           (record {
@@ -146,7 +140,7 @@ module _ (t : Tables) (K : Known t) (P : Property) (𝓟 : Pieces P) (𝓢 : Str
             entered = λ {x} {i} {p} {q} r low. 𝓢 .entered w x i p q deeper path r low at;
             given = λ {x} {y} {i} {h} {p} {q} {r} {k} {first} low small a b within.
                 𝓟 .field w x y p q r k _ a b within
-                (child-holds (grownPath path (atIndex path i)) h (part w r k) (K .payload w r k fit within) (K .element deeper path i at low) small
+                (child-holds (atIndex path i) h (part w r k) (K .payload w r k fit within) (K .element deeper path i at low) small
                 (child (t .rows) lvl h));
             ended = λ {p} h k. 𝓟 .ended w p (omega arith);
             failed = λ {p} h. 𝓟 .failed w p h;
@@ -162,10 +156,10 @@ module _ (t : Tables) (K : Known t) (P : Property) (𝓟 : Pieces P) (𝓢 : Str
   struct-holds zero lvl trailer leftover rest w path fit at =
       over-holds zero lvl tooDeep (λ below h place v fit some here low. 𝓢 .deep v lvl h place fit some here low) trailer leftover rest w path fit at
   struct-holds (suc deeper) lvl trailer leftover rest w path fit at =
-      over-holds (suc deeper) lvl (λ below path longer h v. overIfLong longer ++ level (structSink deeper t trailer nested below) v (grownPath path longer))
+      over-holds (suc deeper) lvl (λ below path h v. array path ∷ level (structSink deeper t trailer nested below) v path)
       (λ below h place v fit some here low.
       𝓢 .child v deeper lvl h place _ some here low
-      (struct-holds deeper below trailer nested (𝓢 .left) v (grownPath place (arrayPath t lvl place h)) fit (K .below deeper lvl h place here low)))
+      (struct-holds deeper below trailer nested (𝓢 .left) v (arrayPath t lvl place h) fit (K .below deeper lvl h place here low)))
       trailer leftover rest w path fit at
 
 -- ---- the object level
@@ -190,15 +184,15 @@ module _ (P : Property) (𝓟 : Pieces P) (𝓞 : ObjectPieces P) where
       go false e true = let some = eqb-false (w .size) 0 e in rw e (guid-holds i w (omega arith) (reading-inside w 0))
       go false e false = let some = eqb-false (w .size) 0 e in rw e (𝓞 .passed w (omega arith))
 
-  pub object-holds : (w : Window) (path : List ℕ) → P .Stop w 0 (level objectSink w path)
-  unfolding objectSink tail entering
-  object-holds w path =
-      level-holds objectSink w path (λ p q a. P .Good w p q a) (λ p a. P .Stop w p a)
+  pub object-holds : (w : Window) → P .Stop w 0 (level objectSink w [])
+  unfolding objectSink tail inItem
+  object-holds w =
+      level-holds objectSink w [] (λ p q a. P .Good w p q a) (λ p a. P .Stop w p a)
       (record {
         join = λ {p} {q} {r} {t = a} {u = b} g h. 𝓟 .join w p q r a b g h;
         halt = λ {p} {q} {t = a} {u = b} g h. 𝓟 .halt w p q a b g h;
         read = λ {x} {p} {q} r. 𝓟 .read w x p q r;
-        entered = λ {x} {i} {p} {q} r low. 𝓞 .entered w x i p q r low;
+        entered = λ {x} {i} {p} {q} r low. 𝓞 .entered w x p q r;
         given = λ {x} {y} {i} {h} {p} {q} {r} {k} {first} low small a b within.
             𝓟 .field w x y p q r k _ a b within (object-field-holds i first (part w r k));
         ended = λ {p} h k. 𝓟 .ended w p (omega arith);
@@ -222,7 +216,7 @@ module _ (P : Property) (𝓟 : Pieces P) where
   unfolding sinkOf
   sink-holds (walker how.Struct t lvl) K 𝓚 w fit = struct-holds t K P 𝓟 𝓚 _ lvl _ root (𝓟 .left) w [] fit (K .first)
   sink-holds (walker how.Exact t lvl) K 𝓚 w fit = struct-holds t K P 𝓟 𝓚 _ lvl _ root (𝓟 .left) w [] fit (K .first)
-  sink-holds (walker how.Object t lvl) K 𝓚 w fit = object-holds P 𝓟 𝓚 w []
+  sink-holds (walker how.Object t lvl) K 𝓚 w fit = object-holds P 𝓟 𝓚 w
 
   module _ (k : Walker) (K : Known (tablesOf k)) (𝓚 : KindPieces k K P) where
     pub window-holds : (w : Window) → K .Fit w → P .Stop w 0 (walkWindow k w)

@@ -1,10 +1,10 @@
--- The cases of `decided`: 1, 2, 5, 3, and acceptance. Each is one branch of the definition, under the tests that lead to it.
+-- The cases of `decided`: 1, 2, 3, and acceptance. Each is one branch of the definition, under the tests that lead to it.
 use mathlib.Core.Path.{_≡_}
 use mathlib.Core.Bool.{Bool, true, false}
 use Prim.Native.Nat.{ℕ, _≤_, _<_}
 use borrow.Author.Tests.{lt-ltb, le-ltb}
 use Rattle.bits.specs.Sizes.{longestWindow}
-use Rattle.framing.specs.Events.{overs, Trace}
+use Rattle.framing.specs.Events.{Trace}
 use Rattle.framing.specs.Counters.{counters}
 use Rattle.framing.specs.Refusing.{refused, accepted, decided}
 
@@ -19,15 +19,10 @@ module _ {Need : Type 0} (bits : ℕ) (ok : Bool) (t : Trace) (nothing need : Ne
     decided-broken e = simp (le-ltb _ _ small, e)
 
     module _ (laid : ok ≡ true) where
-      pub decided-over : 0 < overs t → decided bits ok t nothing need enough ≡ refused 5 nothing
+      pub decided-short : enough ≡ false → decided bits ok t nothing need enough ≡ refused 3 need
       unfolding decided
-      decided-over h = simp (le-ltb _ _ small, laid, lt-ltb _ _ h)
+      decided-short e = simp (le-ltb _ _ small, laid, e)
 
-      module _ (none : overs t ≡ 0) where
-        pub decided-short : enough ≡ false → decided bits ok t nothing need enough ≡ refused 3 need
-        unfolding decided
-        decided-short e = simp (le-ltb _ _ small, laid, none, e)
-
-        pub decided-fine : enough ≡ true → decided bits ok t nothing need enough ≡ accepted (counters t) need
-        unfolding decided
-        decided-fine e = simp (le-ltb _ _ small, laid, none, e)
+      pub decided-fine : enough ≡ true → decided bits ok t nothing need enough ≡ accepted (counters t) need
+      unfolding decided
+      decided-fine e = simp (le-ltb _ _ small, laid, e)

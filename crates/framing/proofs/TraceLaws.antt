@@ -2,9 +2,8 @@
 -- own.
 use mathlib.Core.Path.{_≡_, refl, sym, ap, _∙_}
 use mathlib.Core.List.{[], _∷_, _++_}
-use Prim.Native.Nat.{suc, _+_}
-use native.Mathlib.Nat.{zero-add, suc-add, add-assoc}
-use Rattle.framing.specs.Events.{number, element, leaf, pair, truncation, error, implicit, nested, root, over, leaves, pairs, overs, Trace}
+use native.Mathlib.Nat.{zero-add, add-assoc}
+use Rattle.framing.specs.Events.{number, element, array, leaf, pair, truncation, error, implicit, nested, root, leaves, pairs, Trace}
 use Rattle.framing.specs.Counters.{Counters, counted, counters, sums, countOf}
 
 pub sums-zero : (c : Counters) → sums (counted 0 0 0 0 0 0 0) c ≡ c
@@ -38,7 +37,8 @@ counters-append (e ∷ t) u = ap (λ c. sums (countOf e) c) (counters-append t u
 pub leaves-append : (t u : Trace) → leaves (t ++ u) ≡ leaves t ++ leaves u
 leaves-append [] u = refl
 leaves-append (number x ∷ t) u = leaves-append t u
-leaves-append (element x ∷ t) u = leaves-append t u
+leaves-append (element p ∷ t) u = leaves-append t u
+leaves-append (array p ∷ t) u = leaves-append t u
 leaves-append (leaf x ∷ t) u = ap (λ l. x ∷ l) (leaves-append t u)
 leaves-append (pair x ∷ t) u = leaves-append t u
 leaves-append (truncation ∷ t) u = leaves-append t u
@@ -46,12 +46,12 @@ leaves-append (error ∷ t) u = leaves-append t u
 leaves-append (implicit ∷ t) u = leaves-append t u
 leaves-append (nested x ∷ t) u = leaves-append t u
 leaves-append (root x ∷ t) u = leaves-append t u
-leaves-append (over ∷ t) u = leaves-append t u
 
 pub pairs-append : (t u : Trace) → pairs (t ++ u) ≡ pairs t ++ pairs u
 pairs-append [] u = refl
 pairs-append (number x ∷ t) u = pairs-append t u
-pairs-append (element x ∷ t) u = pairs-append t u
+pairs-append (element p ∷ t) u = pairs-append t u
+pairs-append (array p ∷ t) u = pairs-append t u
 pairs-append (leaf x ∷ t) u = pairs-append t u
 pairs-append (pair x ∷ t) u = ap (λ l. x ∷ l) (pairs-append t u)
 pairs-append (truncation ∷ t) u = pairs-append t u
@@ -59,17 +59,3 @@ pairs-append (error ∷ t) u = pairs-append t u
 pairs-append (implicit ∷ t) u = pairs-append t u
 pairs-append (nested x ∷ t) u = pairs-append t u
 pairs-append (root x ∷ t) u = pairs-append t u
-pairs-append (over ∷ t) u = pairs-append t u
-
-pub overs-append : (t u : Trace) → overs (t ++ u) ≡ overs t + overs u
-overs-append [] u = sym (zero-add (overs u))
-overs-append (number x ∷ t) u = overs-append t u
-overs-append (element x ∷ t) u = overs-append t u
-overs-append (leaf x ∷ t) u = overs-append t u
-overs-append (pair x ∷ t) u = overs-append t u
-overs-append (truncation ∷ t) u = overs-append t u
-overs-append (error ∷ t) u = overs-append t u
-overs-append (implicit ∷ t) u = overs-append t u
-overs-append (nested x ∷ t) u = overs-append t u
-overs-append (root x ∷ t) u = overs-append t u
-overs-append (over ∷ t) u = ap suc (overs-append t u) ∙ sym (suc-add (overs t) (overs u))

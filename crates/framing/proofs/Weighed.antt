@@ -1,24 +1,20 @@
 -- Weigh the events of a walk. A packed number takes eight bits and weighs nothing, a leaf weighs its bits or 1, all else at most 1 or the bits that
 -- it counts: so a walk of n bits weighs at most n, and what the event that ends a level weighs.
 use Prim.Native.Nat.{ℕ, _+_, _-_, _≤_}
-use mathlib.Core.Path.{_≡_, refl}
-use mathlib.Core.Bool.{Bool, true, false}
+use mathlib.Core.Path.{_≡_}
 use mathlib.Core.List.{List, [], _∷_, _++_}
 use native.Mathlib.Omega.{arith}
-use lib.ListN.{length}
-use lib.Dec.{leb}
 use Rattle.bits.specs.Packed.{Number}
-use Rattle.bits.specs.Sizes.{longestPath}
 use Rattle.schema.specs.Tables.{Tables}
 use Rattle.schema.specs.Labels.{atIndex}
 use Rattle.framing.specs.Windows.{Window}
-use Rattle.framing.specs.Events.{Leaf, Pair, Event, number, element, leaf, pair, truncation, error, implicit, nested, root, over, Trace}
-use Rattle.framing.specs.Paths.{overIfLong, leafOrOver}
+use Rattle.framing.specs.Events.{Leaf, Pair, Event, number, element, array, leaf, pair, truncation, error, implicit, nested, root, Trace}
+use Rattle.framing.specs.Paths.{leafPath, arrayPath}
 use Rattle.framing.specs.Walk.{rawLeaf}
 use Rattle.framing.specs.declared.Walk.the-variants as how
 use Rattle.framing.specs.Sinks.{leafOf, Walker, walker, walk}
 use Rattle.framing.proofs.Induct.{Read}
-use Rattle.framing.proofs.Lift.{Known, ofWindows, leafPath, arrayPath, Property, Pieces, StructPieces, ObjectPieces, tablesOf, KindPieces, walk-holds}
+use Rattle.framing.proofs.Lift.{Known, ofWindows, Property, Pieces, StructPieces, ObjectPieces, tablesOf, KindPieces, walk-holds}
 
 abbrev pub weigh : (Event → ℕ) → Trace → ℕ
 weigh m [] = 0
@@ -31,9 +27,9 @@ weigh-append m (e ∷ a) b = let z = weigh-append m a b in omega arith
 -- stop: what the events that end a level weigh at most
 pub record Weights (m : Event → ℕ) (stop : ℕ) : Type 0 where
   pub number : (x : Number) → m (number x) ≡ 0
-  pub element : (i : ℕ) → m (element i) ≤ 1
+  pub element : (p : List ℕ) → m (element p) ≤ 1
+  pub array : (p : List ℕ) → m (array p) ≡ 0
   pub leaf : (x : Leaf) (n : ℕ) → 1 ≤ n → x .width ≤ n → m (leaf x) ≤ n
-  pub over : m over ≤ 1
   pub pair : (x : Pair) → m (pair x) ≤ 1
   pub nested : (n : ℕ) → m (nested n) ≤ n
   pub root : (n : ℕ) → m (root n) ≤ n
@@ -43,22 +39,6 @@ pub record Weights (m : Event → ℕ) (stop : ℕ) : Type 0 where
   pub light : stop ≤ 1
 
 module _ (m : Event → ℕ) (stop : ℕ) (M : Weights m stop) where
-  leaf-weight : (x : Leaf) (n : ℕ) → 1 ≤ n → x .width ≤ n → weigh m (leafOrOver x) ≤ n
-  unfolding leafOrOver
-  leaf-weight x n some wide = go (leb (length (x .path)) longestPath) refl
-    where
-      go : (b : Bool) → leb (length (x .path)) longestPath ≡ b → weigh m (leafOrOver x) ≤ n
-      go true e = let z = M .leaf x n some wide in rw e (omega arith)
-      go false e = let z = M .over in rw e (omega arith)
-
-  over-weight : (longer : List ℕ) → weigh m (overIfLong longer) ≤ 1
-  unfolding overIfLong
-  over-weight longer = go (leb (length longer) longestPath) refl
-    where
-      go : (b : Bool) → leb (length longer) longestPath ≡ b → weigh m (overIfLong longer) ≤ 1
-      go true e = rw e (omega arith)
-      go false e = let z = M .over in rw e (omega arith)
-
   -- behind a field's two numbers there is room for two more
   abbrev weighs : Property
   weighs =
@@ -94,33 +74,30 @@ module _ (m : Event → ℕ) (stop : ℕ) (M : Weights m stop) where
   abbrev anywhere : (t : Tables) → Known t
   anywhere t = ofWindows (λ w. Unit) (λ w p k h fit. tt) t
 
-  entered-weight : (w : Window) (x : Number) (i p q : ℕ) (a : Trace) → Read w x p q → weigh m a ≤ 1 → p + weigh m (number x ∷ element i ∷ a) ≤ q
-  entered-weight w x i p q a r h = let z = M .number x in let y = M .element i in let b = r .runs in let c = r .some in omega arith
+  entered-weight : (w : Window) (x : Number) (path : List ℕ) (p q : ℕ) → Read w x p q → p + weigh m (number x ∷ element path ∷ []) ≤ q
+  entered-weight w x path p q r = let z = M .number x in let y = M .element path in let b = r .runs in let c = r .some in omega arith
 
   struct-pieces : (t : Tables) → StructPieces t (anywhere t) weighs
   struct-pieces t =
       record {
-        entered = λ w x i p q d path r low at. entered-weight w x i p q (overIfLong (atIndex path i)) r (over-weight (atIndex path i));
+        entered = λ w x i p q d path r low at. entered-weight w x (atIndex path i) p q r;
         kept = λ w p d path fit lt here.
-            let z : weigh m (leafOrOver (rawLeaf w path p)) ≤ w .size - p = leaf-weight (rawLeaf w path p) (w .size - p) (omega arith) (omega arith) in
+            let z = M .leaf (rawLeaf w path p) (w .size - p) (omega arith) (omega arith) in
             let y = M .truncation in omega arith;
-        leaf = λ w d lvl h path fit here low.
-            let z : weigh m (leafOrOver (leafOf (leafPath t lvl path h) h w)) ≤ w .size + 1 =
-            leaf-weight (leafOf (leafPath t lvl path h) h w) (w .size + 1) (omega arith) (omega arith) in
-            omega arith;
         deep = λ w lvl h path fit some here low.
-            let z : weigh m (leafOrOver (leafOf (arrayPath t lvl path h) h w)) ≤ w .size + 1 =
-            leaf-weight (leafOf (arrayPath t lvl path h) h w) (w .size + 1) (omega arith) (omega arith) in
+            let z = M .leaf (leafOf (arrayPath t lvl path h) h w) (w .size + 1) (omega arith) (omega arith) in
             let y = M .truncation in let l = M .light in omega arith;
-        child = λ w d lvl h path a some here low g.
-            let z = weigh-append m (overIfLong (arrayPath t lvl path h)) a in let y = over-weight (arrayPath t lvl path h) in let l = M .light in omega arith;
+        leaf = λ w d lvl h path fit here low.
+            let z = M .leaf (leafOf (leafPath t lvl path h) h w) (w .size + 1) (omega arith) (omega arith) in
+            omega arith;
+        child = λ w d lvl h path a some here low g. let z = M .array (arrayPath t lvl path h) in let l = M .light in omega arith;
         left = λ w p h. let z = M .nested (w .size - p) in omega arith;
       }
 
   object-pieces : ObjectPieces weighs
   object-pieces =
       record {
-        entered = λ w x i p q r low. entered-weight w x i p q [] r (omega arith);
+        entered = λ w x p q r. entered-weight w x [] p q r;
         guid = λ w x i r. let z = M .number x in let y = M .pair (record { index = i; guid = x .value }) in omega arith;
         longer = λ w x q r. let z = M .number x in let y = M .error in let l = M .light in omega arith;
         unread = λ w some. let y = M .error in let l = M .light in omega arith;

@@ -3,7 +3,7 @@ use Prim.Native.Nat.{ℕ, _+_}
 use mathlib.Core.Bool.{Bool}
 use mathlib.Core.List.{[], _∷_}
 use lib.Dec.{eqb}
-use Rattle.framing.specs.Events.{Event, number, element, leaf, pair, truncation, error, implicit, nested, root, over, Trace}
+use Rattle.framing.specs.Events.{Event, number, element, array, leaf, pair, truncation, error, implicit, nested, root, Trace}
 
 pub record Counters : Type 0 where
   pub elements : ℕ
@@ -25,7 +25,8 @@ sums a b =
 -- what one event adds
 abbrev pub countOf : Event → Counters
 countOf (number x) = counted 0 0 0 0 0 0 0
-countOf (element i) = counted 1 0 0 0 0 0 0
+countOf (element p) = counted 1 0 0 0 0 0 0
+countOf (array p) = counted 0 0 0 0 0 0 0
 countOf (leaf x) = counted 0 1 0 0 0 0 0
 countOf (pair x) = counted 0 1 0 0 0 0 0
 countOf truncation = counted 0 0 1 0 0 0 0
@@ -33,7 +34,6 @@ countOf error = counted 0 0 0 1 0 0 0
 countOf (nested n) = counted 0 0 0 0 n 0 0
 countOf (root n) = counted 0 0 0 0 0 n 0
 countOf implicit = counted 0 0 0 0 0 0 1
-countOf over = counted 0 0 0 0 0 0 0
 
 abbrev pub counters : Trace → Counters
 counters [] = counted 0 0 0 0 0 0 0

@@ -1,6 +1,6 @@
--- What a walk gives: a list of events, in reading order. The events of numbers taken show in no answer of today, and neither does the index that
--- an element's event carries (paths and pairs carry it besides). A number that was looked at and put back is no event.
-use Prim.Native.Nat.{ℕ, suc}
+-- What a walk gives: a list of events, in reading order. The events of numbers taken and of arrays entered show in no answer of today, and neither
+-- does the path that an element's event carries. A number that was looked at and put back is no event.
+use Prim.Native.Nat.{ℕ}
 use mathlib.Core.List.{List, [], _∷_}
 use Rattle.bits.specs.Packed.{Number}
 
@@ -18,7 +18,8 @@ pub record Pair : Type 0 where
 
 pub data Event : Type 0 where
   number : Number → Event  -- a packed number was taken, allowed or not
-  element : (index : ℕ) → Event  -- an element was entered
+  element : (path : List ℕ) → Event  -- an element was entered; in an object walk the path is empty
+  array : (path : List ℕ) → Event  -- an array in an element was entered
   leaf : Leaf → Event
   pair : Pair → Event
   truncation : Event  -- a limit was met
@@ -26,7 +27,6 @@ pub data Event : Type 0 where
   implicit : Event  -- the window ended where a terminator was due
   nested : (bits : ℕ) → Event  -- bits of a payload that were stepped past, or that a child left behind its terminator
   root : (bits : ℕ) → Event  -- bits left at the root
-  over : Event  -- a working path would pass its size: refusal 5
 
 abbrev pub Trace : Type 0
 Trace = List Event
@@ -43,38 +43,24 @@ abbrev pub leaves : Trace → List Leaf
 leaves [] = []
 leaves (leaf x ∷ t) = x ∷ leaves t
 leaves (number x ∷ t) = leaves t
-leaves (element i ∷ t) = leaves t
+leaves (element p ∷ t) = leaves t
+leaves (array p ∷ t) = leaves t
 leaves (pair x ∷ t) = leaves t
 leaves (truncation ∷ t) = leaves t
 leaves (error ∷ t) = leaves t
 leaves (implicit ∷ t) = leaves t
 leaves (nested n ∷ t) = leaves t
 leaves (root n ∷ t) = leaves t
-leaves (over ∷ t) = leaves t
 
 abbrev pub pairs : Trace → List Pair
 pairs [] = []
 pairs (pair x ∷ t) = x ∷ pairs t
 pairs (number x ∷ t) = pairs t
-pairs (element i ∷ t) = pairs t
+pairs (element p ∷ t) = pairs t
+pairs (array p ∷ t) = pairs t
 pairs (leaf x ∷ t) = pairs t
 pairs (truncation ∷ t) = pairs t
 pairs (error ∷ t) = pairs t
 pairs (implicit ∷ t) = pairs t
 pairs (nested n ∷ t) = pairs t
 pairs (root n ∷ t) = pairs t
-pairs (over ∷ t) = pairs t
-
--- how many working paths would have passed their size
-abbrev pub overs : Trace → ℕ
-overs [] = 0
-overs (over ∷ t) = suc (overs t)
-overs (number x ∷ t) = overs t
-overs (element i ∷ t) = overs t
-overs (leaf x ∷ t) = overs t
-overs (pair x ∷ t) = overs t
-overs (truncation ∷ t) = overs t
-overs (error ∷ t) = overs t
-overs (implicit ∷ t) = overs t
-overs (nested n ∷ t) = overs t
-overs (root n ∷ t) = overs t

@@ -13,3 +13,4 @@ pub mod Grammar
 pub mod GrammarRules
 pub mod GrammarGives
 pub mod InGrammar
+pub mod LongestCase

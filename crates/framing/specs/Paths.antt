@@ -1,20 +1,42 @@
--- The working path: it grows by `[index]` and `.label`, and never past its size (01, Sizes; refusal 5).
-use Prim.Native.Nat.{ℕ}
+-- Paths (01, Walking an array): of a field, and all that a walk works with.
+use Prim.Native.Nat.{ℕ, _+_, _*_, _≤_}
 use mathlib.Core.List.{List, [], _∷_}
 use lib.ListN.{length}
-use lib.Dec.{leb}
-use Rattle.bits.specs.Choice.{if_then_else_}
-use Rattle.bits.specs.Sizes.{longestPath}
-use Rattle.framing.specs.Events.{Leaf, leaf, over, Trace}
+use Rattle.bits.specs.Sizes.{longestIndex, longestLabel, longestPath}
+use Rattle.schema.specs.Tables.{Tables}
+use Rattle.schema.specs.Labels.{containerLabel, leafLabel, labelBytes, dot}
+use Rattle.framing.specs.Events.{number, element, array, leaf, pair, truncation, error, implicit, nested, root, Trace}
 
--- the longer path; one that is too long stays as it was, and the walk is refused with 5
-unfoldable pub grownPath : (path longer : List ℕ) → List ℕ
-grownPath path longer = if leb (length longer) longestPath then longer else path
+-- the path of a field that is a leaf, and of one that is an array
+abbrev pub leafPath : Tables → (level : ℕ) (path : List ℕ) (handle : ℕ) → List ℕ
+leafPath t lvl path handle = dot path (labelBytes t handle (leafLabel t lvl handle))
 
--- nothing, or the event that the path would pass its size
-unfoldable pub overIfLong : (longer : List ℕ) → Trace
-overIfLong longer = if leb (length longer) longestPath then [] else over ∷ []
+abbrev pub arrayPath : Tables → (level : ℕ) (path : List ℕ) (handle : ℕ) → List ℕ
+arrayPath t lvl path handle = dot path (labelBytes t handle (containerLabel t lvl handle))
 
--- a leaf, whose path is a working path too
-unfoldable pub leafOrOver : Leaf → Trace
-leafOrOver x = if leb (length (x .path)) longestPath then leaf x ∷ [] else over ∷ []
+-- what a level with so many levels below it adds to its path at most, in bytes, and what an element of it adds
+abbrev pub levelAdds : (deeper : ℕ) → ℕ
+levelAdds deeper = (longestIndex + longestLabel) * (1 + deeper)
+
+abbrev pub elementAdds : (deeper : ℕ) → ℕ
+elementAdds deeper = longestLabel + (longestIndex + longestLabel) * deeper
+
+-- at most longestPath bytes
+abbrev pub PathFits : (path : List ℕ) → Type 0
+PathFits path = length path ≤ longestPath
+
+-- The working paths of a walk, in the order of its events: of every element and every array that it enters, and of every leaf, an array that is too
+-- deep and a kept tail among them. Only the root's, which is empty, isn't among them. Where the tables keep their layout, each of them fits (request 10;
+-- proofs/LongestPath).
+abbrev pub workingPaths : Trace → List (List ℕ)
+workingPaths [] = []
+workingPaths (element p ∷ t) = p ∷ workingPaths t
+workingPaths (array p ∷ t) = p ∷ workingPaths t
+workingPaths (leaf x ∷ t) = x .path ∷ workingPaths t
+workingPaths (number x ∷ t) = workingPaths t
+workingPaths (pair x ∷ t) = workingPaths t
+workingPaths (truncation ∷ t) = workingPaths t
+workingPaths (error ∷ t) = workingPaths t
+workingPaths (implicit ∷ t) = workingPaths t
+workingPaths (nested n ∷ t) = workingPaths t
+workingPaths (root n ∷ t) = workingPaths t

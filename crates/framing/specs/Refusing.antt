@@ -5,7 +5,7 @@ use lib.ListN.{length}
 use lib.Dec.{leb, ltb}
 use Rattle.bits.specs.Choice.{if_then_else_}
 use Rattle.bits.specs.Sizes.{longestWindow}
-use Rattle.framing.specs.Events.{leaves, overs, Trace}
+use Rattle.framing.specs.Events.{leaves, Trace}
 use Rattle.framing.specs.Counters.{Counters, counters}
 use Rattle.framing.specs.Records.{pathBytes, payloadBytes}
 
@@ -34,10 +34,9 @@ pub data Answer (Need : Type 0) : Type 0 where
   refused : (number : ℕ) (need : Need) → Answer Need
   accepted : Counters → (need : Need) → Answer Need
 
--- The order 1, 2, 5, 3. laid: the tables keep their layout; enough: the outputs hold what is needed.
+-- The order 1, 2, 3 (01 has a 5 between them, which request 10 retired). laid: the tables keep their layout; enough: the outputs hold what is needed.
 unfoldable pub decided : {Need : Type 0} → (bits : ℕ) (laid : Bool) (trace : Trace) (nothing need : Need) (enough : Bool) → Answer Need
 decided bits laid trace nothing need enough =
     if ltb longestWindow bits then refused 1 nothing else
     (if not laid then refused 2 nothing else
-    (if ltb 0 (overs trace) then refused 5 nothing else
-    (if not enough then refused 3 need else accepted (counters trace) need)))
+    (if not enough then refused 3 need else accepted (counters trace) need))

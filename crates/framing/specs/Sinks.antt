@@ -2,21 +2,20 @@
 use Prim.Native.Nat.{ℕ, zero, suc, _*_}
 use mathlib.Core.Path.{_≡_}
 use mathlib.Core.Bool.{Bool, true, false, _&&_}
-use mathlib.Core.List.{List, [], _∷_, _++_}
+use mathlib.Core.List.{List, [], _∷_}
 use lib.ListN.{length}
 use lib.Dec.{ltb, eqb}
 use Rattle.bits.specs.Choice.{if_then_else_}
 use Rattle.bits.specs.Sizes.{levelsBelow}
 use Rattle.schema.specs.Tables.{Tables, tables, noTables, absent, child}
-use Rattle.schema.specs.Labels.{containerLabel, leafLabel, labelBytes, dot}
 use Rattle.schema.specs.declared.Child.{Child}
 use Rattle.schema.specs.declared.Child.the-variants.{Array, Leaf}
 use Rattle.framing.specs.declared.Walk.{Walk}
 use Rattle.framing.specs.declared.Walk.the-variants as how
 use Rattle.framing.specs.Windows.{Window, windowOf, Reading, got, failed, reading}
 use Rattle.framing.specs.Events as Ev
-use Rattle.framing.specs.Events.{Event, number, pair, truncation, error, nested, root, Trace}
-use Rattle.framing.specs.Paths.{grownPath, overIfLong, leafOrOver}
+use Rattle.framing.specs.Events.{Event, number, array, leaf, pair, truncation, error, nested, root, Trace}
+use Rattle.framing.specs.Paths.{leafPath, arrayPath}
 use Rattle.framing.specs.Walk.{Sink, numberAt, level}
 
 -- ---- what the walks differ in
@@ -40,14 +39,14 @@ abbrev pub leafOf : (path : List ℕ) (handle : ℕ) → Window → Ev.Leaf
 leafOf path handle w = record { path = path; handle = handle; start = w .origin; width = w .size; payload = w .bits }
 
 -- Rule 6. A field that is no array is a leaf, also with no payload. An array with no payload gives nothing; with one, `inside` walks it, given
--- the level of its elements, the path so far and the path with the array's label.
-abbrev pub onChild : Tables → (lvl : ℕ) → (inside : (below : ℕ) (path longer : List ℕ) (handle : ℕ) → Window → Trace)
+-- the level of its elements and its path.
+abbrev pub onChild : Tables → (lvl : ℕ) → (inside : (below : ℕ) (path : List ℕ) (handle : ℕ) → Window → Trace)
     → (path : List ℕ) (handle : ℕ) → Window → Child → Trace
-onChild t lvl inside path handle w Leaf = leafOrOver (leafOf (dot path (labelBytes t handle (leafLabel t lvl handle))) handle w)
+onChild t lvl inside path handle w Leaf = leaf (leafOf (leafPath t lvl path handle) handle w) ∷ []
 onChild t lvl inside path handle w (Array below) =
-    if eqb (w .size) 0 then [] else inside below path (dot path (labelBytes t handle (containerLabel t lvl handle))) handle w
+    if eqb (w .size) 0 then [] else inside below (arrayPath t lvl path handle) handle w
 
-abbrev pub structSinkOver : (inside : ℕ → List ℕ → List ℕ → ℕ → Window → Trace) → Tables → (trailer : Bool) (leftover : ℕ → Event) (lvl : ℕ) → Sink
+abbrev pub structSinkOver : (inside : ℕ → List ℕ → ℕ → Window → Trace) → Tables → (trailer : Bool) (leftover : ℕ → Event) (lvl : ℕ) → Sink
 structSinkOver inside t trailer leftover lvl =
     record {
       trailer = trailer;
@@ -57,14 +56,14 @@ structSinkOver inside t trailer leftover lvl =
     }
 
 -- below the last level an array counts as a truncation and is given whole, as a leaf
-abbrev pub tooDeep : (below : ℕ) (path longer : List ℕ) (handle : ℕ) → Window → Trace
-tooDeep below path longer handle w = truncation ∷ leafOrOver (leafOf longer handle w)
+abbrev pub tooDeep : (below : ℕ) (path : List ℕ) (handle : ℕ) → Window → Trace
+tooDeep below path handle w = truncation ∷ leaf (leafOf path handle w) ∷ []
 
 -- deeper: how many levels may stand below this one. What a child leaves is nested unconsumed bits.
 unfoldable pub structSink : (deeper : ℕ) → Tables → (trailer : Bool) (leftover : ℕ → Event) (lvl : ℕ) → Sink
 structSink zero t trailer leftover lvl = structSinkOver tooDeep t trailer leftover lvl
 structSink (suc deeper) t trailer leftover lvl =
-    structSinkOver (λ below path longer handle w. overIfLong longer ++ level (structSink deeper t trailer nested below) w (grownPath path longer)) t trailer leftover lvl
+    structSinkOver (λ below path handle w. array path ∷ level (structSink deeper t trailer nested below) w path) t trailer leftover lvl
 
 -- ---- the object walk
 

@@ -10,8 +10,7 @@ use Rattle.bits.specs.Packed.{Number}
 use Rattle.bits.specs.Sizes.{maxElements, maxFields, trailerBits}
 use Rattle.schema.specs.Labels.{atIndex, dot, rawLabel}
 use Rattle.framing.specs.Windows.{Window, part, Reading, got, failed, reading}
-use Rattle.framing.specs.Events.{Leaf, rawHandle, numbers, Event, number, element, truncation, error, implicit, Trace}
-use Rattle.framing.specs.Paths.{grownPath, overIfLong, leafOrOver}
+use Rattle.framing.specs.Events.{Leaf, rawHandle, numbers, Event, number, element, leaf, truncation, error, implicit, Trace}
 
 -- What the walks differ in.
 pub record Sink : Type 0 where
@@ -73,7 +72,7 @@ rawLeaf w path p =
 
 -- it is kept if bits remain; a sink without leaves skips it
 unfoldable pub tail : Sink → Window → (path : List ℕ) → (p : ℕ) → Trace
-tail s w path p = if s .flattens && ltb p (w .size) then leafOrOver (rawLeaf w path p) else []
+tail s w path p = if s .flattens && ltb p (w .size) then leaf (rawLeaf w path p) ∷ [] else []
 
 -- ---- rule 5: an element's fields
 
@@ -120,12 +119,9 @@ closing s w p =
 
 -- ---- rules 2, 3 and 4: elements
 
--- the path in element i, and the event where it would be too long; an object walk has no paths
+-- the path in element i; an object walk has no paths
 unfoldable pub inItem : Sink → (path : List ℕ) (i : ℕ) → List ℕ
-inItem s path i = if s .flattens then grownPath path (atIndex path i) else path
-
-unfoldable pub entering : Sink → (path : List ℕ) (i : ℕ) → Trace
-entering s path i = if s .flattens then overIfLong (atIndex path i) else []
+inItem s path i = if s .flattens then atIndex path i else path
 
 -- behind an element: the next one, if it closed; else the rest is skipped
 abbrev pub behind : (ℕ → Trace) → Run → Trace
@@ -143,7 +139,7 @@ onIndex s w path count more fails = error ∷ []
 onIndex s w path count more (closes e q) = number e ∷ closing s w q
 onIndex s w path count more (opens e i q) =
     if beyond count i then number e ∷ error ∷ [] else
-    number e ∷ element i ∷ (entering s path i ++ behind more (fields s w i (inItem s path i) maxFields q true))
+    number e ∷ element (inItem s path i) ∷ behind more (fields s w i (inItem s path i) maxFields q true)
 
 -- The same behind as many elements as are allowed.
 abbrev pub onLastIndex : Sink → Window → (path : List ℕ) → (p : ℕ) → Lead → Trace

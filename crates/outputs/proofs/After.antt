@@ -8,7 +8,7 @@ use native.Mathlib.Omega.{arith}
 use lib.ListN.{length, drop}
 use Rattle.bits.specs.Runs.{put}
 use Rattle.bits.specs.Runs.{filled}
-use Rattle.framing.specs.Events.{number, element, leaf, pair, truncation, error, implicit, nested, root, over, leaves, pairs, overs, Trace}
+use Rattle.framing.specs.Events.{number, element, array, leaf, pair, truncation, error, implicit, nested, root, leaves, pairs, Trace}
 use Rattle.framing.specs.Counters.{counters, sums}
 use Rattle.framing.specs.Records.{leafWords, pairWords, leafRecord, pairRecord, payloadOf, pathBytes, payloadBytes, leafRecords, pairRecords}
 use Rattle.framing.proofs.TraceLaws.{sums-zero}
@@ -23,11 +23,6 @@ counters-after t w = ap (λ (s : Totals). s .counters) (tally-law t w)
 -- from a fresh world: the counters of the trace
 pub counters-fresh : (t : Trace) (l p y : List ℕ) → (apply plain t (fresh l p y)) .counters ≡ counters t
 counters-fresh t l p y = counters-after t (fresh l p y) ∙ sums-zero (counters t)
-
--- ---- paths that would have been too long
-
-pub overs-after : (t : Trace) (w : World) → (apply plain t w) .overs ≡ w .overs + overs t
-overs-after t w = ap (λ (s : Totals). s .overs) (tally-law t w)
 
 -- ---- positions: what they were and what the trace needs, whatever the buffers hold
 
@@ -46,13 +41,13 @@ records-length a b [] = refl
 records-length a b (leaf x ∷ t) = let z = records-length (a + length (x .path)) (b + length (payloadOf x)) t in omega arith
 records-length a b (pair x ∷ t) = let z = records-length a b t in omega arith
 records-length a b (number x ∷ t) = records-length a b t
-records-length a b (element n ∷ t) = records-length a b t
+records-length a b (element p ∷ t) = records-length a b t
+records-length a b (array p ∷ t) = records-length a b t
 records-length a b (truncation ∷ t) = records-length a b t
 records-length a b (error ∷ t) = records-length a b t
 records-length a b (implicit ∷ t) = records-length a b t
 records-length a b (nested n ∷ t) = records-length a b t
 records-length a b (root n ∷ t) = records-length a b t
-records-length a b (over ∷ t) = records-length a b t
 
 -- nothing is lent: there is one list of no length
 pub no-length : (l : List ℕ) → length l ≡ 0 → l ≡ []
@@ -86,13 +81,13 @@ records-leaves a b (leaf x ∷ t) e =
     (records-leaves (a + length (x .path)) (b + length (payloadOf x)) t e)
 records-leaves a b (pair x ∷ t) e = let z : _≡_ {A = ℕ} 0 1 = cc in absurd (omega arith)
 records-leaves a b (number x ∷ t) e = records-leaves a b t e
-records-leaves a b (element n ∷ t) e = records-leaves a b t e
+records-leaves a b (element p ∷ t) e = records-leaves a b t e
+records-leaves a b (array p ∷ t) e = records-leaves a b t e
 records-leaves a b (truncation ∷ t) e = records-leaves a b t e
 records-leaves a b (error ∷ t) e = records-leaves a b t e
 records-leaves a b (implicit ∷ t) e = records-leaves a b t e
 records-leaves a b (nested n ∷ t) e = records-leaves a b t e
 records-leaves a b (root n ∷ t) e = records-leaves a b t e
-records-leaves a b (over ∷ t) e = records-leaves a b t e
 
 pub records-pairs : (a b : ℕ) (t : Trace) → leaves t ≡ [] → traceRecords a b t ≡ pairRecords (pairs t)
 unfolding traceRecords pairRecords
@@ -100,10 +95,10 @@ records-pairs a b [] e = refl
 records-pairs a b (leaf x ∷ t) e = let z : _≡_ {A = ℕ} 0 1 = cc in absurd (omega arith)
 records-pairs a b (pair x ∷ t) e = ap (λ (r : List ℕ). pairRecord x ++ r) (records-pairs a b t e)
 records-pairs a b (number x ∷ t) e = records-pairs a b t e
-records-pairs a b (element n ∷ t) e = records-pairs a b t e
+records-pairs a b (element p ∷ t) e = records-pairs a b t e
+records-pairs a b (array p ∷ t) e = records-pairs a b t e
 records-pairs a b (truncation ∷ t) e = records-pairs a b t e
 records-pairs a b (error ∷ t) e = records-pairs a b t e
 records-pairs a b (implicit ∷ t) e = records-pairs a b t e
 records-pairs a b (nested n ∷ t) e = records-pairs a b t e
 records-pairs a b (root n ∷ t) e = records-pairs a b t e
-records-pairs a b (over ∷ t) e = records-pairs a b t e

@@ -10,8 +10,7 @@ use Rattle.schema.specs.Labels.{bySchema, containerLabel, byDeclaration, leafLa
 use Rattle.schema.specs.Layout.{allFrom, nameFits, kindFits, rowFits, declaredFits, schemaSized, declaredSized, rootFits, schemaLaid, declaredLaid, laidOut}
 use Rattle.framing.specs.Windows.{reading}
 use Rattle.framing.specs.Counters.{counted}
-use Rattle.framing.specs.Paths.{grownPath, overIfLong, leafOrOver}
-use Rattle.framing.specs.Walk.{lead, fieldAt, tail, fields, closing, inItem, entering, elements, level}
+use Rattle.framing.specs.Walk.{lead, fieldAt, tail, fields, closing, inItem, elements, level}
 use Rattle.framing.specs.Sinks.{structSink, struct, sinkOf, walkWindow, walk}
 use Rattle.framing.specs.Records.{pathBytes, payloadBytes, leafRecords}
 use Rattle.framing.specs.Refusing.{refused, accepted, needed, decided}
@@ -35,5 +34,5 @@ pub case1-holds : (answer case1 enough ≡ accepted (counted 1 1 0 0 0 0 0) (rec
 unfolding answer decided finalLeaves finalPaths finalPayloads leafRecords allFrom nameFits kindFits rowFits declaredFits schemaSized
     declaredSized rootFits schemaLaid declaredLaid laidOut needed pathBytes payloadBytes bytesOf num field after earlierByte fifthByte packedFrom
     packed cell rowMatches firstRow rowOf child schemaName declaredName digits decimal bySchema containerLabel byDeclaration leafLabel labelBytes
-    atIndex dot reading grownPath overIfLong leafOrOver lead fieldAt tail fields closing inItem entering elements level structSink sinkOf walkWindow walk
+    atIndex dot reading lead fieldAt tail fields closing inItem elements level structSink sinkOf walkWindow walk
 case1-holds = (refl, refl, refl, refl)

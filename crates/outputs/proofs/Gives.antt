@@ -1,4 +1,4 @@
--- What a kind of walk gives: struct and exact walks no pairs, object walks no leaves and no paths, since no event of theirs is one; payloads have no
+-- What a kind of walk gives: struct and exact walks no pairs, object walks no leaves, since no event of theirs is one; payloads have no
 -- more bytes than the window has bits, since a payload weighs no more than its bits.
 use mathlib.Core.Path.{_≡_, refl, ap, _∙_}
 use mathlib.Core.List.{List, [], _∷_, _++_}
@@ -8,12 +8,12 @@ use lib.ListN.{length, length-append}
 use Rattle.bits.specs.Runs.{bytesOf, bytesFor}
 use Rattle.bits.proofs.Never.{never}
 use Rattle.bits.proofs.RunLaws.{length-bytesOf}
-use Rattle.framing.specs.Events.{Leaf, Event, leaf, leaves, pairs, overs, Trace}
+use Rattle.framing.specs.Events.{Leaf, Event, leaf, leaves, pairs, Trace}
 use Rattle.framing.specs.Sinks.{Walker, object, Leafy, walk}
 use Rattle.framing.specs.Records.{payloadBytes}
 use Rattle.framing.proofs.TraceLaws.{leaves-append}
 use Rattle.framing.proofs.RecordLaws.{payload-append}
-use Rattle.framing.proofs.EachEvent.{Sound, walk-may, leaves-may, pairs-may, overs-may, each-never}
+use Rattle.framing.proofs.EachEvent.{Proper, walk-may, leaves-may, pairs-may, each-never}
 use Rattle.framing.proofs.Weighed.{weigh, Weights, walk-weight}
 
 pub no-pairs : (k : Walker) → Leafy k → (bytes : List ℕ) (n : ℕ) → pairs (walk k bytes n) ≡ []
@@ -24,10 +24,7 @@ no-leafy e = never cc
 
 pub no-leaves : (bytes : List ℕ) (n : ℕ) → leaves (walk object bytes n) ≡ []
 no-leaves bytes n =
-    each-never (λ x. Leafy object × Sound x) (λ x h. no-leafy (h .0)) (leaves (walk object bytes n)) (leaves-may object (walk object bytes n) (walk-may object bytes n))
-
-pub no-overs : (bytes : List ℕ) (n : ℕ) → overs (walk object bytes n) ≡ 0
-no-overs bytes n = overs-may object (walk object bytes n) (walk-may object bytes n) no-leafy
+    each-never (λ x. Leafy object × Proper x) (λ x h. no-leafy (h .0)) (leaves (walk object bytes n)) (leaves-may object (walk object bytes n) (walk-may object bytes n))
 
 -- ---- payload bytes: at most a bit of the window each
 
@@ -50,9 +47,9 @@ unfolding payloadBytes
 payloads-weighs =
     record {
       number = λ x. refl;
-      element = λ i. omega arith;
+      element = λ p. omega arith;
+      array = λ p. refl;
       leaf = λ x n some wide. let z = loads-leaf x in omega arith;
-      over = omega arith;
       pair = λ x. omega arith;
       nested = λ n. omega arith;
       root = λ n. omega arith;

@@ -8,4 +8,3 @@ pub mod Passes
 pub mod Fronts
 pub mod Padding
 pub mod Example
-pub mod NeverFive

@@ -1,5 +1,5 @@
 -- The code's additions wrap; in a walk of a window none does. A sum that fits at the end fitted before, and of at most 524,288 bits the counters,
--- leaves, paths and payloads add up to less than 2^32 (Bounded, ShortPaths, Gives).
+-- leaves, paths and payloads add up to less than 2^32 (Bounded, ShortPaths, Gives), where the labels lie in their pools.
 use mathlib.Core.Path.{_≡_, refl, ap, _∙_}
 use mathlib.Core.List.{List, [], _∷_}
 use Prim.Native.Nat.{ℕ, _+_, _%_, _≤_, _<_}
@@ -7,20 +7,20 @@ use native.Mathlib.Nat.{mod-eq-of-lt}
 use native.Mathlib.Omega.{arith}
 use lib.ListN.{length}
 use Rattle.bits.specs.Sizes.{longestWindow}
-use Rattle.framing.specs.Events.{Event, number, element, leaf, pair, truncation, error, implicit, nested, root, over, leaves, pairs, overs, Trace}
+use Rattle.framing.specs.Events.{Event, number, element, array, leaf, pair, truncation, error, implicit, nested, root, leaves, pairs, Trace}
 use Rattle.framing.specs.Counters.{Counters, counted, counters, sums}
 use Rattle.framing.specs.Sinks.{Walker, walk}
 use Rattle.framing.specs.Records.{leafRecord, pairRecord, payloadOf}
 use Rattle.framing.proofs.Bounded.{total, walk-cost}
 use Rattle.outputs.specs.World.{plain, wrapping, Out, putNext, World, count, counting, onEvent, apply, fresh}
-use Rattle.outputs.proofs.After.{counters-after, counters-fresh, overs-after, records-at, paths-at, payloads-at, records-length}
+use Rattle.outputs.proofs.After.{counters-after, counters-fresh, records-at, paths-at, payloads-at, records-length}
 use Rattle.outputs.proofs.Gives.{payload-bound}
-use Rattle.outputs.proofs.ShortPaths.{walk-short, path-bound}
+use Rattle.framing.proofs.LongestPath.{Labelled, walk-short, leaves-short}
+use Rattle.outputs.proofs.ShortPaths.{path-bound}
 
 -- every number that is added up is below m
 pub record Fits (m : ℕ) (w : World) : Type 0 where
   pub counters : total (w .counters) < m
-  pub overs : w .overs < m
   pub records : w .records .at < m
   pub paths : w .paths .at < m
   pub payloads : w .payloads .at < m
@@ -30,7 +30,6 @@ pub fits-before : (m : ℕ) (t : Trace) (w : World) → Fits m (apply plain t w)
 fits-before m t w h =
     record {
       counters = let e : total ((apply plain t w) .counters) ≡ total (sums (w .counters) (counters t)) = ap total (counters-after t w) in let f = h .counters in omega arith;
-      overs = let e = overs-after t w in let f = h .overs in omega arith;
       records = let e = records-at t w in let f = h .records in omega arith;
       paths = let e = paths-at t w in let f = h .paths in omega arith;
       payloads = let e = payloads-at t w in let f = h .payloads in omega arith;
@@ -41,10 +40,10 @@ put-fits m run o h = let e : (o .at + length run) % m ≡ o .at + length run = m
 
 count-fits : (m : ℕ) (e : Event) (c : Counters) → total (count plain e c) < m → count (wrapping m) e c ≡ count plain e c
 count-fits m (number x) c h = refl
-count-fits m over c h = refl
-count-fits m (element n) c h =
+count-fits m (element p) c h =
     let e : (c .elements + 1) % m ≡ c .elements + 1 = mod-eq-of-lt (omega arith) in
     λ i. counted (e i) (c .fields) (c .truncations) (c .errors) (c .nestedBits) (c .rootBits) (c .implicits)
+count-fits m (array p) c h = refl
 count-fits m (leaf x) c h =
     let e : (c .fields + 1) % m ≡ c .fields + 1 = mod-eq-of-lt (omega arith) in
     λ i. counted (c .elements) (e i) (c .truncations) (c .errors) (c .nestedBits) (c .rootBits) (c .implicits)
@@ -73,16 +72,14 @@ event-fits m (leaf x) w h =
     let p = put-fits m (leafRecord (w .paths .at) (w .payloads .at) x) (w .records) (h .records) in
     let q = put-fits m (x .path) (w .paths) (h .paths) in
     let r = put-fits m (payloadOf x) (w .payloads) (h .payloads) in
-    λ i. record { counters = c i; overs = w .overs; records = p i; paths = q i; payloads = r i }
+    λ i. record { counters = c i; records = p i; paths = q i; payloads = r i }
 event-fits m (pair x) w h =
     let c = count-fits m (pair x) (w .counters) (h .counters) in
     let p = put-fits m (pairRecord x) (w .records) (h .records) in
-    λ i. record { counters = c i; overs = w .overs; records = p i; paths = w .paths; payloads = w .payloads }
-event-fits m over w h =
-    let e : (w .overs + 1) % m ≡ w .overs + 1 = mod-eq-of-lt (h .overs) in
-    λ i. record { counters = w .counters; overs = e i; records = w .records; paths = w .paths; payloads = w .payloads }
+    λ i. record { counters = c i; records = p i; paths = w .paths; payloads = w .payloads }
 event-fits m (number x) w h = ap (λ (c : Counters). counting c w) (count-fits m (number x) (w .counters) (h .counters))
-event-fits m (element n) w h = ap (λ (c : Counters). counting c w) (count-fits m (element n) (w .counters) (h .counters))
+event-fits m (element p) w h = ap (λ (c : Counters). counting c w) (count-fits m (element p) (w .counters) (h .counters))
+event-fits m (array p) w h = ap (λ (c : Counters). counting c w) (count-fits m (array p) (w .counters) (h .counters))
 event-fits m truncation w h = ap (λ (c : Counters). counting c w) (count-fits m truncation (w .counters) (h .counters))
 event-fits m error w h = ap (λ (c : Counters). counting c w) (count-fits m error (w .counters) (h .counters))
 event-fits m implicit w h = ap (λ (c : Counters). counting c w) (count-fits m implicit (w .counters) (h .counters))
@@ -104,19 +101,19 @@ fields-count [] = refl
 fields-count (leaf x ∷ t) = let z = fields-count t in omega arith
 fields-count (pair x ∷ t) = let z = fields-count t in omega arith
 fields-count (number x ∷ t) = let z = fields-count t in omega arith
-fields-count (element n ∷ t) = let z = fields-count t in omega arith
+fields-count (element p ∷ t) = let z = fields-count t in omega arith
+fields-count (array p ∷ t) = let z = fields-count t in omega arith
 fields-count (truncation ∷ t) = let z = fields-count t in omega arith
 fields-count (error ∷ t) = let z = fields-count t in omega arith
 fields-count (implicit ∷ t) = let z = fields-count t in omega arith
 fields-count (nested n ∷ t) = let z = fields-count t in omega arith
 fields-count (root n ∷ t) = let z = fields-count t in omega arith
-fields-count (over ∷ t) = let z = fields-count t in omega arith
 
 -- what the numbers of such a walk stay below
 abbrev pub word : ℕ
 word = 4294967296
 
-module _ (k : Walker) (bytes : List ℕ) (n : ℕ) (small : n ≤ longestWindow) (l p y : List ℕ) where
+module _ (k : Walker) (labels : Labelled k) (bytes : List ℕ) (n : ℕ) (small : n ≤ longestWindow) (l p y : List ℕ) where
   pub walk-fits : Fits word (apply plain (walk k bytes n) (fresh l p y))
   walk-fits =
       let t = walk k bytes n in
@@ -124,9 +121,8 @@ module _ (k : Walker) (bytes : List ℕ) (n : ℕ) (small : n ≤ longestWindow)
       let gave = fields-count t in
       record {
         counters = let e = ap total (counters-fresh t l p y) in omega arith;
-        overs = let e = overs-after t (fresh l p y) in omega arith;
         records = let e = records-at t (fresh l p y) in let f = records-length 0 0 t in omega arith;
-        paths = let e = paths-at t (fresh l p y) in let f = path-bound (leaves t) (walk-short k bytes n) in omega arith;
+        paths = let e = paths-at t (fresh l p y) in let f = path-bound (leaves t) (leaves-short t (walk-short k labels bytes n)) in omega arith;
         payloads = let e = payloads-at t (fresh l p y) in let f = payload-bound k bytes n in omega arith;
       }
 
@@ -134,7 +130,6 @@ module _ (k : Walker) (bytes : List ℕ) (n : ℕ) (small : n ≤ longestWindow)
   fits-more m h w f =
       record {
         counters = let z = f .counters in omega arith;
-        overs = let z = f .overs in omega arith;
         records = let z = f .records in omega arith;
         paths = let z = f .paths in omega arith;
         payloads = let z = f .payloads in omega arith;

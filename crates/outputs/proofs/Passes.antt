@@ -11,17 +11,19 @@ use lib.ListN.{length}
 use borrow.Author.Tests.{leb-true, le-leb, lt-leb}
 use Rattle.bits.specs.Runs.{filled}
 use Rattle.bits.specs.Sizes.{longestWindow}
-use Rattle.framing.specs.Events.{leaves, pairs, overs}
+use Rattle.framing.specs.Events.{leaves, pairs}
 use Rattle.framing.specs.Counters.{Counters, counters}
 use Rattle.framing.specs.Sinks.{Walker, object, Leafy, walk}
 use Rattle.framing.specs.Records.{leafWords, pairWords, pathBytes, payloadBytes, leafRecords}
 use Rattle.framing.specs.Refusing.{Room, noRoom, needed, within, Answer, refused, accepted}
 use Rattle.bits.proofs.ChoiceLaws.{and-true}
-use Rattle.framing.proofs.RefusingLaws.{decided-long, decided-broken, decided-over, decided-short, decided-fine}
+use Rattle.framing.proofs.RefusingLaws.{decided-long, decided-broken, decided-short, decided-fine}
 use Rattle.outputs.specs.World.{wrapping, plain, World, apply, fresh, traceRecords}
 use Rattle.outputs.specs.Answers.{Call, Lent, laid, traceOf, roomOf, answer, finalLeaves, finalPaths, finalPayloads, Answered, measured, heldBy, final, pairTrace, pairAnswer, finalPairs, PairsAnswered}
-use Rattle.outputs.proofs.After.{counters-fresh, overs-after, records-at, paths-at, payloads-at, records-length, records-filled, paths-filled, payloads-filled, records-leaves, records-pairs}
-use Rattle.outputs.proofs.Gives.{no-pairs, no-leaves, no-overs}
+use Rattle.outputs.proofs.After.{counters-fresh, records-at, paths-at, payloads-at, records-length, records-filled, paths-filled, payloads-filled, records-leaves, records-pairs}
+use Rattle.outputs.proofs.Gives.{no-pairs, no-leaves}
+use Rattle.framing.proofs.LongestPath.{Labelled}
+use Rattle.outputs.proofs.ShortPaths.{laid-labelled, object-labelled}
 use Rattle.outputs.proofs.NoWrap.{word, walk-exact}
 
 -- ---- any walk
@@ -30,12 +32,10 @@ use Rattle.outputs.proofs.NoWrap.{word, walk-exact}
 abbrev pub Walked : (m : ℕ) → Walker → (bytes : List ℕ) (n : ℕ) → (l p y : List ℕ) → World → Type 0
 Walked m k bytes n l p y v = v ≡ apply (wrapping m) (walk k bytes n) (fresh l p y)
 
-module _ (m : ℕ) (wide : word ≤ m) (k : Walker) (bytes : List ℕ) (n : ℕ) (small : n ≤ longestWindow) (l p y : List ℕ) (v : World) (e : Walked m k bytes n l p y v) where
+module _ (m : ℕ) (wide : word ≤ m) (k : Walker) (labels : Labelled k) (bytes : List ℕ) (n : ℕ) (small : n ≤ longestWindow) (l p y : List ℕ) (v : World)
+    (e : Walked m k bytes n l p y v) where
   walked : v ≡ apply plain (walk k bytes n) (fresh l p y)
-  walked = e ∙ walk-exact k bytes n small l p y m wide
-
-  pub walked-overs : v .overs ≡ overs (walk k bytes n)
-  walked-overs = ap (λ (w : World). w .overs) walked ∙ overs-after (walk k bytes n) (fresh l p y) ∙ zero-add (overs (walk k bytes n))
+  walked = e ∙ walk-exact k labels bytes n small l p y m wide
 
   pub walked-counters : v .counters ≡ counters (walk k bytes n)
   walked-counters = ap (λ (w : World). w .counters) walked ∙ counters-fresh (walk k bytes n) l p y
@@ -107,46 +107,37 @@ module _ (c : Call) (b : Lent) where
 
     module _ (good : laid (c .how) (c .levels) ≡ true) (leafy : Leafy (c .how)) (m : ℕ) (wide : word ≤ m) (v : World)
         (pass : Walked m (c .how) (c .bytes) (c .bits) [] [] [] v) where
+      labels : Labelled (c .how)
+      labels = laid-labelled (c .how) (c .levels) good
+
       needs-found : measured v ≡ needed (traceOf c)
-      needs-found = measured-needs m wide (c .how) (c .bytes) (c .bits) small [] [] [] v pass leafy
+      needs-found = measured-needs m wide (c .how) labels (c .bytes) (c .bits) small [] [] [] v pass leafy
 
-      overs-found : v .overs ≡ overs (traceOf c)
-      overs-found = walked-overs m wide (c .how) (c .bytes) (c .bits) small [] [] [] v pass
-
-      -- the measuring pass found a path that would be too long
-      pub path-too-long : 0 < v .overs → Answered c b (refused 5 noRoom) b
+      -- it found too little room
+      pub no-room : within (measured v) (roomOf b) ≡ false → Answered c b (refused 3 (measured v)) b
       unfolding answer
-      path-too-long h = let e = overs-found in refused-by 5 noRoom (decided-over _ _ _ _ _ _ small good (omega arith))
+      no-room h =
+          let h′ : within (needed (traceOf c)) (roomOf b) ≡ false = subst (λ (r : Room). within r (roomOf b) ≡ false) needs-found h in
+          refused-by 3 (measured v) (decided-short _ _ _ _ _ _ small good h′ ∙ ap (refused 3) (sym needs-found))
 
-      module _ (fine : v .overs ≡ 0) where
-        none-over : overs (traceOf c) ≡ 0
-        none-over = sym overs-found ∙ fine
-
-        -- it found too little room
-        pub no-room : within (measured v) (roomOf b) ≡ false → Answered c b (refused 3 (measured v)) b
-        unfolding answer
-        no-room h =
-            let h′ : within (needed (traceOf c)) (roomOf b) ≡ false = subst (λ (r : Room). within r (roomOf b) ≡ false) needs-found h in
-            refused-by 3 (measured v) (decided-short _ _ _ _ _ _ small good none-over h′ ∙ ap (refused 3) (sym needs-found))
-
-        -- it found room, and the writing pass came to u
-        pub wrote : within (measured v) (roomOf b) ≡ true → (u : World) → Walked m (c .how) (c .bytes) (c .bits) (b .leaves) (b .paths) (b .payloads) u
-            → Answered c b (accepted (u .counters) (measured v)) (heldBy u)
-        unfolding answer needed
-        wrote h u again =
-            let h′ : within (needed (traceOf c)) (roomOf b) ≡ true = subst (λ (r : Room). within r (roomOf b) ≡ true) needs-found h in
-            let t = traceOf c in
-            let says : answer c b ≡ accepted (counters t) (needed t) = decided-fine _ _ _ _ _ _ small good none-over h′ in
-            let counts = walked-counters m wide (c .how) (c .bytes) (c .bits) small (b .leaves) (b .paths) (b .payloads) u again in
-            let fits = within-each (needed t) (roomOf b) h′ in
-            let r1 = fits .0 in
-            let lone : pairs t ≡ [] = no-pairs (c .how) leafy (c .bytes) (c .bits) in
-            let z : length (pairs t) ≡ 0 = ap length lone in
-            accepted-by (u .counters) (measured v) (heldBy u) (says ∙ sym (ap₂ accepted counts needs-found))
-            (wrote-records m wide (c .how) (c .bytes) (c .bits) small (b .leaves) (b .paths) (b .payloads) u again (omega arith)
-            ∙ ap (λ (x : List ℕ). filled x (b .leaves)) (records-leaves 0 0 t lone))
-            (wrote-paths m wide (c .how) (c .bytes) (c .bits) small (b .leaves) (b .paths) (b .payloads) u again (fits .1))
-            (wrote-payloads m wide (c .how) (c .bytes) (c .bits) small (b .leaves) (b .paths) (b .payloads) u again (fits .2))
+      -- it found room, and the writing pass came to u
+      pub wrote : within (measured v) (roomOf b) ≡ true → (u : World) → Walked m (c .how) (c .bytes) (c .bits) (b .leaves) (b .paths) (b .payloads) u
+          → Answered c b (accepted (u .counters) (measured v)) (heldBy u)
+      unfolding answer needed
+      wrote h u again =
+          let h′ : within (needed (traceOf c)) (roomOf b) ≡ true = subst (λ (r : Room). within r (roomOf b) ≡ true) needs-found h in
+          let t = traceOf c in
+          let says : answer c b ≡ accepted (counters t) (needed t) = decided-fine _ _ _ _ _ _ small good h′ in
+          let counts = walked-counters m wide (c .how) labels (c .bytes) (c .bits) small (b .leaves) (b .paths) (b .payloads) u again in
+          let fits = within-each (needed t) (roomOf b) h′ in
+          let r1 = fits .0 in
+          let lone : pairs t ≡ [] = no-pairs (c .how) leafy (c .bytes) (c .bits) in
+          let z : length (pairs t) ≡ 0 = ap length lone in
+          accepted-by (u .counters) (measured v) (heldBy u) (says ∙ sym (ap₂ accepted counts needs-found))
+          (wrote-records m wide (c .how) labels (c .bytes) (c .bits) small (b .leaves) (b .paths) (b .payloads) u again (omega arith)
+          ∙ ap (λ (x : List ℕ). filled x (b .leaves)) (records-leaves 0 0 t lone))
+          (wrote-paths m wide (c .how) labels (c .bytes) (c .bits) small (b .leaves) (b .paths) (b .payloads) u again (fits .1))
+          (wrote-payloads m wide (c .how) labels (c .bytes) (c .bits) small (b .leaves) (b .paths) (b .payloads) u again (fits .2))
 
   -- a refused call leaves the buffers as lent
   pub refusal-keeps : (k : ℕ) (n : Room) → answer c b ≡ refused k n → final c b ≡ b
@@ -179,7 +170,7 @@ module _ (bytes : List ℕ) (bits : ℕ) (lent : List ℕ) where
   module _ (small : bits ≤ longestWindow) (m : ℕ) (wide : word ≤ m) where
     pairs-found : (l : List ℕ) (v : World) → Walked m object bytes bits l [] [] v → v .records .at / pairWords ≡ length (pairs (pairTrace bytes bits))
     pairs-found l v e =
-        let w = walked-records m wide object bytes bits small l [] [] v e in
+        let w = walked-records m wide object object-labelled bytes bits small l [] [] v e in
         let z : length (leaves (walk object bytes bits)) ≡ 0 = ap length (no-leaves bytes bits) in
         omega arith
 
@@ -189,7 +180,7 @@ module _ (bytes : List ℕ) (bits : ℕ) (lent : List ℕ) where
       pairs-no-room h =
           let f = pairs-found [] v pass in
           let says : pairAnswer bytes bits lent ≡ refused 3 (length (pairs (pairTrace bytes bits))) =
-          decided-short _ _ _ _ _ _ small refl (no-overs bytes bits) (lt-leb (length (pairs (pairTrace bytes bits))) (length lent / pairWords) (omega arith)) in
+          decided-short _ _ _ _ _ _ small refl (lt-leb (length (pairs (pairTrace bytes bits))) (length lent / pairWords) (omega arith)) in
           pairs-refused 3 (v .records .at / pairWords) (says ∙ ap (refused 3) (sym f))
 
       pub pairs-wrote : v .records .at / pairWords ≤ length lent / pairWords → (u : World) → Walked m object bytes bits lent [] [] u
@@ -199,11 +190,11 @@ module _ (bytes : List ℕ) (bits : ℕ) (lent : List ℕ) where
           let t = pairTrace bytes bits in
           let f = pairs-found [] v pass in
           let says : pairAnswer bytes bits lent ≡ accepted (counters t) (length (pairs t)) =
-          decided-fine _ _ _ _ _ _ small refl (no-overs bytes bits) (le-leb (length (pairs t)) (length lent / pairWords) (omega arith)) in
-          let counts = walked-counters m wide object bytes bits small lent [] [] u again in
+          decided-fine _ _ _ _ _ _ small refl (le-leb (length (pairs t)) (length lent / pairWords) (omega arith)) in
+          let counts = walked-counters m wide object object-labelled bytes bits small lent [] [] u again in
           let lone : leaves t ≡ [] = no-leaves bytes bits in
           let z : length (leaves t) ≡ 0 = ap length lone in
-          let held = wrote-records m wide object bytes bits small lent [] [] u again (omega arith) ∙ ap (λ (x : List ℕ). filled x lent) (records-pairs 0 0 t lone) in
+          let held = wrote-records m wide object object-labelled bytes bits small lent [] [] u again (omega arith) ∙ ap (λ (x : List ℕ). filled x lent) (records-pairs 0 0 t lone) in
           record { says = ap₂ accepted counts f ∙ sym says; pairs = rw says held }
 
   pub pairs-determined : (r s : Answer ℕ) (x y : List ℕ) → PairsAnswered bytes bits lent r x → PairsAnswered bytes bits lent s y → (r ≡ s) × (x ≡ y)

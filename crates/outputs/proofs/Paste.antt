@@ -2,14 +2,14 @@
 -- positions what it writes, and writes behind what was written.
 use mathlib.Core.Path.{_≡_, refl, sym, ap, _∙_}
 use mathlib.Core.List.{List, [], _∷_, _++_}
-use Prim.Native.Nat.{ℕ, suc, _+_, _≤_}
+use Prim.Native.Nat.{ℕ, _+_, _≤_}
 use native.Mathlib.Nat.{add-zero}
 use native.Mathlib.Omega.{arith}
 use lib.ListN.{length, length-append}
 use Rattle.bits.specs.Runs.{put, store}
 use Rattle.bits.proofs.RunLaws.{put-put, put-none, store-fits, length-store}
 use Rattle.bits.specs.Packed.{Number}
-use Rattle.framing.specs.Events.{numbers, Event, number, element, leaf, pair, truncation, error, implicit, nested, root, over, leaves, overs, Trace}
+use Rattle.framing.specs.Events.{numbers, Event, number, element, array, leaf, pair, truncation, error, implicit, nested, root, leaves, Trace}
 use Rattle.framing.specs.Counters.{Counters, counted, counters, sums, countOf}
 use Rattle.framing.specs.Records.{leafRecord, pairRecord, payloadOf, pathBytes, payloadBytes}
 use Rattle.framing.proofs.TraceLaws.{sums-assoc}
@@ -37,14 +37,14 @@ same n = sym (add-zero n)
 
 pub count-adds : (e : Event) (c : Counters) → count plain e c ≡ sums c (countOf e)
 count-adds (number x) c = λ i. counted (same (c .elements) i) (same (c .fields) i) (same (c .truncations) i) (same (c .errors) i) (same (c .nestedBits) i) (same (c .rootBits) i) (same (c .implicits) i)
-count-adds (element n) c = λ i. counted (c .elements + 1) (same (c .fields) i) (same (c .truncations) i) (same (c .errors) i) (same (c .nestedBits) i) (same (c .rootBits) i) (same (c .implicits) i)
+count-adds (element p) c = λ i. counted (c .elements + 1) (same (c .fields) i) (same (c .truncations) i) (same (c .errors) i) (same (c .nestedBits) i) (same (c .rootBits) i) (same (c .implicits) i)
+count-adds (array p) c = λ i. counted (same (c .elements) i) (same (c .fields) i) (same (c .truncations) i) (same (c .errors) i) (same (c .nestedBits) i) (same (c .rootBits) i) (same (c .implicits) i)
 count-adds (leaf x) c = λ i. counted (same (c .elements) i) (c .fields + 1) (same (c .truncations) i) (same (c .errors) i) (same (c .nestedBits) i) (same (c .rootBits) i) (same (c .implicits) i)
 count-adds (pair x) c = λ i. counted (same (c .elements) i) (c .fields + 1) (same (c .truncations) i) (same (c .errors) i) (same (c .nestedBits) i) (same (c .rootBits) i) (same (c .implicits) i)
 count-adds truncation c = λ i. counted (same (c .elements) i) (same (c .fields) i) (c .truncations + 1) (same (c .errors) i) (same (c .nestedBits) i) (same (c .rootBits) i) (same (c .implicits) i)
 count-adds error c = λ i. counted (same (c .elements) i) (same (c .fields) i) (same (c .truncations) i) (c .errors + 1) (same (c .nestedBits) i) (same (c .rootBits) i) (same (c .implicits) i)
 count-adds implicit c = λ i. counted (same (c .elements) i) (same (c .fields) i) (same (c .truncations) i) (same (c .errors) i) (same (c .nestedBits) i) (same (c .rootBits) i) (c .implicits + 1)
 count-adds (nested n) c = λ i. counted (same (c .elements) i) (same (c .fields) i) (same (c .truncations) i) (same (c .errors) i) (c .nestedBits + n) (same (c .rootBits) i) (same (c .implicits) i)
-count-adds over c = λ i. counted (same (c .elements) i) (same (c .fields) i) (same (c .truncations) i) (same (c .errors) i) (same (c .nestedBits) i) (same (c .rootBits) i) (same (c .implicits) i)
 count-adds (root n) c = λ i. counted (same (c .elements) i) (same (c .fields) i) (same (c .truncations) i) (same (c .errors) i) (same (c .nestedBits) i) (c .rootBits + n) (same (c .implicits) i)
 
 -- counters of an event and of a trace behind it
@@ -64,45 +64,43 @@ tally-law [] w =
     let a = same (w .records .at) in
     let b = same (w .paths .at) in
     let d = same (w .payloads .at) in
-    let o = same (w .overs) in
-    λ i. record { counters = sym (sums-none (w .counters)) i; overs = o i; records = a i; paths = b i; payloads = d i }
+    λ i. record { counters = sym (sums-none (w .counters)) i; records = a i; paths = b i; payloads = d i }
 tally-law (leaf x ∷ t) w =
     let c = count-then (leaf x) (w .counters) t in
     let rest = traceRecords (w .paths .at + length (x .path)) (w .payloads .at + length (payloadOf x)) t in
     let p = passes (w .records .at) (leafRecord (w .paths .at) (w .payloads .at) x) rest in
     let q = passes (w .paths .at) (x .path) (pathBytes (leaves t)) in
     let r = passes (w .payloads .at) (payloadOf x) (payloadBytes (leaves t)) in
-    tally-law t (onEvent plain (leaf x) w) ∙ (λ i. record { counters = c i; overs = w .overs + overs t; records = p i; paths = q i; payloads = r i })
+    tally-law t (onEvent plain (leaf x) w) ∙ (λ i. record { counters = c i; records = p i; paths = q i; payloads = r i })
 tally-law (pair x ∷ t) w =
     let c = count-then (pair x) (w .counters) t in
     let p = passes (w .records .at) (pairRecord x) (traceRecords (w .paths .at) (w .payloads .at) t) in
     let u : Totals = tallied t (totalsOf w) in
-    tally-law t (onEvent plain (pair x) w) ∙ (λ i. record { counters = c i; overs = u .overs; records = p i; paths = u .paths; payloads = u .payloads })
+    tally-law t (onEvent plain (pair x) w) ∙ (λ i. record { counters = c i; records = p i; paths = u .paths; payloads = u .payloads })
 tally-law (number x ∷ t) w =
     let u : Totals = tallied t (totalsOf w) in
-    tally-law t (onEvent plain (number x) w) ∙ (λ i. record { counters = count-then (number x) (w .counters) t i; overs = u .overs; records = u .records; paths = u .paths; payloads = u .payloads })
-tally-law (element n ∷ t) w =
+    tally-law t (onEvent plain (number x) w) ∙ (λ i. record { counters = count-then (number x) (w .counters) t i; records = u .records; paths = u .paths; payloads = u .payloads })
+tally-law (element p ∷ t) w =
     let u : Totals = tallied t (totalsOf w) in
-    tally-law t (onEvent plain (element n) w) ∙ (λ i. record { counters = count-then (element n) (w .counters) t i; overs = u .overs; records = u .records; paths = u .paths; payloads = u .payloads })
+    tally-law t (onEvent plain (element p) w) ∙ (λ i. record { counters = count-then (element p) (w .counters) t i; records = u .records; paths = u .paths; payloads = u .payloads })
+tally-law (array p ∷ t) w =
+    let u : Totals = tallied t (totalsOf w) in
+    tally-law t (onEvent plain (array p) w) ∙ (λ i. record { counters = count-then (array p) (w .counters) t i; records = u .records; paths = u .paths; payloads = u .payloads })
 tally-law (truncation ∷ t) w =
     let u : Totals = tallied t (totalsOf w) in
-    tally-law t (onEvent plain truncation w) ∙ (λ i. record { counters = count-then truncation (w .counters) t i; overs = u .overs; records = u .records; paths = u .paths; payloads = u .payloads })
+    tally-law t (onEvent plain truncation w) ∙ (λ i. record { counters = count-then truncation (w .counters) t i; records = u .records; paths = u .paths; payloads = u .payloads })
 tally-law (error ∷ t) w =
     let u : Totals = tallied t (totalsOf w) in
-    tally-law t (onEvent plain error w) ∙ (λ i. record { counters = count-then error (w .counters) t i; overs = u .overs; records = u .records; paths = u .paths; payloads = u .payloads })
+    tally-law t (onEvent plain error w) ∙ (λ i. record { counters = count-then error (w .counters) t i; records = u .records; paths = u .paths; payloads = u .payloads })
 tally-law (implicit ∷ t) w =
     let u : Totals = tallied t (totalsOf w) in
-    tally-law t (onEvent plain implicit w) ∙ (λ i. record { counters = count-then implicit (w .counters) t i; overs = u .overs; records = u .records; paths = u .paths; payloads = u .payloads })
+    tally-law t (onEvent plain implicit w) ∙ (λ i. record { counters = count-then implicit (w .counters) t i; records = u .records; paths = u .paths; payloads = u .payloads })
 tally-law (nested n ∷ t) w =
     let u : Totals = tallied t (totalsOf w) in
-    tally-law t (onEvent plain (nested n) w) ∙ (λ i. record { counters = count-then (nested n) (w .counters) t i; overs = u .overs; records = u .records; paths = u .paths; payloads = u .payloads })
+    tally-law t (onEvent plain (nested n) w) ∙ (λ i. record { counters = count-then (nested n) (w .counters) t i; records = u .records; paths = u .paths; payloads = u .payloads })
 tally-law (root n ∷ t) w =
     let u : Totals = tallied t (totalsOf w) in
-    tally-law t (onEvent plain (root n) w) ∙ (λ i. record { counters = count-then (root n) (w .counters) t i; overs = u .overs; records = u .records; paths = u .paths; payloads = u .payloads })
-tally-law (over ∷ t) w =
-    let u : Totals = tallied t (totalsOf w) in
-    let o : w .overs + 1 + overs t ≡ w .overs + suc (overs t) = omega arith in
-    tally-law t (onEvent plain over w) ∙ (λ i. record { counters = count-then over (w .counters) t i; overs = o i; records = u .records; paths = u .paths; payloads = u .payloads })
+    tally-law t (onEvent plain (root n) w) ∙ (λ i. record { counters = count-then (root n) (w .counters) t i; records = u .records; paths = u .paths; payloads = u .payloads })
 
 -- THE PASTE LAW, of one buffer at a time: where there is room for all that the trace gives it, that is what it holds, from its position on.
 step : (run rest l : List ℕ) (i : ℕ) → i + length (run ++ rest) ≤ length l → put (store l i run) (i + length run) rest ≡ put l i (run ++ rest)
@@ -126,13 +124,13 @@ records-over (pair x ∷ t) w h =
     let rest = traceRecords (w .paths .at) (w .payloads .at) t in
     records-over t (onEvent plain (pair x) w) (room run rest (w .records .held) (w .records .at) h) ∙ step run rest (w .records .held) (w .records .at) h
 records-over (number x ∷ t) w h = records-over t (onEvent plain (number x) w) h
-records-over (element n ∷ t) w h = records-over t (onEvent plain (element n) w) h
+records-over (element p ∷ t) w h = records-over t (onEvent plain (element p) w) h
+records-over (array p ∷ t) w h = records-over t (onEvent plain (array p) w) h
 records-over (truncation ∷ t) w h = records-over t (onEvent plain truncation w) h
 records-over (error ∷ t) w h = records-over t (onEvent plain error w) h
 records-over (implicit ∷ t) w h = records-over t (onEvent plain implicit w) h
 records-over (nested n ∷ t) w h = records-over t (onEvent plain (nested n) w) h
 records-over (root n ∷ t) w h = records-over t (onEvent plain (root n) w) h
-records-over (over ∷ t) w h = records-over t (onEvent plain over w) h
 
 pub paths-over : (t : Trace) (w : World) → w .paths .at + length (pathBytes (leaves t)) ≤ length (w .paths .held)
     → (apply plain t w) .paths .held ≡ put (w .paths .held) (w .paths .at) (pathBytes (leaves t))
@@ -144,13 +142,13 @@ paths-over (leaf x ∷ t) w h =
     paths-over t (onEvent plain (leaf x) w) (room run rest (w .paths .held) (w .paths .at) h) ∙ step run rest (w .paths .held) (w .paths .at) h
 paths-over (pair x ∷ t) w h = paths-over t (onEvent plain (pair x) w) h
 paths-over (number x ∷ t) w h = paths-over t (onEvent plain (number x) w) h
-paths-over (element n ∷ t) w h = paths-over t (onEvent plain (element n) w) h
+paths-over (element p ∷ t) w h = paths-over t (onEvent plain (element p) w) h
+paths-over (array p ∷ t) w h = paths-over t (onEvent plain (array p) w) h
 paths-over (truncation ∷ t) w h = paths-over t (onEvent plain truncation w) h
 paths-over (error ∷ t) w h = paths-over t (onEvent plain error w) h
 paths-over (implicit ∷ t) w h = paths-over t (onEvent plain implicit w) h
 paths-over (nested n ∷ t) w h = paths-over t (onEvent plain (nested n) w) h
 paths-over (root n ∷ t) w h = paths-over t (onEvent plain (root n) w) h
-paths-over (over ∷ t) w h = paths-over t (onEvent plain over w) h
 
 pub payloads-over : (t : Trace) (w : World) → w .payloads .at + length (payloadBytes (leaves t)) ≤ length (w .payloads .held)
     → (apply plain t w) .payloads .held ≡ put (w .payloads .held) (w .payloads .at) (payloadBytes (leaves t))
@@ -162,10 +160,10 @@ payloads-over (leaf x ∷ t) w h =
     payloads-over t (onEvent plain (leaf x) w) (room run rest (w .payloads .held) (w .payloads .at) h) ∙ step run rest (w .payloads .held) (w .payloads .at) h
 payloads-over (pair x ∷ t) w h = payloads-over t (onEvent plain (pair x) w) h
 payloads-over (number x ∷ t) w h = payloads-over t (onEvent plain (number x) w) h
-payloads-over (element n ∷ t) w h = payloads-over t (onEvent plain (element n) w) h
+payloads-over (element p ∷ t) w h = payloads-over t (onEvent plain (element p) w) h
+payloads-over (array p ∷ t) w h = payloads-over t (onEvent plain (array p) w) h
 payloads-over (truncation ∷ t) w h = payloads-over t (onEvent plain truncation w) h
 payloads-over (error ∷ t) w h = payloads-over t (onEvent plain error w) h
 payloads-over (implicit ∷ t) w h = payloads-over t (onEvent plain implicit w) h
 payloads-over (nested n ∷ t) w h = payloads-over t (onEvent plain (nested n) w) h
 payloads-over (root n ∷ t) w h = payloads-over t (onEvent plain (root n) w) h
-payloads-over (over ∷ t) w h = payloads-over t (onEvent plain over w) h

@@ -5,7 +5,7 @@ use Prim.Native.Nat.{ℕ, _+_, _%_}
 use mathlib.Core.List.{List, [], _∷_, _++_}
 use lib.ListN.{length}
 use Rattle.bits.specs.Runs.{store}
-use Rattle.framing.specs.Events.{Leaf, Pair, Event, number, element, leaf, pair, truncation, error, implicit, nested, root, over, leaves, overs, Trace}
+use Rattle.framing.specs.Events.{Leaf, Pair, Event, number, element, array, leaf, pair, truncation, error, implicit, nested, root, leaves, Trace}
 use Rattle.framing.specs.Counters.{Counters, counted, counters, sums}
 use Rattle.framing.specs.Records.{leafRecord, pairRecord, payloadOf, pathBytes, payloadBytes}
 
@@ -33,7 +33,6 @@ putNext add run o = record { at = add (o .at) (length run); held = store (o .hel
 
 pub record World : Type 0 where
   pub counters : Counters
-  pub overs : ℕ  -- working paths that would have passed their size
   pub records : Out
   pub paths : Out
   pub payloads : Out
@@ -41,43 +40,39 @@ pub record World : Type 0 where
 -- what an event adds to the counters; those that it does not touch stay as they are
 abbrev pub count : Adding → Event → Counters → Counters
 count add (number x) c = c
-count add (element i) c = counted (add (c .elements) 1) (c .fields) (c .truncations) (c .errors) (c .nestedBits) (c .rootBits) (c .implicits)
+count add (element p) c = counted (add (c .elements) 1) (c .fields) (c .truncations) (c .errors) (c .nestedBits) (c .rootBits) (c .implicits)
+count add (array p) c = c
 count add (leaf x) c = counted (c .elements) (add (c .fields) 1) (c .truncations) (c .errors) (c .nestedBits) (c .rootBits) (c .implicits)
 count add (pair x) c = counted (c .elements) (add (c .fields) 1) (c .truncations) (c .errors) (c .nestedBits) (c .rootBits) (c .implicits)
 count add truncation c = counted (c .elements) (c .fields) (add (c .truncations) 1) (c .errors) (c .nestedBits) (c .rootBits) (c .implicits)
 count add error c = counted (c .elements) (c .fields) (c .truncations) (add (c .errors) 1) (c .nestedBits) (c .rootBits) (c .implicits)
 count add (nested n) c = counted (c .elements) (c .fields) (c .truncations) (c .errors) (add (c .nestedBits) n) (c .rootBits) (c .implicits)
 count add (root n) c = counted (c .elements) (c .fields) (c .truncations) (c .errors) (c .nestedBits) (add (c .rootBits) n) (c .implicits)
-count add over c = c
 count add implicit c = counted (c .elements) (c .fields) (c .truncations) (c .errors) (c .nestedBits) (c .rootBits) (add (c .implicits) 1)
 
 -- the same buffers, other counters
 abbrev pub counting : Counters → World → World
-counting c w = record { counters = c; overs = w .overs; records = w .records; paths = w .paths; payloads = w .payloads }
+counting c w = record { counters = c; records = w .records; paths = w .paths; payloads = w .payloads }
 
 abbrev pub onLeaf : Adding → Leaf → World → World
 onLeaf add x w =
     record {
       counters = w .counters;
-      overs = w .overs;
       records = putNext add (leafRecord (w .paths .at) (w .payloads .at) x) (w .records);
       paths = putNext add (x .path) (w .paths);
       payloads = putNext add (payloadOf x) (w .payloads);
     }
 
 abbrev pub onPair : Adding → Pair → World → World
-onPair add x w = record { counters = w .counters; overs = w .overs; records = putNext add (pairRecord x) (w .records); paths = w .paths; payloads = w .payloads }
-
-abbrev pub onOver : Adding → World → World
-onOver add w = record { counters = w .counters; overs = add (w .overs) 1; records = w .records; paths = w .paths; payloads = w .payloads }
+onPair add x w = record { counters = w .counters; records = putNext add (pairRecord x) (w .records); paths = w .paths; payloads = w .payloads }
 
 -- what an event does to the buffers
 abbrev pub written : Adding → Event → World → World
 written add (leaf x) w = onLeaf add x w
 written add (pair x) w = onPair add x w
-written add over w = onOver add w
 written add (number x) w = w
-written add (element i) w = w
+written add (element p) w = w
+written add (array p) w = w
 written add truncation w = w
 written add error w = w
 written add implicit w = w
@@ -96,7 +91,6 @@ abbrev pub fresh : (records paths payloads : List ℕ) → World
 fresh records paths payloads =
     record {
       counters = counted 0 0 0 0 0 0 0;
-      overs = 0;
       records = record { at = 0; held = records };
       paths = record { at = 0; held = paths };
       payloads = record { at = 0; held = payloads };
@@ -110,30 +104,28 @@ traceRecords a b [] = []
 traceRecords a b (leaf x ∷ t) = leafRecord a b x ++ traceRecords (a + length (x .path)) (b + length (payloadOf x)) t
 traceRecords a b (pair x ∷ t) = pairRecord x ++ traceRecords a b t
 traceRecords a b (number x ∷ t) = traceRecords a b t
-traceRecords a b (element i ∷ t) = traceRecords a b t
+traceRecords a b (element p ∷ t) = traceRecords a b t
+traceRecords a b (array p ∷ t) = traceRecords a b t
 traceRecords a b (truncation ∷ t) = traceRecords a b t
 traceRecords a b (error ∷ t) = traceRecords a b t
 traceRecords a b (implicit ∷ t) = traceRecords a b t
 traceRecords a b (nested n ∷ t) = traceRecords a b t
 traceRecords a b (root n ∷ t) = traceRecords a b t
-traceRecords a b (over ∷ t) = traceRecords a b t
 
 -- what a trace adds to the counters and the positions, whatever the buffers hold
 pub record Totals : Type 0 where
   pub counters : Counters
-  pub overs : ℕ
   pub records : ℕ
   pub paths : ℕ
   pub payloads : ℕ
 
 abbrev pub totalsOf : World → Totals
-totalsOf w = record { counters = w .counters; overs = w .overs; records = w .records .at; paths = w .paths .at; payloads = w .payloads .at }
+totalsOf w = record { counters = w .counters; records = w .records .at; paths = w .paths .at; payloads = w .payloads .at }
 
 abbrev pub tallied : Trace → Totals → Totals
 tallied t s =
     record {
       counters = sums (s .counters) (counters t);
-      overs = s .overs + overs t;
       records = s .records + length (traceRecords (s .paths) (s .payloads) t);
       paths = s .paths + length (pathBytes (leaves t));
       payloads = s .payloads + length (payloadBytes (leaves t));

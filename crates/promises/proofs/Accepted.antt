@@ -7,35 +7,32 @@ use lib.Dec.{ltb}
 use Rattle.bits.specs.Choice.{if_then_else_}
 use Rattle.bits.specs.Sizes.{longestWindow}
 use Rattle.bits.proofs.Never.{never}
-use Rattle.framing.specs.Events.{overs, Trace}
+use Rattle.framing.specs.Events.{Trace}
 use Rattle.framing.specs.Counters.{Counters, counters}
 use Rattle.framing.specs.Refusing.{Answer, refused, accepted, decided}
 
 module _ {Need : Type 0} (bits : ℕ) (ok : Bool) (t : Trace) (nothing need : Need) (enough : Bool) where
-  abbrev ordered : (a b c d : Bool) → Answer Need
-  ordered a b c d =
-      if a then refused 1 nothing else
-      (if not b then refused 2 nothing else (if c then refused 5 nothing else (if not d then refused 3 need else accepted (counters t) need)))
+  abbrev ordered : (a b c : Bool) → Answer Need
+  ordered a b c =
+      if a then refused 1 nothing else (if not b then refused 2 nothing else (if not c then refused 3 need else accepted (counters t) need))
 
   -- the walk's counters, and what it needs
   pub accepted-tells : {k : Counters} {n : Need} → accepted k n ≡ decided bits ok t nothing need enough → (k ≡ counters t) × (n ≡ need)
   unfolding decided
-  accepted-tells {k} {n} e = go (ltb longestWindow bits) ok (ltb 0 (overs t)) enough e
+  accepted-tells {k} {n} e = go (ltb longestWindow bits) ok enough e
     where
-      go : (a b c d : Bool) → accepted k n ≡ ordered a b c d → (k ≡ counters t) × (n ≡ need)
-      go true b c d e = let z : _≡_ {A = ℕ} 0 1 = cc in never z
-      go false false c d e = let z : _≡_ {A = ℕ} 0 1 = cc in never z
-      go false true true d e = let z : _≡_ {A = ℕ} 0 1 = cc in never z
-      go false true false false e = let z : _≡_ {A = ℕ} 0 1 = cc in never z
-      go false true false true e = (cc, cc)
+      go : (a b c : Bool) → accepted k n ≡ ordered a b c → (k ≡ counters t) × (n ≡ need)
+      go true b c e = let z : _≡_ {A = ℕ} 0 1 = cc in never z
+      go false false c e = let z : _≡_ {A = ℕ} 0 1 = cc in never z
+      go false true false e = let z : _≡_ {A = ℕ} 0 1 = cc in never z
+      go false true true e = (cc, cc)
 
   pub refused-numbered : {k : ℕ} {n : Need} → refused k n ≡ decided bits ok t nothing need enough → k ≡ 0 → ⊥
   unfolding decided
-  refused-numbered {k} {n} e z = go (ltb longestWindow bits) ok (ltb 0 (overs t)) enough e
+  refused-numbered {k} {n} e z = go (ltb longestWindow bits) ok enough e
     where
-      go : (a b c d : Bool) → refused k n ≡ ordered a b c d → ⊥
-      go true b c d e = let f : k ≡ 1 = cc in omega arith
-      go false false c d e = let f : k ≡ 2 = cc in omega arith
-      go false true true d e = let f : k ≡ 5 = cc in omega arith
-      go false true false false e = let f : k ≡ 3 = cc in omega arith
-      go false true false true e = let y : _≡_ {A = ℕ} 0 1 = cc in never y
+      go : (a b c : Bool) → refused k n ≡ ordered a b c → ⊥
+      go true b c e = let f : k ≡ 1 = cc in omega arith
+      go false false c e = let f : k ≡ 2 = cc in omega arith
+      go false true false e = let f : k ≡ 3 = cc in omega arith
+      go false true true e = let y : _≡_ {A = ℕ} 0 1 = cc in never y

@@ -26,3 +26,4 @@ pub mod RefusedMovement
 pub mod RefusedExports
 pub mod ByteAngles
 pub mod Verdicts
+pub mod Paths

@@ -208,12 +208,12 @@ refused-vrf-movement bytes count rotation location r f =
 walk-in : (c : Call) (b : Lent) → inWalk (walkResult (c .how) (c .bits) (answer c b)) ≡ firstOf (walkRules c b)
 walk-in c b = walk-order (λ a. inWalk (walkResult (c .how) (c .bits) a)) (λ k n. refl) (λ k n e. simp e) c b
 
--- `vrf_struct_array` gives 1, 2, 5, 3.
+-- `vrf_struct_array` gives 1, 2, 3.
 pub refused-vrf-struct-array : (bytes : List ℕ) (bits : ℕ) (t : Tables) (levels root : ℕ) (b : Lent) (r : VrfWalk) (x : Lent)
     → Walks (structCall bytes bits t levels root) b r x → inWalk r ≡ firstOf (walkRules (structCall bytes bits t levels root) b)
 refused-vrf-struct-array bytes bits t levels root b r x f = ap inWalk (f .says) ∙ walk-in (structCall bytes bits t levels root) b
 
--- `vrf_struct_array_exact` gives 1, 2, 5, 3.
+-- `vrf_struct_array_exact` gives 1, 2, 3.
 pub refused-vrf-struct-array-exact : (bytes : List ℕ) (bits : ℕ) (declared declaredNames : List ℕ) (b : Lent) (r : VrfWalk) (x : Lent)
     → Walks (exactCall bytes bits declared declaredNames) b r x → inWalk r ≡ firstOf (walkRules (exactCall bytes bits declared declaredNames) b)
 refused-vrf-struct-array-exact bytes bits declared declaredNames b r x f = ap inWalk (f .says) ∙ walk-in (exactCall bytes bits declared declaredNames) b

@@ -14,11 +14,10 @@ use Rattle.schema.specs.Layout.{laidOut}
 use Rattle.schema.specs.Tables.{Tables, tables}
 use Rattle.schema.specs.TwelveLevels.{enough, fillAnswer}
 use Rattle.framing.specs.Counters.{Counters, counters, sums}
-use Rattle.framing.specs.Events.{overs, pairs}
+use Rattle.framing.specs.Events.{pairs}
 use Rattle.framing.specs.Records.{pairWords}
 use Rattle.framing.specs.Refusing.{Room, noRoom, needed, within, Answer, refused, accepted, decided}
 use Rattle.outputs.specs.Answers.{Call, Lent, laid, traceOf, roomOf, answer, pairTrace, pairAnswer}
-use Rattle.outputs.proofs.Gives.{no-overs}
 use Rattle.array.specs.Calls.{structCall, exactCall, Adds, Decodes, DecodesPairs}
 use Rattle.array.specs.Merges.{bounded, merge}
 use Rattle.array.specs.Refusals.{countersOf, answerOf, pairsOf, sumsOf}
@@ -36,7 +35,7 @@ use Rattle.promises.proofs.TestLaws.{reached, missed}
 use Rattle.promises.specs.WalkOrders.{needing, ofWalk, ofPairs, walkRules, pairRules, ofSums, mergeRules, tableRules, fillRules}
 use Rattle.schema.specs.Refusals.{tablesNumbered, filledNumbered}
 
--- ---- struct and exact walks: 1, 2, 5, 3
+-- ---- struct and exact walks: 1, 2, 3
 
 -- Of an answer that is accepted, or refused with a number, and that `of` tells by it.
 pub walk-order : (of : Answer Room → Option Numbered) → ((k : Counters) (n : Room) → of (accepted k n) ≡ none)
@@ -46,26 +45,24 @@ walk-order of none-of some-of c b =
     by-cases (ltb longestWindow (c .bits))
     (λ long. simp long (some-of 1 noRoom refl))
     (λ long. by-cases (laid (c .how) (c .levels))
-    (λ ok. by-cases (ltb 0 (overs (traceOf c)))
-    (λ path. simp (long, ok, path) (some-of 5 noRoom refl))
-    (λ path. by-cases (within (needed (traceOf c)) (roomOf b))
-    (λ room. simp (long, ok, path, room) (none-of (counters (traceOf c)) (needed (traceOf c))))
-    (λ room. simp (long, ok, path, room) (some-of 3 (needed (traceOf c)) refl))))
+    (λ ok. by-cases (within (needed (traceOf c)) (roomOf b))
+    (λ room. simp (long, ok, room) (none-of (counters (traceOf c)) (needed (traceOf c))))
+    (λ room. simp (long, ok, room) (some-of 3 (needed (traceOf c)) refl)))
     (λ ok. simp (long, ok) (some-of 2 noRoom refl)))
 
--- A struct walk gives 1, 2, 5, 3.
+-- A struct walk gives 1, 2, 3.
 pub refused-decode-struct-array : (bytes : List ℕ) (bits : ℕ) (t : Tables) (levels root : ℕ) (b : Lent) (r : StructArray) (x : Lent)
     → Decodes (structCall bytes bits t levels root) b r x → ofWalk (answerOf r) ≡ firstOf (walkRules (structCall bytes bits t levels root) b)
 refused-decode-struct-array bytes bits t levels root b r x f =
     ap ofWalk (f .answered .says) ∙ walk-order ofWalk (λ k n. refl) (λ k n e. refl) (structCall bytes bits t levels root) b
 
--- An exact walk gives 1, 2, 5, 3.
+-- An exact walk gives 1, 2, 3.
 pub refused-decode-struct-array-exact : (bytes : List ℕ) (bits : ℕ) (declared declaredNames : List ℕ) (b : Lent) (r : StructArray) (x : Lent)
     → Decodes (exactCall bytes bits declared declaredNames) b r x → ofWalk (answerOf r) ≡ firstOf (walkRules (exactCall bytes bits declared declaredNames) b)
 refused-decode-struct-array-exact bytes bits declared declaredNames b r x f =
     ap ofWalk (f .answered .says) ∙ walk-order ofWalk (λ k n. refl) (λ k n e. refl) (exactCall bytes bits declared declaredNames) b
 
--- ---- the object walk: 1, 3. It grows no path, so that 5 is never given.
+-- ---- the object walk: 1, 3
 
 -- Of an answer that is accepted, or refused with a number, and that `of` tells by it.
 pub pair-order : (of : Answer ℕ → Option Numbered) → ((k : Counters) (n : ℕ) → of (accepted k n) ≡ none)
@@ -77,8 +74,8 @@ pair-order of none-of some-of bytes bits lent =
     by-cases (ltb longestWindow bits)
     (λ long. simp long (some-of 1 0 refl))
     (λ long. by-cases (leb (length (pairs t)) (length lent / pairWords))
-    (λ room. simp (long, no-overs bytes bits, room, reached (length (pairs t)) (length lent / pairWords) room) (none-of (counters t) (length (pairs t))))
-    (λ room. simp (long, no-overs bytes bits, room, missed (length (pairs t)) (length lent / pairWords) room) (some-of 3 (length (pairs t)) refl)))
+    (λ room. simp (long, room, reached (length (pairs t)) (length lent / pairWords) room) (none-of (counters t) (length (pairs t))))
+    (λ room. simp (long, room, missed (length (pairs t)) (length lent / pairWords) room) (some-of 3 (length (pairs t)) refl)))
 
 -- An object walk gives 1, 3.
 pub refused-decode-object-ref-array : (bytes : List ℕ) (bits : ℕ) (b : List ℕ) (r : ObjectArray) (x : List ℕ)

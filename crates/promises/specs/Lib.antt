@@ -8,3 +8,4 @@ pub mod MoveOrders
 pub mod ExportOrders
 pub mod ByteAngles
 pub mod Verdicts
+pub mod Paths

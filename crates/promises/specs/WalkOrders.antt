@@ -12,7 +12,7 @@ use Rattle.schema.specs.Layout.{laidOut}
 use Rattle.schema.specs.Tables.{Tables}
 use Rattle.schema.specs.TwelveLevels.{enough, rowNumbers, nameBytes}
 use Rattle.framing.specs.Counters.{Counters, sums}
-use Rattle.framing.specs.Events.{overs, pairs}
+use Rattle.framing.specs.Events.{pairs}
 use Rattle.framing.specs.Records.{pairWords, wholeRecords}
 use Rattle.framing.specs.Refusing.{Room, needed, within, Answer, refused, accepted}
 use Rattle.outputs.specs.Answers.{Call, Lent, laid, traceOf, roomOf, pairTrace}
@@ -35,12 +35,11 @@ ofPairs (refused k n) = some (refusal k n 0 0)
 abbrev pub tooLong : (bits : ℕ) → Rule Numbered
 tooLong bits = when (ltb longestWindow bits) (refusal 1 0 0 0)
 
--- struct and exact walks: 1, 2, 5, 3
+-- struct and exact walks: 1, 2, 3
 abbrev pub walkRules : Call → Lent → List (Rule Numbered)
 walkRules c b =
     tooLong (c .bits) ∷
     when (not (laid (c .how) (c .levels))) (refusal 2 0 0 0) ∷
-    when (ltb 0 (overs (traceOf c))) (refusal 5 0 0 0) ∷
     when (not (within (needed (traceOf c)) (roomOf b))) (needing 3 (needed (traceOf c))) ∷ []
 
 -- the object walk, which has neither tables nor paths: 1, 3

@@ -1,6 +1,6 @@
 -- How much longer a path gets: by an index of at most four digits in brackets, or by a dot and a label, which is at most a name long.
 use mathlib.Core.Path.{_≡_}
-use mathlib.Core.List.{List, [], _∷_, _++_}
+use mathlib.Core.List.{List}
 use Prim.Native.Nat.{ℕ, _+_, _≤_, _<_}
 use native.Mathlib.Omega.{arith}
 use lib.ListN.{length, length-append}

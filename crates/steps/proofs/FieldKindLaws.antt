@@ -3,7 +3,7 @@ use Prim.Native.Nat.{ℕ, zero, suc, _-_, _<_}
 use native.Mathlib.Omega.{arith}
 use mathlib.Core.Path.{_≡_, refl, sym, ap, _∙_}
 use mathlib.Core.Bool.{Bool, true, false}
-use mathlib.Core.List.{List, [], _∷_, _++_}
+use mathlib.Core.List.{List, [], _∷_}
 use lib.Dec.{eqb}
 use borrow.Author.Tests.{ne-eqb}
 use Rattle.bits.proofs.Never.{never}
@@ -16,12 +16,12 @@ use Rattle.schema.specs.declared.Label.{Label}
 use Rattle.schema.specs.declared.Label.the-variants as label
 use Rattle.schema.proofs.LabelLaws.{container-of, leaf-of}
 use Rattle.framing.specs.Windows.{Window}
-use Rattle.framing.specs.Events.{nested, truncation, Trace}
-use Rattle.framing.specs.Paths.{grownPath, overIfLong, leafOrOver}
-use Rattle.framing.specs.Walk.{Sink, level, inItem, entering}
+use Rattle.framing.specs.Events.{array, leaf, nested, truncation, Trace}
+use Rattle.framing.specs.Paths.{arrayPath}
+use Rattle.framing.specs.Walk.{Sink, level, inItem}
 use Rattle.framing.specs.Sinks.{onChild, structSink, tooDeep, leafOf, takesTrailer, givesLeaves}
 use Rattle.steps.specs.Views.{leftoverOf, sinkFor, exitSink}
-use Rattle.steps.specs.Paths.{pools, itemPath, itemOver}
+use Rattle.steps.specs.Paths.{pools, itemPath}
 use Rattle.steps.specs.Kinds.{kindBy, kindOf, KindLies}
 use Rattle.steps.specs.Gives.{taggedLeaf, flatField}
 use Rattle.framing.specs.declared.Walk.{Walk}
@@ -44,10 +44,6 @@ sink-alike walk.Object t below inside lvl = record { trailer = refl; flattens = 
 pub item-path : (s : Walk) (t : Tables) (below : ℕ) (inside : Bool) (lvl : ℕ) (path : List ℕ) (i : ℕ) → inItem (sinkFor s t below inside lvl) path i ≡ itemPath s path i
 unfolding inItem
 item-path s t below inside lvl path i = rw (sink-alike s t below inside lvl .flattens)
-
-pub item-over : (s : Walk) (t : Tables) (below : ℕ) (inside : Bool) (lvl : ℕ) (path : List ℕ) (i : ℕ) → entering (sinkFor s t below inside lvl) path i ≡ itemOver s path i
-unfolding entering
-item-over s t below inside lvl path i = rw (sink-alike s t below inside lvl .flattens)
 
 -- ---- what a label's bytes and place depend on
 
@@ -111,8 +107,8 @@ pub flat-pools : (rows names declared declaredNames : List ℕ) (i : ℕ) (path 
 unfolding flatField taggedLeaf
 flat-pools rows names declared declaredNames i path first handle w kind.Object = refl
 flat-pools rows names declared declaredNames i path first handle w kind.Nothing = refl
-flat-pools rows names declared declaredNames i path first handle w (kind.Leaf x) = ap (λ (b : List ℕ). leafOrOver (leafOf (dot path b) handle w)) (pool-bytes rows names declared declaredNames handle x)
-flat-pools rows names declared declaredNames i path first handle w (kind.Deep x) = ap (λ (b : List ℕ). truncation ∷ leafOrOver (leafOf (dot path b) handle w)) (pool-bytes rows names declared declaredNames handle x)
+flat-pools rows names declared declaredNames i path first handle w (kind.Leaf x) = ap (λ (b : List ℕ). leaf (leafOf (dot path b) handle w) ∷ []) (pool-bytes rows names declared declaredNames handle x)
+flat-pools rows names declared declaredNames i path first handle w (kind.Deep x) = ap (λ (b : List ℕ). truncation ∷ leaf (leafOf (dot path b) handle w) ∷ []) (pool-bytes rows names declared declaredNames handle x)
 flat-pools rows names declared declaredNames i path first handle w (kind.Array lower x) = refl
 
 -- ---- a field
@@ -120,7 +116,7 @@ flat-pools rows names declared declaredNames i path first handle w (kind.Array l
 -- an array that is walked: its trace, by the level under it
 abbrev pub arrayField : Walk → Tables → (below : ℕ) (path : List ℕ) (handle : ℕ) → Window → (lower : ℕ) → Label → Trace
 arrayField s t below path handle w lower x =
-    overIfLong (dot path (labelBytes t handle x)) ++ level (sinkFor s t (below - 1) true lower) w (grownPath path (dot path (labelBytes t handle x)))
+    array (dot path (labelBytes t handle x)) ∷ level (sinkFor s t (below - 1) true lower) w (dot path (labelBytes t handle x))
 
 -- what a field gives goes by its kind
 unfoldable pub byKind : Walk → Tables → (below : ℕ) (i : ℕ) (path : List ℕ) (first : Bool) (handle : ℕ) → Window → Kind → Trace
@@ -141,7 +137,7 @@ module _ (s : Walk) (leafy : givesLeaves s ≡ true) (t : Tables) (lvl i : ℕ) 
       go child.Leaf = refl
       go (child.Array lower) = go2 (eqb (w .size) 0)
         where
-          go2 : (x : Bool) → (if x then [] else tooDeep lower path (dot path (labelBytes t handle (containerLabel t lvl handle))) handle w)
+          go2 : (x : Bool) → (if x then [] else tooDeep lower (arrayPath t lvl path handle) handle w)
               ≡ byKind s t 0 i path first handle w (if x then kind.Nothing else kind.Deep (containerLabel t lvl handle))
           go2 true = refl
           go2 false = refl
@@ -157,20 +153,17 @@ module _ (s : Walk) (leafy : givesLeaves s ≡ true) (t : Tables) (lvl i : ℕ) 
       below-sink m lower = sym (rw leafy refl)
 
       go : (c : Child)
-          → onChild t lvl (λ below p longer h v. overIfLong longer ++ level (structSink n t (takesTrailer s) nested below) v (grownPath p longer)) path handle w c
+          → onChild t lvl (λ below p h v. array p ∷ level (structSink n t (takesTrailer s) nested below) v p) path handle w c
           ≡ byKind s t (suc n) i path first handle w (kindBy t (suc n) lvl handle (w .size) c)
       go child.Leaf = refl
       go (child.Array lower) = rw some (go2 (eqb (w .size) 0))
         where
-          longer : List ℕ
-          longer = dot path (labelBytes t handle (containerLabel t lvl handle))
-
-          go2 : (x : Bool) → (if x then [] else (overIfLong longer ++ level (structSink n t (takesTrailer s) nested lower) w (grownPath path longer)))
+          go2 : (x : Bool) → (if x then [] else array (arrayPath t lvl path handle) ∷ level (structSink n t (takesTrailer s) nested lower) w (arrayPath t lvl path handle))
               ≡ byKind s t (suc n) i path first handle w (if x then kind.Nothing else kind.Array lower (containerLabel t lvl handle))
           go2 true = refl
           go2 false =
-              ap (λ (k : Sink). overIfLong longer ++ level k w (grownPath path longer)) (below-sink n lower)
-              ∙ ap (λ (m : ℕ). overIfLong longer ++ level (sinkFor s t m true lower) w (grownPath path longer)) less
+              ap (λ (k : Sink). array (arrayPath t lvl path handle) ∷ level k w (arrayPath t lvl path handle)) (below-sink n lower)
+              ∙ ap (λ (m : ℕ). array (arrayPath t lvl path handle) ∷ level (sinkFor s t m true lower) w (arrayPath t lvl path handle)) less
 
 field-kind : (s : Walk) (t : Tables) (below : ℕ) (inside : Bool) (lvl i : ℕ) (path : List ℕ) (first : Bool) (handle : ℕ) (w : Window)
     → sinkFor s t below inside lvl .field i path first handle w ≡ byKind s t below i path first handle w (kindOf s t below lvl handle (w .size))

@@ -1,10 +1,9 @@
 -- One leaf: how long its path is, and its three runs, written and counted.
-use Prim.Native.Nat.{ℕ, _+_, _-_, _≤_, _<_}
+use Prim.Native.Nat.{ℕ, _+_, _-_, _≤_}
 use mathlib.Core.Path.{_≡_, refl, sym, ap, _∙_}
-use mathlib.Core.List.{List, [], _∷_, _++_}
+use mathlib.Core.List.{List, _∷_, _++_}
 use native.Mathlib.Omega.{arith}
 use lib.ListN.{length, take}
-use borrow.Author.Tests.{le-leb, lt-leb}
 use Rattle.bits.specs.Bits.{num, field}
 use Rattle.bits.specs.Runs.{bytesOf, bytesFor, put, store}
 use Rattle.bits.proofs.RunLaws.{store-fits, length-bytesOf}
@@ -12,18 +11,15 @@ use Rattle.bits.specs.Sizes.{maxName, longestPath}
 use Rattle.schema.specs.Tables.{Tables}
 use Rattle.schema.specs.Labels.{dot}
 use Rattle.schema.proofs.LaidLaws.{label-length, label-short}
-use Rattle.framing.specs.Windows.{Window}
-use Rattle.framing.specs.Events.{Leaf, leaf, over, Trace}
-use Rattle.framing.specs.Paths.{leafOrOver}
 use Rattle.framing.specs.Sinks.{leafOf}
 use Rattle.framing.specs.Records.{leafWords, leafNumbers}
-use Rattle.steps.specs.Tally.{slots, slot, oversSlot, recordsSlot, pathsSlot, payloadsSlot, worldOf, played, bumped, reserved}
+use Rattle.steps.specs.Tally.{slots, slot, recordsSlot, pathsSlot, payloadsSlot, worldOf, played, reserved}
 use Rattle.steps.specs.Views.{inner}
 use Rattle.steps.specs.Paths.{tagBytes, tagLength, TagLies}
 use Rattle.steps.specs.Gives.{taggedLeaf}
 use Rattle.steps.specs.declared.Tag.{Tag}
 use Rattle.steps.specs.declared.Tag.the-variants as tag
-use Rattle.steps.proofs.TallyLaws.{count-over, leaf-counted}
+use Rattle.steps.proofs.TallyLaws.{leaf-counted}
 use Rattle.steps.proofs.PathLaws.{length-longer, take-put}
 
 -- a tag has as many bytes as it says, and no more than a name may have
@@ -34,15 +30,6 @@ tag-length t handle tag.Raw h = refl
 pub tag-short : (t : Tables) (handle : ℕ) (x : Tag) → TagLies t x → tagLength handle x ≤ maxName
 tag-short t handle (tag.Label l) h = label-short t handle l h
 tag-short t handle tag.Raw h = omega arith
-
--- a leaf's path that fits is given, and one that does not is counted
-pub given-short : (x : Leaf) → length (x .path) ≤ longestPath → leafOrOver x ≡ leaf x ∷ []
-unfolding leafOrOver
-given-short x h = rw (le-leb (length (x .path)) longestPath h)
-
-pub given-long : (x : Leaf) → longestPath < length (x .path) → leafOrOver x ≡ over ∷ []
-unfolding leafOrOver
-given-long x h = rw (lt-leb (length (x .path)) longestPath h)
 
 -- the leaf with this tag behind the first `plen` bytes of the working path
 module _ (t : Tables) (handle : ℕ) (x : Tag) (path : List ℕ) (plen n : ℕ)
@@ -66,23 +53,13 @@ module _ (t : Tables) (handle : ℕ) (x : Tag) (path : List ℕ) (plen n : ℕ)
       ed ∙ ap (put d at) m ∙ sym (store-fits d at (take plen path ++ (46 ∷ tagBytes t handle x)) (omega arith))
 
   module _ (bytes : List ℕ) («from» end origin : ℕ) (tally tally′ records paths payloads : List ℕ) (counted : length tally ≡ slots) where
-    pub leaf-over : longestPath < n → tally′ ≡ bumped tally oversSlot 1
-        → worldOf tally′ records paths payloads ≡ played (taggedLeaf t (take plen path) handle x (inner bytes «from» end origin)) (worldOf tally records paths payloads)
-    unfolding taggedLeaf
-    leaf-over h e =
-        let l = path-length in
-        let w : Window = inner bytes «from» end origin in
-        ap (λ (k : List ℕ). worldOf k records paths payloads) e
-        ∙ count-over records paths payloads tally counted
-        ∙ ap (λ (u : Trace). played u (worldOf tally records paths payloads)) (sym (given-long (leafOf (dot (take plen path) (tagBytes t handle x)) handle w) (omega arith)))
-
-    pub leaf-put : (records′ paths′ payloads′ : List ℕ) → n ≤ longestPath → tally′ ≡ reserved tally leafWords n (bytesFor (end - «from»))
+    pub leaf-put : (records′ paths′ payloads′ : List ℕ) → tally′ ≡ reserved tally leafWords n (bytesFor (end - «from»))
         → records′ ≡ store records (slot tally recordsSlot) (leafNumbers (slot tally pathsSlot) n handle (end - «from») (slot tally payloadsSlot))
         → paths′ ≡ store paths (slot tally pathsSlot) (dot (take plen path) (tagBytes t handle x))
         → payloads′ ≡ store payloads (slot tally payloadsSlot) (bytesOf (bytesFor (end - «from»)) (field (num bytes) «from» (end - «from»)))
         → worldOf tally′ records′ paths′ payloads′ ≡ played (taggedLeaf t (take plen path) handle x (inner bytes «from» end origin)) (worldOf tally records paths payloads)
     unfolding taggedLeaf inner
-    leaf-put records′ paths′ payloads′ h ec ew et el =
+    leaf-put records′ paths′ payloads′ ec ew et el =
         let l = path-length in
         let y = leafOf (dot (take plen path) (tagBytes t handle x)) handle (inner bytes «from» end origin) in
         let s : bytesFor (end - «from») ≡ length (bytesOf (bytesFor (end - «from»)) (field (num bytes) «from» (end - «from»))) =
@@ -90,4 +67,3 @@ module _ (t : Tables) (handle : ℕ) (x : Tag) (path : List ℕ) (plen n : ℕ)
         ap (λ (k : List ℕ). worldOf k records′ paths′ payloads′) ec
         ∙ leaf-counted tally records paths payloads counted y n (bytesFor (end - «from»)) records′ paths′ payloads′ (sym l) s
         (ew ∙ ap (λ (k : ℕ). store records (slot tally recordsSlot) (leafNumbers (slot tally pathsSlot) k handle (end - «from») (slot tally payloadsSlot))) (sym l)) et el
-        ∙ ap (λ (u : Trace). played u (worldOf tally records paths payloads)) (sym (given-short y (omega arith)))

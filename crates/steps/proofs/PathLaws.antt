@@ -6,23 +6,22 @@ use mathlib.Core.List.{List, [], _∷_, _++_, append-assoc}
 use native.Mathlib.Omega.{arith}
 use lib.ListN.{length, take, drop, set, length-append, length-set}
 use lib.Seq.{take-at, length-take-le}
-use borrow.Author.Tests.{le-leb, lt-leb}
 use Rattle.bits.specs.Runs.{put, store}
 use Rattle.bits.proofs.RunLaws.{put-put, put-one, put-two, store-fits, length-put}
-use Rattle.bits.specs.Sizes.{longestPath}
+use Rattle.bits.specs.Sizes.{maxElements, longestIndex}
+use Rattle.bits.proofs.DecimalLaws.{decimal-few}
 use Rattle.schema.specs.Tables.{Tables}
 use Rattle.schema.specs.Labels.{decimal, labelBytes, labelLength, labelPart, atIndex, LabelLies}
 use Rattle.schema.specs.declared.Label.{Label}
 use Rattle.schema.specs.declared.Label.the-variants.{Declared, Named, Plain}
 use Rattle.schema.proofs.LaidLaws.{label-bytes, label-length}
-use Rattle.framing.specs.Events.{element, over, Trace}
-use Rattle.framing.specs.Paths.{grownPath, overIfLong}
-use Rattle.steps.specs.Tally.{slots, elementsSlot, oversSlot, worldOf, played, bumped}
-use Rattle.steps.specs.Paths.{tagBytes, Longer, Grew, Entered}
+use Rattle.framing.specs.Events.{element}
+use Rattle.steps.specs.Tally.{slots, elementsSlot, worldOf, played, bumped}
+use Rattle.steps.specs.Paths.{tagBytes, Grew, Entered}
 use Rattle.steps.specs.declared.Tag.{Tag}
 use Rattle.framing.specs.declared.Walk.{Walk}
 use Rattle.framing.specs.Sinks.{givesLeaves}
-use Rattle.steps.proofs.TallyLaws.{count-element, count-over, played-none, played-then}
+use Rattle.steps.proofs.TallyLaws.{count-element}
 
 -- ---- runs whose first elements are stored by themselves
 
@@ -116,85 +115,34 @@ length-longer d run n h = length-append (take n d) run ∙ ap (λ (k : ℕ). k +
 
 -- ---- growing
 
-module _ (path longer : List ℕ) where
-  pub grown-short : length longer ≤ longestPath → grownPath path longer ≡ longer
-  unfolding grownPath
-  grown-short h = rw (le-leb (length longer) longestPath h)
-
-  pub grown-long : longestPath < length longer → grownPath path longer ≡ path
-  unfolding grownPath
-  grown-long h = rw (lt-leb (length longer) longestPath h)
-
-  pub noted-short : length longer ≤ longestPath → overIfLong longer ≡ []
-  unfolding overIfLong
-  noted-short h = rw (le-leb (length longer) longestPath h)
-
-  pub noted-long : longestPath < length longer → overIfLong longer ≡ over ∷ []
-  unfolding overIfLong
-  noted-long h = rw (lt-leb (length longer) longestPath h)
-
--- a run that fits was written behind the path
-pub grew-more : (tally path path′ run : List ℕ) (n r : ℕ) → n ≤ length path → r ≡ n + length run → r ≤ longestPath → path′ ≡ put path n run
-    → Grew (take n path ++ run) tally tally n r path path′
-grew-more tally path path′ run n r h e l q =
-    let m = length-longer path run n h in
-    let short : length (take n path ++ run) ≤ longestPath = omega arith in
+-- a run was written behind the path
+pub grew-by : (path path′ run : List ℕ) (most n r : ℕ) → n ≤ length path → r ≡ n + length run → length run ≤ most → path′ ≡ put path n run
+    → Grew (take n path ++ run) most n r path path′
+grew-by path path′ run most n r h e l q =
     record {
-      counts = λ records paths payloads. played-none (worldOf tally records paths payloads) ∙ ap (λ (t : Trace). played t (worldOf tally records paths payloads)) (sym (noted-short path (take n path ++ run) short));
-      is = ap (take r) q ∙ take-put path run n r h e ∙ sym (grown-short (take n path) (take n path ++ run) short);
+      is = ap (take r) q ∙ take-put path run n r h e;
       more = omega arith;
-      within = l;
+      within = omega arith;
       kept = take-kept path path′ run n q h;
-    }
-
--- one that does not fit was counted instead
-pub grew-over : (tally tally′ path run : List ℕ) (n : ℕ) → length tally ≡ slots → tally′ ≡ bumped tally oversSlot 1 → n ≤ length path → n ≤ longestPath → longestPath < n + length run
-    → Grew (take n path ++ run) tally tally′ n n path path
-grew-over tally tally′ path run n sized e h l past =
-    let m = length-longer path run n h in
-    let long : longestPath < length (take n path ++ run) = omega arith in
-    record {
-      counts = λ records paths payloads.
-          ap (λ (x : List ℕ). worldOf x records paths payloads) e
-          ∙ count-over records paths payloads tally sized
-          ∙ ap (λ (t : Trace). played t (worldOf tally records paths payloads)) (sym (noted-long path (take n path ++ run) long));
-      is = sym (grown-long (take n path) (take n path ++ run) long);
-      more = omega arith;
-      within = l;
-      kept = refl;
     }
 
 -- ---- entering an element
 
--- an element was counted first
-counted-first : (t : Trace) (new tally tally₁ tally′ path path′ : List ℕ) (i n r : ℕ) → length tally ≡ slots → tally₁ ≡ bumped tally elementsSlot 1
-    → Longer t new tally₁ tally′ n r path path′ → Longer (element i ∷ t) new tally tally′ n r path path′
-counted-first t new tally tally₁ tally′ path path′ i n r sized e g =
-    record {
-      counts = λ records paths payloads.
-          g .counts records paths payloads
-          ∙ ap (played t) (ap (λ (x : List ℕ). worldOf x records paths payloads) e ∙ count-element records paths payloads tally i sized)
-          ∙ played-then (element i) t (worldOf tally records paths payloads);
-      is = g .is;
-      more = g .more;
-      within = g .within;
-      kept = g .kept;
-    }
+module _ (s : Walk) (i : ℕ) (tally tally′ path : List ℕ) (n : ℕ) (sized : length tally ≡ slots) (counts : tally′ ≡ bumped tally elementsSlot 1) where
+  counted : (at records paths payloads : List ℕ) → worldOf tally′ records paths payloads ≡ played (element at ∷ []) (worldOf tally records paths payloads)
+  counted at records paths payloads = ap (λ (x : List ℕ). worldOf x records paths payloads) counts ∙ count-element records paths payloads tally at sized
 
-module _ (s : Walk) (i : ℕ) (tally tally₁ path : List ℕ) (n : ℕ) (sized : length tally ≡ slots) (counts : tally₁ ≡ bumped tally elementsSlot 1) where
   -- the object walk has no paths
-  pub entered-object : givesLeaves s ≡ false → n ≤ longestPath → Entered s i tally tally₁ n n path path
-  entered-object e l =
-      rw e
-      (counted-first [] (take n path) tally tally₁ tally₁ path path i n n sized counts
-      (record { counts = λ records paths payloads. played-none (worldOf tally₁ records paths payloads); is = refl; more = omega arith; within = l; kept = refl }))
+  pub entered-object : givesLeaves s ≡ false → Entered s i tally tally′ n n path path
+  entered-object e = record { counts = counted; grew = rw e (record { is = refl; more = omega arith; within = omega arith; kept = refl }) }
 
-  pub entered-leafy : (tally′ path′ : List ℕ) (r : ℕ) → givesLeaves s ≡ true → Grew (atIndex (take n path) i) tally₁ tally′ n r path path′
+  pub entered-leafy : (path′ : List ℕ) (r : ℕ) → givesLeaves s ≡ true → Grew (atIndex (take n path) i) longestIndex n r path path′
       → Entered s i tally tally′ n r path path′
-  entered-leafy tally′ path′ r e g =
-      rw e
-      (counted-first (overIfLong (atIndex (take n path) i)) (grownPath (take n path) (atIndex (take n path) i)) tally tally₁ tally′ path path′ i n r sized counts g)
+  entered-leafy path′ r e g = record { counts = counted; grew = rw e g }
 
--- how long `[index]` is
+-- how long `[index]` is: the digits and two brackets, and of an element's index there are at most four
 pub index-length : (i : ℕ) → length (91 ∷ decimal i ++ (93 ∷ [])) ≡ length (decimal i) + 2
 index-length i = let e = length-append (decimal i) (93 ∷ []) in omega arith
+
+pub index-short : (i : ℕ) → i < maxElements → length (decimal i) + 2 ≤ longestIndex
+index-short i h = let d = decimal-few 3 i (omega arith) in omega arith

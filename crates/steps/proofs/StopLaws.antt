@@ -14,8 +14,7 @@ use Rattle.bits.specs.Bits.{num, field}
 use Rattle.bits.proofs.FieldLaws.{field-field}
 use Rattle.schema.specs.Tables.{Tables}
 use Rattle.schema.specs.Labels.{dot, rawLabel}
-use Rattle.framing.specs.Events.{rawHandle, truncation, Trace}
-use Rattle.framing.specs.Paths.{leafOrOver}
+use Rattle.framing.specs.Events.{Leaf, rawHandle, leaf, truncation, Trace}
 use Rattle.framing.specs.Walk as W
 use Rattle.framing.specs.Walk.{tail, closing, rawLeaf}
 use Rattle.framing.specs.Sinks.{leafOf, givesLeaves}
@@ -62,7 +61,7 @@ module _ (s : Walk) (inside : Bool) (bytes : List ℕ) (at end origin : ℕ) (pa
     unfolding tail taggedLeaf inner
     tail-kept w′ t l h q =
         let more : ltb 0 (end - at) ≡ true = lt-ltb 0 (end - at) (omega arith) in
-        q ∙ ap (λ (u : Trace). played u w) (sym (rw (e, more) (ap leafOrOver raw-leaf)))
+        q ∙ ap (λ (u : Trace). played u w) (sym (rw (e, more) (ap (λ (x : Leaf). leaf x ∷ []) raw-leaf)))
 
 -- ---- an element's fields that don't close
 

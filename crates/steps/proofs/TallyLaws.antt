@@ -11,10 +11,10 @@ use borrow.Author.Tests.{eqb-true, eqb-false}
 use Rattle.bits.specs.Choice.{if_then_else_}
 use Rattle.bits.specs.Runs.{store}
 use Rattle.bits.specs.Packed.{Number}
-use Rattle.framing.specs.Events.{Leaf, Pair, Event, number, element, leaf, pair, truncation, error, implicit, nested, root, over, Trace}
+use Rattle.framing.specs.Events.{Leaf, Pair, Event, number, element, array, leaf, pair, truncation, error, implicit, nested, root, Trace}
 use Rattle.framing.specs.Records.{leafWords, leafRecord, pairWords, pairRecord, payloadOf}
 use Rattle.outputs.specs.World.{World, apply}
-use Rattle.steps.specs.Tally.{slots, slot, elementsSlot, fieldsSlot, truncationsSlot, errorsSlot, nestedSlot, rootSlot, implicitSlot, oversSlot, recordsSlot, pathsSlot, payloadsSlot, worldBy, worldOf, played, bumped, reserved}
+use Rattle.steps.specs.Tally.{slots, slot, elementsSlot, fieldsSlot, truncationsSlot, errorsSlot, nestedSlot, rootSlot, implicitSlot, recordsSlot, pathsSlot, payloadsSlot, worldBy, worldOf, played, bumped, reserved}
 
 -- ---- the code's sums
 
@@ -60,9 +60,9 @@ module _ (records paths payloads : List ℕ) where
   unfolding worldOf
   at-slot tally place n h = ap (λ (at : ℕ → ℕ). worldBy at records paths payloads) (bumped-slots tally place n h)
 
-  pub count-element : (tally : List ℕ) (n : ℕ) → length tally ≡ slots → worldOf (bumped tally elementsSlot 1) records paths payloads ≡ played (element n ∷ []) (worldOf tally records paths payloads)
+  pub count-element : (tally at : List ℕ) → length tally ≡ slots → worldOf (bumped tally elementsSlot 1) records paths payloads ≡ played (element at ∷ []) (worldOf tally records paths payloads)
   unfolding worldOf worldBy played apply
-  count-element tally n sized = at-slot tally elementsSlot 1 (omega arith)
+  count-element tally at sized = at-slot tally elementsSlot 1 (omega arith)
 
   pub count-truncation : (tally : List ℕ) → length tally ≡ slots → worldOf (bumped tally truncationsSlot 1) records paths payloads ≡ played (truncation ∷ []) (worldOf tally records paths payloads)
   unfolding worldOf worldBy played apply
@@ -84,10 +84,6 @@ module _ (records paths payloads : List ℕ) where
   unfolding worldOf worldBy played apply
   count-implicit tally sized = at-slot tally implicitSlot 1 (omega arith)
 
-  pub count-over : (tally : List ℕ) → length tally ≡ slots → worldOf (bumped tally oversSlot 1) records paths payloads ≡ played (over ∷ []) (worldOf tally records paths payloads)
-  unfolding worldOf worldBy played apply
-  count-over tally sized = at-slot tally oversSlot 1 (omega arith)
-
 -- the code's count of it: what `count` ensures, and one of the laws above
 pub by-count : (tally tally′ records paths payloads : List ℕ) (place n : ℕ) (e : Event) → (tally′ ≡ bumped tally place n) × (length tally ≡ slots)
     → (length tally ≡ slots → worldOf (bumped tally place n) records paths payloads ≡ played (e ∷ []) (worldOf tally records paths payloads))
@@ -96,7 +92,7 @@ by-count tally tally′ records paths payloads place n e did law = ap (λ (l : L
 
 -- ---- traces
 
--- no event; one event and then others; a number, which the code does not record
+-- no event; one event and then others; a number or an array entered, which the code does not record
 pub played-none : (w : World) → w ≡ played [] w
 unfolding played apply
 played-none w = refl
@@ -108,6 +104,10 @@ played-then e t w = refl
 pub played-number : (x : Number) (t : Trace) (w : World) → played t w ≡ played (number x ∷ t) w
 unfolding played apply
 played-number x t w = refl
+
+pub played-array : (path : List ℕ) (t : Trace) (w : World) → played t w ≡ played (array path ∷ t) w
+unfolding played apply
+played-array path t w = refl
 
 -- ---- a leaf or a pair, written and counted
 

@@ -13,7 +13,7 @@ use Rattle.bits.specs.Packed.{Number}
 use Rattle.bits.specs.Sizes.{maxElements, maxFields}
 use Rattle.framing.specs.Windows.{Window, part, Reading, got, failed, reading}
 use Rattle.framing.specs.Events.{numbers, number, element, truncation, error, implicit, Trace}
-use Rattle.framing.specs.Walk.{Sink, numberAt, Lead, ends, fails, closes, opens, lead, Due, cut, broken, closed, present, fieldAt, tail, Run, done, stopped, prepend, fields, closing, inItem, entering, behind, elements, level}
+use Rattle.framing.specs.Walk.{Sink, numberAt, Lead, ends, fails, closes, opens, lead, Due, cut, broken, closed, present, fieldAt, tail, Run, done, stopped, prepend, fields, closing, inItem, behind, elements, level}
 use Rattle.framing.proofs.StepLaws.{fields-last, fields-step, fields-present, elements-last, elements-step, level-count}
 use Rattle.outputs.specs.World.{World, wrapping}
 use Rattle.outputs.proofs.Paste.{apply-append, apply-numbers}
@@ -24,7 +24,7 @@ use Rattle.steps.specs.Gives.{fieldsStop, levelStop}
 use Rattle.steps.specs.declared.Head.{Head}
 use Rattle.steps.specs.declared.Head.the-variants as head
 use Rattle.steps.proofs.CaseLaws.{NotGo, NotClosed, fields-stop}
-use Rattle.steps.proofs.TallyLaws.{played-none, played-number}
+use Rattle.steps.proofs.TallyLaws.{played-none, played-then, played-number}
 use Rattle.steps.proofs.ShiftLaws.{level-shift, element-shift, field-shift, tail-shift, closing-shift, part-inner, size-inner}
 use Rattle.steps.proofs.WithinLaws.{level-in, element-in, field-in, Counted, level-goes, Opened, element-goes, Presented, field-goes}
 
@@ -121,7 +121,7 @@ module _ (s : Sink) (w : Window) (path : List ℕ) where
       go (opens e i q) g = rw some (go2 (leb count i) refl (rw some at g))
         where
           go2 : (y : Bool) → leb count i ≡ y → NotGo (if y then head.Failed else head.Go i q q)
-              → played (if y then number e ∷ error ∷ [] else number e ∷ element i ∷ (entering s path i ++ behind (λ r. elements s w path count left r) (fields s w i (inItem s path i) maxFields q true))) x
+              → played (if y then number e ∷ error ∷ [] else number e ∷ element (inItem s path i) ∷ behind (λ r. elements s w path count left r) (fields s w i (inItem s path i) maxFields q true)) x
               ≡ played (stopAt s w path (if y then head.Failed else head.Go i q q)) x
           go2 true ey g = sym (played-number e (error ∷ []) x)
           go2 false ey g = absurd g
@@ -201,13 +201,13 @@ closed-back b (head.Limit q) e = never cc
 closed-back b (head.Go u q r) e = never cc
 
 -- where what goes on lies, in the bytes
-pub level-next : (bytes : List ℕ) (b end : ℕ) {v f m : ℕ} → levelHead (upTo bytes end) b ≡ head.Go v f m → (b ≤ f) × (f ≤ end)
+pub level-next : (bytes : List ℕ) (b end : ℕ) {v f m : ℕ} → levelHead (upTo bytes end) b ≡ head.Go v f m → (b ≤ f) × (f ≤ end) × (v ≤ maxElements)
 unfolding upTo
-level-next bytes b end e = let c = level-goes (upTo bytes end) b e in let n = c .next in let f = c .fits in (omega arith, omega arith)
+level-next bytes b end e = let c = level-goes (upTo bytes end) b e in let n = c .next in let f = c .fits in (omega arith, omega arith, c .few)
 
-pub element-next : (bytes : List ℕ) (end count left at : ℕ) {i n m : ℕ} → elementHead (upTo bytes end) count left at ≡ head.Go i n m → (0 < left) × (at ≤ n) × (n ≤ end)
+pub element-next : (bytes : List ℕ) (end count left at : ℕ) {i n m : ℕ} → elementHead (upTo bytes end) count left at ≡ head.Go i n m → (0 < left) × (at ≤ n) × (n ≤ end) × (i < count)
 unfolding upTo
-element-next bytes end count left at e = let c = element-goes (upTo bytes end) count left at e in (c .allowed, c .later, c .fits)
+element-next bytes end count left at e = let c = element-goes (upTo bytes end) count left at e in (c .allowed, c .later, c .fits, c .counted)
 
 pub field-next : (bytes : List ℕ) (end left at : ℕ) {h n m : ℕ} → fieldHead (upTo bytes end) left at ≡ head.Go h n m → (0 < left) × (at ≤ n) × (n ≤ m) × (m ≤ end)
 unfolding upTo
@@ -300,7 +300,7 @@ module _ (s e : Sink) (a : Alike s e) (bytes : List ℕ) (b end : ℕ) (path : L
     -- an element, and those behind it
     pub elements-walk : {i n m : ℕ} → elementHead (upTo bytes end) count left at ≡ head.Go i n m → (x : World) (o : ℕ)
         → played (elements s (inner bytes b end o) path count left (at - b)) x
-        ≡ played (behind (λ r. elements s (inner bytes b end o) path count (left - 1) r) (fields s (inner bytes b end o) i (inItem s path i) maxFields (n - b) true)) (played (element i ∷ entering s path i) x)
+        ≡ played (behind (λ r. elements s (inner bytes b end o) path count (left - 1) r) (fields s (inner bytes b end o) i (inItem s path i) maxFields (n - b) true)) (played (element (inItem s path i) ∷ []) x)
     elements-walk {i} {n} {m} eh x o =
         let w = inner bytes b end o in
         let k = go-back b (elementHead w count left (at - b)) (sym (element-here o) ∙ eh) in
@@ -308,15 +308,15 @@ module _ (s e : Sink) (a : Alike s e) (bytes : List ℕ) (b end : ℕ) (path : L
         let z = k .from-next in
         let d : k .next ≡ n - b = omega arith in
         ap (λ (t : Trace). played t x) (steps w left c)
-        ∙ sym (played-number (c .number) (element i ∷ (entering s path i ++ rest w (k .next))) x)
-        ∙ played-append (element i ∷ entering s path i) (rest w (k .next)) x
-        ∙ ap (λ (p : ℕ). played (rest w p) (played (element i ∷ entering s path i) x)) d
+        ∙ sym (played-number (c .number) (element (inItem s path i) ∷ rest w (k .next)) x)
+        ∙ sym (played-then (element (inItem s path i)) (rest w (k .next)) x)
+        ∙ ap (λ (p : ℕ). played (rest w p) (played (element (inItem s path i) ∷ []) x)) d
       where
         rest : Window → ℕ → Trace
         rest w q = behind (λ r. elements s w path count (left - 1) r) (fields s w i (inItem s path i) maxFields q true)
 
         steps : (w : Window) (l : ℕ) {q : ℕ} → (c : Opened w count l (at - b) i q)
-            → elements s w path count l (at - b) ≡ number (c .number) ∷ element i ∷ (entering s path i ++ behind (λ r. elements s w path count (l - 1) r) (fields s w i (inItem s path i) maxFields q true))
+            → elements s w path count l (at - b) ≡ number (c .number) ∷ element (inItem s path i) ∷ behind (λ r. elements s w path count (l - 1) r) (fields s w i (inItem s path i) maxFields q true)
         steps w zero c = absurd (let z = c .allowed in omega arith)
         steps w (suc l) c = let p : l ≡ suc l - 1 = omega arith in rw (elements-step, c .leads, lt-leb count i (c .counted), sym p)
 

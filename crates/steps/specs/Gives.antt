@@ -5,8 +5,7 @@ use mathlib.Core.List.{List, [], _∷_}
 use Rattle.schema.specs.Tables.{Tables}
 use Rattle.schema.specs.Labels.{dot}
 use Rattle.framing.specs.Windows.{Window}
-use Rattle.framing.specs.Events.{truncation, error, implicit, Trace}
-use Rattle.framing.specs.Paths.{leafOrOver}
+use Rattle.framing.specs.Events.{leaf, truncation, error, implicit, Trace}
 use Rattle.framing.specs.Walk.{Sink, tail, closing}
 use Rattle.framing.specs.Sinks.{leafOf, objectField}
 use Rattle.steps.specs.Views.{inner}
@@ -20,7 +19,7 @@ use Rattle.steps.specs.declared.Kind.the-variants as kind
 
 -- a leaf with a tag behind its path
 unfoldable pub taggedLeaf : Tables → (path : List ℕ) (handle : ℕ) → Tag → Window → Trace
-taggedLeaf t path handle x w = leafOrOver (leafOf (dot path (tagBytes t handle x)) handle w)
+taggedLeaf t path handle x w = leaf (leafOf (dot path (tagBytes t handle x)) handle w) ∷ []
 
 -- a field that is no array to walk
 unfoldable pub flatField : Tables → (index : ℕ) (path : List ℕ) (first : Bool) (handle : ℕ) → Window → Kind → Trace

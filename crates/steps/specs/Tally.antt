@@ -6,7 +6,7 @@ use Rattle.framing.specs.Events.{Trace}
 use Rattle.framing.specs.Counters.{counted}
 use Rattle.outputs.specs.World.{World, wrapping, apply}
 
--- ---- the slots: the seven counters, the working paths that would have been too long, the places of the next writes
+-- ---- the slots: the seven counters, the places of the next writes
 
 abbrev pub elementsSlot : ℕ
 elementsSlot = 0
@@ -29,21 +29,18 @@ rootSlot = 5
 abbrev pub implicitSlot : ℕ
 implicitSlot = 6
 
-abbrev pub oversSlot : ℕ
-oversSlot = 7
-
 abbrev pub recordsSlot : ℕ
-recordsSlot = 8
+recordsSlot = 7
 
 abbrev pub pathsSlot : ℕ
-pathsSlot = 9
+pathsSlot = 8
 
 abbrev pub payloadsSlot : ℕ
-payloadsSlot = 10
+payloadsSlot = 9
 
 -- how many there are
 abbrev pub slots : ℕ
-slots = 11
+slots = 10
 
 -- ---- the world
 
@@ -56,7 +53,6 @@ worldBy at records paths payloads =
     record {
       counters =
           counted (at elementsSlot) (at fieldsSlot) (at truncationsSlot) (at errorsSlot) (at nestedSlot) (at rootSlot) (at implicitSlot);
-      overs = at oversSlot;
       records = record { at = at recordsSlot; held = records };
       paths = record { at = at pathsSlot; held = paths };
       payloads = record { at = at payloadsSlot; held = payloads };

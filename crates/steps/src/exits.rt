@@ -2,10 +2,10 @@
 ghost use mathlib.Core.Path.{_≡_};
 ghost use mathlib.Core.Bool.{Bool};
 ghost use mathlib.Core.List.{List, [], _∷_};
-ghost use Prim.Native.Nat.{ℕ, _≤_};
+ghost use Prim.Native.Nat.{ℕ};
 ghost use lib.ListN.{take};
-ghost use Rattle.bits.specs.Sizes.{longestPath};
 ghost use Rattle.framing.specs.Walk.{tail, closing};
+ghost use Rattle.steps.specs.Paths.{LabelFits};
 ghost use Rattle.steps.specs.Tally.{worldOf, played};
 ghost use Rattle.steps.specs.Steps.{Lies, Plays};
 ghost use Rattle.steps.specs.Views.{inner, leftoverOf, exitSink, HeadIn};
@@ -80,7 +80,7 @@ fn keep_tail(
     paths: &mut [u8],
     payloads: &mut [u8],
 )
-    requires { ⌜ Lies (now bytes) at end × (plen ≤ longestPath) ⌝ }
+    requires { ⌜ Lies (now bytes) at end × LabelFits plen ⌝ }
     ensures { λ _. ⌜ ((inside : Bool) → Plays
         (λ (o : ℕ). tail (exitSink walk inside) (inner (now (bytes .entry)) at end o) (take plen (now (path .entry))) 0)
         (worldOf (now (tally .entry)) (now (records .entry)) (now (paths .entry)) (now (payloads .entry)))
@@ -109,7 +109,7 @@ pub fn stop_fields(
     paths: &mut [u8],
     payloads: &mut [u8],
 )
-    requires { ⌜ HeadIn end h × Lies (now bytes) 0 end × (plen ≤ longestPath) ⌝ }
+    requires { ⌜ HeadIn end h × Lies (now bytes) 0 end × LabelFits plen ⌝ }
     ensures { λ _. ⌜ ((inside : Bool) → Plays
         (λ (o : ℕ). fieldsStop (exitSink walk inside) (now (bytes .entry)) end o (take plen (now (path .entry))) h)
         (worldOf (now (tally .entry)) (now (records .entry)) (now (paths .entry)) (now (payloads .entry)))
@@ -157,7 +157,7 @@ pub fn stop_level(
     paths: &mut [u8],
     payloads: &mut [u8],
 )
-    requires { ⌜ HeadIn end h × Lies (now bytes) 0 end × (plen ≤ longestPath) ⌝ }
+    requires { ⌜ HeadIn end h × Lies (now bytes) 0 end × LabelFits plen ⌝ }
     ensures { λ _. ⌜ Plays
         (λ (o : ℕ). levelStop (exitSink walk inside) (now (bytes .entry)) end o (take plen (now (path .entry))) h)
         (worldOf (now (tally .entry)) (now (records .entry)) (now (paths .entry)) (now (payloads .entry)))

@@ -1,14 +1,13 @@
 // What a field is, and what one gives that is no array to walk (01, Walking an array, rules 6 and 8).
 ghost use mathlib.Core.Path.{_≡_};
-ghost use Prim.Native.Nat.{ℕ, _≤_};
+ghost use Prim.Native.Nat.{ℕ};
 ghost use lib.ListN.{take};
-ghost use Rattle.bits.specs.Sizes.{longestPath};
 ghost use Rattle.schema.specs.Tables.{lookUps};
 ghost use Rattle.schema.specs.Spans.{spansOf};
 ghost use Rattle.steps.specs.Tally.{worldOf};
 ghost use Rattle.steps.specs.Steps.{Lies, Plays};
 ghost use Rattle.steps.specs.Views.{inner};
-ghost use Rattle.steps.specs.Paths.{pools};
+ghost use Rattle.steps.specs.Paths.{pools, LabelFits};
 ghost use Rattle.steps.specs.Kinds.{kindOf, KindLies};
 ghost use Rattle.steps.specs.Gives.{flatField};
 use crate::Kind;
@@ -81,7 +80,7 @@ pub fn put_field<'a>(
     paths: &mut [u8],
     payloads: &mut [u8],
 )
-    requires { ⌜ Lies (now bytes) «from» end × (plen ≤ longestPath) × KindLies (pools (now names) (now «declared_names»)) kind ⌝ }
+    requires { ⌜ Lies (now bytes) «from» end × LabelFits plen × KindLies (pools (now names) (now «declared_names»)) kind ⌝ }
     ensures { λ _. ⌜ Plays
         (λ (o : ℕ). flatField (pools (now (names .entry)) (now («declared_names» .entry))) index (take plen (now (path .entry))) first handle
         (inner (now (bytes .entry)) «from» end o) kind)

@@ -9,7 +9,7 @@ ghost use Rattle.bits.specs.Runs.{bytesOf, bytesFor, store};
 ghost use Rattle.schema.specs.Labels.{dot};
 ghost use Rattle.framing.specs.Events.{rawHandle};
 ghost use Rattle.framing.specs.Records.{leafWords, leafNumbers};
-ghost use Rattle.steps.specs.Paths.{pools, tagBytes, tagLength, TagLies};
+ghost use Rattle.steps.specs.Paths.{pools, tagBytes, tagLength, TagLies, LabelFits};
 ghost use Rattle.steps.specs.Tally.{slots, slot, recordsSlot, pathsSlot, payloadsSlot, worldOf, reserved};
 ghost use Rattle.steps.specs.Steps.{Lies, Plays};
 ghost use Rattle.steps.specs.Views.{inner};
@@ -21,12 +21,10 @@ use crate::paths::tag_length;
 use crate::paths::write_tag;
 use crate::runs::copy_run;
 use crate::runs::store_payload;
-use crate::tally::OVERS;
 use crate::tally::PATHS;
 use crate::tally::PAYLOADS;
 use crate::tally::RECORDS;
 use crate::tally::Tally;
-use crate::tally::count;
 use crate::tally::reserve;
 use outputs::records::LEAF_WORDS;
 use outputs::records::fits;
@@ -50,12 +48,15 @@ fn store_path<'a>(
     names: &'a [u8],
     declared_names: &'a [u8],
 )
-    requires { ⌜ (length (now path) ≡ longestPath) × (n ≡ plen + 1 + tagLength handle tag) × (n ≤ longestPath)
+    requires { ⌜ (n ≡ plen + 1 + tagLength handle tag) × (n ≤ longestPath)
         × TagLies (pools (now names) (now «declared_names»)) tag ⌝ }
     ensures out { λ _. ⌜ now (paths .exit) ≡ store (now (paths .entry)) at
         (dot (take plen (now (path .entry))) (tagBytes (pools (now (names .entry)) (now («declared_names» .entry))) handle tag)) ⌝ }
     ensures kept { λ _. ⌜ take plen (now (path .exit)) ≡ take plen (now (path .entry)) ⌝ }
+    ensures sized { λ _. ⌜ length (now (path .entry)) ≡ longestPath ⌝ }
 {
+    // It tells how long the array is, which the path's length rests on.
+    path_room(path);
     if !fits(paths.len(), at, n) {
         return;
     }
@@ -101,7 +102,7 @@ fn put_rest(
     reserve(tally, LEAF_WORDS as u32, n as u32, size as u32);
 }
 
-// A leaf of the bits from..end of bytes, its tag behind the working path. A path that would be too long is counted instead.
+// A leaf of the bits from..end of bytes, its tag behind the working path.
 pub fn put_leaf<'a>(
     tally: &mut Tally,
     bytes: &[u8],
@@ -117,7 +118,7 @@ pub fn put_leaf<'a>(
     paths: &mut [u8],
     payloads: &mut [u8],
 )
-    requires { ⌜ Lies (now bytes) «from» end × (plen ≤ longestPath) × TagLies (pools (now names) (now «declared_names»)) tag ⌝ }
+    requires { ⌜ Lies (now bytes) «from» end × LabelFits plen × TagLies (pools (now names) (now «declared_names»)) tag ⌝ }
     ensures { λ _. ⌜ Plays
         (λ (o : ℕ). taggedLeaf (pools (now (names .entry)) (now («declared_names» .entry))) (take plen (now (path .entry))) handle tag
         (inner (now (bytes .entry)) «from» end o))
@@ -125,12 +126,7 @@ pub fn put_leaf<'a>(
         (worldOf (now (tally .exit)) (now (records .exit)) (now (paths .exit)) (now (payloads .exit)))
         plen (now (path .entry)) (now (path .exit)) ⌝ }
 {
-    let room = path_room(path);
     let n = plen + 1 + tag_length(tag, handle);
-    if room < n {
-        count(tally, OVERS, 1);
-        return;
-    }
     let path_start = tally[PATHS];
     store_path(
         paths,
@@ -158,19 +154,14 @@ pub fn put_tail(
     paths: &mut [u8],
     payloads: &mut [u8],
 )
-    requires { ⌜ Lies (now bytes) «from» end × (plen ≤ longestPath) ⌝ }
+    requires { ⌜ Lies (now bytes) «from» end × LabelFits plen ⌝ }
     ensures { λ _. ⌜ Plays
         (λ (o : ℕ). taggedLeaf (pools [] []) (take plen (now (path .entry))) rawHandle Tag.Raw (inner (now (bytes .entry)) «from» end o))
         (worldOf (now (tally .entry)) (now (records .entry)) (now (paths .entry)) (now (payloads .entry)))
         (worldOf (now (tally .exit)) (now (records .exit)) (now (paths .exit)) (now (payloads .exit)))
         plen (now (path .entry)) (now (path .exit)) ⌝ }
 {
-    let room = path_room(path);
     let n = plen + RAW_BYTES;
-    if room < n {
-        count(tally, OVERS, 1);
-        return;
-    }
     let path_start = tally[PATHS];
     let none = [0u8; 0];
     store_path(

@@ -1,17 +1,16 @@
 // The working path: its first plen bytes are the path of where the walk stands.
 ghost use mathlib.Core.Path.{_≡_};
 ghost use mathlib.Core.List.{[], _∷_, _++_};
-ghost use Prim.Native.Nat.{_+_, _≤_};
+ghost use Prim.Native.Nat.{_+_, _≤_, _<_};
 ghost use lib.ListN.{length, take};
-ghost use Rattle.bits.specs.Sizes.{longestPath};
+ghost use Rattle.bits.specs.Sizes.{maxElements, longestLabel, longestPath};
 ghost use Rattle.bits.specs.Runs.{put};
 ghost use Rattle.bits.specs.Decimals.{decimal};
 ghost use Rattle.schema.specs.Labels.{dot, labelBytes, labelLength, LabelLies};
-ghost use Rattle.steps.specs.Paths.{pools, tagBytes, tagLength, TagLies, Entered, Grew};
+ghost use Rattle.steps.specs.Paths.{pools, tagBytes, tagLength, TagLies, IndexFits, LabelFits, Entered, Grew};
 use crate::Tag;
 use crate::runs::copy_run;
 use crate::tally::ELEMENTS;
-use crate::tally::OVERS;
 use crate::tally::Tally;
 use crate::tally::count;
 use crate::walks::gives_leaves;
@@ -25,7 +24,7 @@ use schema::labels::label_part;
 
 pub type WorkingPath = [u8; LONGEST_PATH];
 
-// How many bytes a working path may have. Lent as a slice, the array tells its length.
+// How many bytes the working path's array has: lent as a slice, it tells.
 pub fn path_room(path: &WorkingPath) -> usize
     ensures { λ r. ⌜ (r ≡ longestPath) × (length (now (path .entry)) ≡ longestPath) ⌝ }
 {
@@ -97,8 +96,9 @@ pub fn write_tag<'a>(
     declared_names: &'a [u8],
 )
     requires { ⌜ (TagLies (pools (now names) (now «declared_names»)) tag) × (plen + 1 + tagLength handle tag ≤ longestPath) ⌝ }
-    ensures { λ _. ⌜ now (path .exit)
+    ensures out { λ _. ⌜ now (path .exit)
         ≡ put (now (path .entry)) plen (46 ∷ tagBytes (pools (now (names .entry)) (now («declared_names» .entry))) handle tag) ⌝ }
+    ensures sized { λ _. ⌜ length (now (path .entry)) ≡ longestPath ⌝ }
 {
     path[plen] = 46;
     match tag {
@@ -107,9 +107,8 @@ pub fn write_tag<'a>(
     }
 }
 
-// The working path with `.label` behind it: its length. One that would be too long stays as it is.
+// The working path with `.label` behind it: its length.
 pub fn grow_label<'a>(
-    tally: &mut Tally,
     path: &mut WorkingPath,
     plen: usize,
     label: Label,
@@ -117,16 +116,11 @@ pub fn grow_label<'a>(
     names: &'a [u8],
     declared_names: &'a [u8],
 ) -> usize
-    requires { ⌜ (plen ≤ longestPath) × LabelLies (pools (now names) (now «declared_names»)) label ⌝ }
+    requires { ⌜ LabelFits plen × LabelLies (pools (now names) (now «declared_names»)) label ⌝ }
     ensures { λ r. ⌜ Grew (dot (take plen (now (path .entry))) (labelBytes (pools (now (names .entry)) (now («declared_names» .entry))) handle label))
-        (now (tally .entry)) (now (tally .exit)) plen r (now (path .entry)) (now (path .exit)) ⌝ }
+        longestLabel plen r (now (path .entry)) (now (path .exit)) ⌝ }
 {
-    let room = path_room(path);
     let n = plen + 1 + label_length(label, handle);
-    if room < n {
-        count(tally, OVERS, 1);
-        return plen;
-    }
     write_tag(path, plen, Tag::Label(label), handle, names, declared_names);
     n
 }
@@ -134,7 +128,8 @@ pub fn grow_label<'a>(
 // `[index]` behind the working path, which has room for it; k is how many digits the index has.
 fn write_index(path: &mut WorkingPath, plen: usize, k: usize, index: u32)
     requires { ⌜ (k ≡ length (decimal index)) × (plen + k + 2 ≤ longestPath) ⌝ }
-    ensures { λ _. ⌜ now (path .exit) ≡ put (now (path .entry)) plen (91 ∷ decimal index ++ (93 ∷ [])) ⌝ }
+    ensures out { λ _. ⌜ now (path .exit) ≡ put (now (path .entry)) plen (91 ∷ decimal index ++ (93 ∷ [])) ⌝ }
+    ensures sized { λ _. ⌜ length (now (path .entry)) ≡ longestPath ⌝ }
 {
     path[plen] = 91;
     write_decimal(path, plen + 1, index);
@@ -149,20 +144,14 @@ pub fn enter(
     plen: usize,
     index: u32,
 ) -> usize
-    requires { ⌜ plen ≤ longestPath ⌝ }
+    requires { ⌜ (index < maxElements) × IndexFits plen ⌝ }
     ensures { λ r. ⌜ Entered walk index (now (tally .entry)) (now (tally .exit)) plen r (now (path .entry)) (now (path .exit)) ⌝ }
 {
     count(&mut *tally, ELEMENTS, 1);
     if !gives_leaves(walk) {
         return plen;
     }
-    let room = path_room(path);
     let k = decimal_length(index);
-    let n = plen + k + 2;
-    if room < n {
-        count(tally, OVERS, 1);
-        return plen;
-    }
     write_index(path, plen, k, index);
-    n
+    plen + k + 2
 }

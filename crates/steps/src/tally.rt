@@ -1,5 +1,4 @@
-// The tally of a walk: the seven counters, the working paths that would have been too long, and the places of the next
-// writes.
+// The tally of a walk: the seven counters, and the places of the next writes.
 ghost use mathlib.Core.Path.{_≡_};
 ghost use Prim.Native.Nat.{_<_};
 ghost use lib.ListN.{length};
@@ -19,15 +18,13 @@ pub const ROOT: usize = 5;
 
 pub const IMPLICIT: usize = 6;
 
-pub const OVERS: usize = 7;
+pub const RECORDS: usize = 7;
 
-pub const RECORDS: usize = 8;
+pub const PATHS: usize = 8;
 
-pub const PATHS: usize = 9;
+pub const PAYLOADS: usize = 9;
 
-pub const PAYLOADS: usize = 10;
-
-pub const SLOTS: usize = 11;
+pub const SLOTS: usize = 10;
 
 pub type Tally = [u32; SLOTS];
 

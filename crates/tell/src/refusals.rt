@@ -19,7 +19,6 @@ fn meaning(number: u32) {
         ),
         3 => error::text(b"a lent buffer is too short"),
         4 => error::text(b"a sum of two counters is over 2^64 - 1"),
-        5 => error::text(b"a path of over 1,024 bytes"),
         6 => error::text(
             b"the bits aren't a fast-array body, or the bytes aren't as many as the bits take",
         ),

@@ -47,9 +47,6 @@ enum-told c = search needs
 enum-told-2 : tie.Need-enum-told-2
 enum-told-2 c = search needs
 
-enum-told-3 : tie.Need-enum-told-3
-enum-told-3 c = search needs
-
 same-length : tie.Need-same-length
 same-length c = search needs
 
@@ -86,15 +83,6 @@ returns-5 c =
     let few = both .before .before .before .before .before .before .before .before in
     objects-told _ _ _ (sym (few .before .is-too-long .ensures) ∙ few .if1 .left) _ _ _ (c .enum-told2 .given .1) (both .two-passes .ensures)
 
-same-length-5 : tie.Need-same-length-5
-same-length-5 c = search needs
-
-returns-6 : tie.Need-returns-6
-returns-6 c =
-    let both = c .before .before .before .before .before .before in
-    let few = both .before .before .before .before .before .before .before .before in
-    objects-told _ _ _ (sym (few .before .is-too-long .ensures) ∙ few .if1 .left) _ _ _ (c .enum-told3 .given .1) (both .two-passes .ensures)
-
 pub decode-object-ref-array-spec : {M : Type 1} → statement M
 decode-object-ref-array-spec =
     tie.close
@@ -112,7 +100,6 @@ decode-object-ref-array-spec =
     enum-known-passed-2
     enum-told
     enum-told-2
-    enum-told-3
     same-length
     returns-2
     same-length-2
@@ -120,6 +107,4 @@ decode-object-ref-array-spec =
     same-length-3
     returns-4
     same-length-4
-    returns-5
-    same-length-5
-    returns-6)
+    returns-5)

@@ -34,12 +34,11 @@ use lib.ListN.{length, take}
 use Rattle.schema.specs.Tables.{tables}
 use Rattle.schema.specs.Labels.{dot}
 use Rattle.framing.specs.Events.{Trace}
-use Rattle.framing.specs.Paths.{grownPath, overIfLong}
 use Rattle.steps.specs.Tally.{worldOf, played}
 use Rattle.cycle.specs.Cycle.{place}
 use Rattle.steps.proofs.CaseLaws.{not-go, not-closed, not-array}
 use Rattle.steps.proofs.ShiftLaws.{part-bytes}
-use Rattle.steps.proofs.WalkLaws.{level-head-in, element-head-in, field-head-in, element-next, field-next}
+use Rattle.steps.proofs.WalkLaws.{level-head-in, element-head-in, field-head-in, level-next, element-next, field-next}
 use Rattle.steps.proofs.FieldKindLaws.{pool-bytes, pool-lies, kind-pools, flat-pools, array-below}
 use Rattle.cycle.proofs.CycleLaws.{kind-is, kind-ready, Fielding, fields-begin, fields-turn, fields-shut, fields-end, Leveling, prefix, level-end, level-begin, elements-end, elements-turn, elements-open, field-put, field-walked, up-to, ready-child, ready-part}
 
@@ -137,7 +136,7 @@ walk-field-put-field-requires t c κs =
     let a = at-start .args in
     let ready = at-start .pre .1 in
     let lies = kind-ready (a .rows .now) (a .names .now) (a .declared .now) (a .declared-names .now) ready _ _ _ _ _ (at-after-kind-of .kind-of .ensures) in
-    (ready .lies, ready .path, kind-pools (a .rows .now) (a .names .now) (a .declared .now) (a .declared-names .now) (at-after-kind-of .kind-of .result) lies)
+    (ready .lies, omega (arith, ready .path), kind-pools (a .rows .now) (a .names .now) (a .declared .now) (a .declared-names .now) (at-after-kind-of .kind-of .result) lies)
 
 walk-field-same-length : (t : ℕ) → walk-field-lts.Need-same-length (walk-field-claims t) (walk-field-at t) walk-field.Post
 walk-field-same-length t c = search needs
@@ -163,42 +162,42 @@ walk-field-returns t c =
 
 walk-field-grow-label-requires : (t : ℕ) → walk-field-lts.Need-grow-label-requires (walk-field-claims t) (walk-field-at t) walk-field.Post
 walk-field-grow-label-requires t c κs =
-    let at-after-kind = c .before .before .before in
+    let at-after-kind = c .before .before in
     let at-after-kind-of = at-after-kind .before .before in
     let at-start = at-after-kind-of .before .before .before .before .before .before .before .before .before in
     let a = at-start .args in
     let ready = at-start .pre .1 in
     let lies = kind-ready (a .rows .now) (a .names .now) (a .declared .now) (a .declared-names .now) ready _ _ _ _ _ (sym (at-after-kind .kind .given .1) ∙ at-after-kind-of .kind-of .ensures) in
-    (ready .path, pool-lies (a .rows .now) (a .names .now) (a .declared .now) (a .declared-names .now) _ lies)
+    (omega (arith, ready .path), pool-lies (a .rows .now) (a .names .now) (a .declared .now) (a .declared-names .now) _ lies)
 
 walk-field-add-z : (t : ℕ) → walk-field-lts.Need-add-z (walk-field-claims t) (walk-field-at t) walk-field.Post
 walk-field-add-z t c =
-    let at-start = c .before .before .before .before .before .before .before .before .before .before .before .before .before .before .before in
+    let at-start = c .before .before .before .before .before .before .before .before .before .before .before .before .before .before in
     omega (arith, at-start .pre .1 .lies)
 
 walk-field-sub-walk-level : (t : ℕ) → walk-field-lts.Need-sub-walk-level (walk-field-claims t) (walk-field-at t) walk-field.Post
 walk-field-sub-walk-level t c =
-    let at-start = c .before .before .before .before .before .before .before .before .before .before .before .before .before .before .before .before in
+    let at-start = c .before .before .before .before .before .before .before .before .before .before .before .before .before .before .before in
     omega (arith, at-start .pre .1 .lies)
 
 walk-field-part-walk-level-start : (t : ℕ) → walk-field-lts.Need-part-walk-level-start (walk-field-claims t) (walk-field-at t) walk-field.Post
 walk-field-part-walk-level-start t c =
-    let at-start = c .before .before .before .before .before .before .before .before .before .before .before .before .before .before .before .before in
+    let at-start = c .before .before .before .before .before .before .before .before .before .before .before .before .before .before .before in
     omega (arith, at-start .pre .1 .lies)
 
 walk-field-part-walk-level-end : (t : ℕ) → walk-field-lts.Need-part-walk-level-end (walk-field-claims t) (walk-field-at t) walk-field.Post
 walk-field-part-walk-level-end t c =
-    let at-start = c .before .before .before .before .before .before .before .before .before .before .before .before .before .before .before .before in
+    let at-start = c .before .before .before .before .before .before .before .before .before .before .before .before .before .before .before in
     omega (arith, at-start .pre .1 .lies)
 
 walk-field-add-walk-level : (t : ℕ) → walk-field-lts.Need-add-walk-level (walk-field-claims t) (walk-field-at t) walk-field.Post
 walk-field-add-walk-level t c =
-    let at-start = c .before .before .before .before .before .before .before .before .before .before .before .before .before .before .before .before .before in
+    let at-start = c .before .before .before .before .before .before .before .before .before .before .before .before .before .before .before .before in
     omega (arith, at-start .pre .1 .lies)
 
 walk-field-sub-walk-level-2 : (t : ℕ) → walk-field-lts.Need-sub-walk-level-2 (walk-field-claims t) (walk-field-at t) walk-field.Post
 walk-field-sub-walk-level-2 t c =
-    let at-after-kind = c .before .before .before .before .before .before in
+    let at-after-kind = c .before .before .before .before .before in
     let at-after-kind-of = at-after-kind .before .before in
     let at-start = at-after-kind-of .before .before .before .before .before .before .before .before .before in
     omega (arith, array-below _ _ _ _ _ _ _ _ (sym (at-after-kind .kind .given .1) ∙ at-after-kind-of .kind-of .ensures))
@@ -206,11 +205,11 @@ walk-field-sub-walk-level-2 t c =
 walk-field-walk-level-requires : (t : ℕ) → walk-field-lts.Need-walk-level-requires (walk-field-claims t) (walk-field-at t) walk-field.Post
 walk-field-walk-level-requires t c κs =
     let at-after-grow-label = c .before .before .before .before .before .before in
-    let at-after-kind = at-after-grow-label .before .before .before .before in
+    let at-after-kind = at-after-grow-label .before .before .before in
     let at-after-kind-of = at-after-kind .before .before in
     let at-start = at-after-kind-of .before .before .before .before .before .before .before .before .before in
     let n = array-below _ _ _ _ _ _ _ _ (sym (at-after-kind .kind .given .1) ∙ at-after-kind-of .kind-of .ensures) in
-    (omega (arith, at-start .pre .0), ready-child _ _ _ _ _ _ _ (at-start .pre .1) (at-after-grow-label .grow-label .ensures .within))
+    (omega (arith, at-start .pre .0), ready-child _ _ _ _ _ _ _ _ _ (at-start .pre .1) (omega (arith, at-start .pre .1 .path, at-after-grow-label .grow-label .ensures .within)))
 
 walk-field-same-length-4 : (t : ℕ) → walk-field-lts.Need-same-length-4 (walk-field-claims t) (walk-field-at t) walk-field.Post
 walk-field-same-length-4 t c = search needs
@@ -225,7 +224,7 @@ walk-field-returns-2 : (t : ℕ) → walk-field-lts.Need-returns-2 (walk-field-c
 walk-field-returns-2 t c =
     let at-after-walk-level = c .before .before .before .before .before .before in
     let at-after-grow-label = at-after-walk-level .before .before .before .before .before .before .before in
-    let at-after-kind = at-after-grow-label .before .before .before .before in
+    let at-after-kind = at-after-grow-label .before .before .before in
     let at-after-kind-of = at-after-kind .before .before in
     let at-after-shared-slice-known = at-after-kind-of .before .before .before .before .before .before .before .before in
     let at-start = at-after-shared-slice-known .before in
@@ -235,11 +234,9 @@ walk-field-returns-2 t c =
     let played-level = at-after-walk-level .walk-level .ensures in
     let bytes = pool-bytes (a .rows .now) (a .names .now) (a .declared .now) (a .declared-names .now) (a .handle) (at-after-kind .kind .given .0 .1 .0) in
     let path = take (a .plen) (a .path .now) in
-    let x = worldOf (a .tally .now) (a .records .now) (a .paths .now) (a .payloads .now) in
     let k = kind-is (a .rows .now) (a .names .now) (a .declared .now) (a .declared-names .now) _ _ _ _ _ (sym (at-after-kind .kind .given .1) ∙ at-after-kind-of .kind-of .ensures) in
-    field-walked _ _ _ _ _ _ (ready .lies .0) _ _ k _ _ _ _ _ _ _
-    (grew .counts (a .records .now) (a .paths .now) (a .payloads .now) ∙ ap (λ (l : List ℕ). played (overIfLong (dot path l)) x) bytes)
-    (grew .is ∙ ap (λ (l : List ℕ). grownPath path (dot path l)) bytes) played-level refl
+    field-walked _ _ _ _ _ _ (ready .lies .0) _ _ k _ _ _ _ _ _
+    (grew .is ∙ ap (λ (l : List ℕ). dot path l) bytes) played-level refl
     (λ o. part-bytes _ _ _ o ((a .end + 7) / 8 - a .from / 8) (λ i. at-after-shared-slice-known .shared-slice-known .given i .fits) (ready .lies .0)
     (omega (arith, ready .lies)))
     (prefix _ _ _ _ (grew .more) (played-level .kept) ∙ grew .kept)
@@ -300,7 +297,7 @@ walk-fields-stop-fields-requires t c κs =
     let at-at-loop = at-after-field-head .before in
     let at-start = at-at-loop .before .before .before .before .before .before .before .before .before in
     let ready = at-start .pre .1 in
-    (field-head-in _ _ _ _ _ (sym (at-after-field-head .field-head .ensures)), up-to ready, ready .path)
+    (field-head-in _ _ _ _ _ (sym (at-after-field-head .field-head .ensures)), up-to ready, omega (arith, ready .path))
 
 walk-fields-same-length-4 : (t : ℕ) → walk-fields-lts.Need-same-length-4 (walk-fields-claims t) (walk-fields-at t) walk-fields.Post walk-fields-Inv-loop walk-fields-μ-loop
 walk-fields-same-length-4 t c = search needs
@@ -332,7 +329,7 @@ walk-fields-walk-field-requires t c κs =
     let at-start = at-at-loop .before .before .before .before .before .before .before .before .before in
     let n = field-next _ _ _ _ (sym (at-after-field-head .field-head .ensures) ∙ at-after-h2 .h2 .given .1) in
     let z = at-at-loop .loop .inv .0 .later in
-    (omega (arith, at-start .pre .0), ready-part _ _ _ _ _ _ _ _ _ (at-start .pre .1) (n .2) (n .3) (at-start .pre .1 .path))
+    (omega (arith, at-start .pre .0), ready-part _ _ _ _ _ _ _ _ _ _ _ (at-start .pre .1) (n .2) (n .3) (at-start .pre .1 .path))
 
 walk-fields-still-first-requires : (t : ℕ) → walk-fields-lts.Need-still-first-requires (walk-fields-claims t) (walk-fields-at t) walk-fields.Post walk-fields-Inv-loop walk-fields-μ-loop
 walk-fields-still-first-requires t c κs =
@@ -399,7 +396,7 @@ walk-level-stop-level-requires t c κs =
     let at-after-level-head = c .before .before .before .before .before .before in
     let at-start = at-after-level-head .before .before .before .before .before .before .before .before .before in
     let ready = at-start .pre .1 in
-    (level-head-in _ _ _ _ (sym (at-after-level-head .level-head .ensures)), up-to ready, ready .path)
+    (level-head-in _ _ _ _ (sym (at-after-level-head .level-head .ensures)), up-to ready, omega (arith, ready .path))
 
 walk-level-same-length : (t : ℕ) → walk-level-lts.Need-same-length (walk-level-claims t) (walk-level-at t) walk-level.Post walk-level-Inv-loop walk-level-μ-loop
 walk-level-same-length t c = search needs
@@ -443,7 +440,7 @@ walk-level-stop-level-requires-2 t c κs =
     let at-after-o = at-at-loop .before .before in
     let at-start = at-after-o .before .before .before .before .before .before .before .before .before .before .before in
     let ready = at-start .pre .1 in
-    (element-head-in _ _ _ _ _ _ (sym (at-after-element-head .element-head .ensures)), up-to ready, ready .path)
+    (element-head-in _ _ _ _ _ _ (sym (at-after-element-head .element-head .ensures)), up-to ready, omega (arith, ready .path))
 
 walk-level-same-length-4 : (t : ℕ) → walk-level-lts.Need-same-length-4 (walk-level-claims t) (walk-level-at t) walk-level.Post walk-level-Inv-loop walk-level-μ-loop
 walk-level-same-length-4 t c = search needs
@@ -469,8 +466,15 @@ walk-level-returns-2 t c =
 
 walk-level-enter-requires : (t : ℕ) → walk-level-lts.Need-enter-requires (walk-level-claims t) (walk-level-at t) walk-level.Post walk-level-Inv-loop walk-level-μ-loop
 walk-level-enter-requires t c κs =
-    let at-start = c .before .before .before .before .before .before .before .before .before .before .before .before .before .before .before .before .before .before .before in
-    at-start .pre .1 .path
+    let at-after-h = c .before .before .before in
+    let at-after-element-head = at-after-h .before .before in
+    let at-at-loop = at-after-element-head .before in
+    let at-after-o = at-at-loop .before .before in
+    let at-after-level-head = at-after-o .before .before in
+    let at-start = at-after-level-head .before .before .before .before .before .before .before .before .before in
+    let few = level-next _ _ _ (sym (at-after-level-head .level-head .ensures) ∙ at-after-o .o .given .1) .2 in
+    let low = element-next _ _ _ _ _ (sym (at-after-element-head .element-head .ensures) ∙ at-after-h .h .given .1) .3 in
+    (omega (arith, few, low), omega (arith, at-start .pre .1 .path))
 
 walk-level-walk-fields-requires : (t : ℕ) → walk-level-lts.Need-walk-fields-requires (walk-level-claims t) (walk-level-at t) walk-level.Post walk-level-Inv-loop walk-level-μ-loop
 walk-level-walk-fields-requires t c κs =
@@ -482,7 +486,7 @@ walk-level-walk-fields-requires t c κs =
     let at-start = at-after-o .before .before .before .before .before .before .before .before .before .before .before in
     let n = element-next _ _ _ _ _ (sym (at-after-element-head .element-head .ensures) ∙ at-after-h .h .given .1) in
     let z = at-at-loop .loop .inv .0 .later in
-    (omega (arith, at-start .pre .0), ready-part _ _ _ _ _ _ _ _ _ (at-start .pre .1) (n .2) (omega arith) (at-after-enter .enter .ensures .within))
+    (omega (arith, at-start .pre .0), ready-part _ _ _ _ _ _ _ _ _ _ _ (at-start .pre .1) (n .2) (omega arith) (omega (arith, at-start .pre .1 .path, at-after-enter .enter .ensures .grew .within)))
 
 walk-level-enum-known-w : (t : ℕ) → walk-level-lts.Need-enum-known-w (walk-level-claims t) (walk-level-at t) walk-level.Post walk-level-Inv-loop walk-level-μ-loop
 walk-level-enum-known-w t c = search needs
@@ -521,8 +525,8 @@ walk-level-returns-3 t c =
     let loop = at-at-loop .loop in
     let fields = at-after-walk-fields .walk-fields .ensures in
     elements-open _ _ _ (at-start .pre .1 .lies .0) _ _ _ _ _ _ (loop .inv .0) _ _ _ (sym (at-after-element-head .element-head .ensures) ∙ at-after-h .h .given .1)
-    _ _ _ _ (entered .counts (loop .records) (loop .paths) (loop .payloads)) (entered .is) _ _ fields
-    (prefix _ _ _ _ (entered .more) (fields .kept) ∙ entered .kept) (c .enum-told .given .1)
+    _ _ _ _ (λ p. entered .counts p (loop .records) (loop .paths) (loop .payloads)) (entered .grew .is) _ _ fields
+    (prefix _ _ _ _ (entered .grew .more) (fields .kept) ∙ entered .grew .kept) (c .enum-told .given .1)
 
 walk-level-sub-left : (t : ℕ) → walk-level-lts.Need-sub-left (walk-level-claims t) (walk-level-at t) walk-level.Post walk-level-Inv-loop walk-level-μ-loop
 walk-level-sub-left t c =
@@ -559,8 +563,8 @@ walk-level-loop-again t c =
     let fields = at-after-walk-fields .walk-fields .ensures in
     let kept = at-after-walk-fields .walk-fields .kept .1 .1 .1 .1 .1 .1 .1 .1 .1 .1 .1 .1 .1 .1 .1 in (
       elements-turn _ _ _ (at-start .pre .1 .lies .0) _ _ _ _ _ _ (loop .inv .0) _ _ _ (sym (at-after-element-head .element-head .ensures) ∙ at-after-h .h .given .1)
-          _ _ _ _ (entered .counts (loop .records) (loop .paths) (loop .payloads)) (entered .is) _ _ fields
-          (prefix _ _ _ _ (entered .more) (fields .kept) ∙ entered .kept) _ (at-after-w .w .given .1),
+          _ _ _ _ (λ p. entered .counts p (loop .records) (loop .paths) (loop .payloads)) (entered .grew .is) _ _ fields
+          (prefix _ _ _ _ (entered .grew .more) (fields .kept) ∙ entered .grew .kept) _ (at-after-w .w .given .1),
       kept .0 ∙ loop .inv .1,
       kept .1 .0 ∙ loop .inv .2,
       kept .1 .1 .0 ∙ loop .inv .3,

@@ -21,17 +21,11 @@ enum-told-3 c = search needs
 numbers-requires-3 : tie.Need-numbers-requires-3
 numbers-requires-3 c κs = search needs
 
-enum-told-4 : tie.Need-enum-told-4
-enum-told-4 c = search needs
-
-numbers-requires-4 : tie.Need-numbers-requires-4
-numbers-requires-4 c κs = search needs
-
 enum-known-answer : tie.Need-enum-known-answer
 enum-known-answer c = search needs
 
-numbers-requires-5 : tie.Need-numbers-requires-5
-numbers-requires-5 c κs = search needs
+numbers-requires-4 : tie.Need-numbers-requires-4
+numbers-requires-4 c κs = search needs
 
 returns : tie.Need-returns
 returns c = rw (c .before .enum-told .given .1) (c .numbers .ensures)
@@ -43,10 +37,7 @@ returns-3 : tie.Need-returns-3
 returns-3 c = rw (c .before .enum-told3 .given .1) (c .numbers3 .ensures)
 
 returns-4 : tie.Need-returns-4
-returns-4 c = rw (c .before .enum-told4 .given .1) (c .numbers4 .ensures)
-
-returns-5 : tie.Need-returns-5
-returns-5 c = rw (c .before .before .answer .given .1) (c .numbers5 .ensures)
+returns-4 c = rw (c .before .before .answer .given .1) (c .numbers4 .ensures)
 
 pub said-spec : {M : Type 1} → statement M
 said-spec =
@@ -58,12 +49,9 @@ said-spec =
     numbers-requires-2
     enum-told-3
     numbers-requires-3
-    enum-told-4
-    numbers-requires-4
     enum-known-answer
-    numbers-requires-5
+    numbers-requires-4
     returns
     returns-2
     returns-3
-    returns-4
-    returns-5)
+    returns-4)

@@ -3,8 +3,8 @@ use borrow.Author.Needs.{needs}
 use borrow.Author.Tests.{not-true, not-false}
 use mathlib.Core.Path.{sym, ap, _∙_}
 use Rattle.steps.specs.Tally.{played}
-use Rattle.array.specs.Passing.{over-long, too-short, has-room}
-use Rattle.array.proofs.PassLaws.{starts-fresh, long-in, needs-in, held-in, stats-in}
+use Rattle.array.specs.Passing.{too-short, has-room}
+use Rattle.array.proofs.PassLaws.{starts-fresh, needs-in, held-in, stats-in}
 use Rattle.array.proofs.twice.two_passes.Statement.{statement}
 use Rattle.array.proofs.twice.two_passes.Tie as tie
 
@@ -17,28 +17,22 @@ measure-requires c κs =
     let at-start = spanned .before .before .before .before .before .before .before .before .before in
     (at-start .pre, spanned .level-spans .ensures)
 
-array-read-if1 : tie.Need-array-read-if1
-array-read-if1 c = search needs
-
-returns : tie.Need-returns
-returns c = over-long (long-in _ _ _ _ (c .before .measure .ensures) (c .if1 .taken))
-
 extent-of-requires : tie.Need-extent-of-requires
 extent-of-requires c κs = search needs
 
 has-room-requires : tie.Need-has-room-requires
 has-room-requires c κs = search needs
 
-returns-2 : tie.Need-returns-2
-returns-2 c =
+returns : tie.Need-returns
+returns c =
     let found = c .before .before in
-    let measured = found .before .before .before in
-    too-short (needs-in _ _ _ _ _ (measured .measure .ensures) (found .before .before .if1 .left) (found .extent-of .ensures))
-    (sym (c .before .has-room .ensures) ∙ not-true _ (c .if2 .taken))
+    let measured = found .before .before in
+    too-short (needs-in _ _ _ _ _ (measured .measure .ensures) (found .extent-of .ensures))
+    (sym (c .before .has-room .ensures) ∙ not-true _ (c .if1 .taken))
 
 pass-requires : tie.Need-pass-requires
 pass-requires c κs =
-    let spanned = c .before .before .before .before .before .before .before .before .before .before .before .before .before .before in
+    let spanned = c .before .before .before .before .before .before .before .before .before .before .before .before .before in
     let at-start = spanned .before .before .before .before .before .before .before .before .before in
     (at-start .pre, spanned .level-spans .ensures)
 
@@ -57,15 +51,15 @@ same-length-2 c = search needs
 same-length-3 : tie.Need-same-length-3
 same-length-3 c = search needs
 
-returns-3 : tie.Need-returns-3
-returns-3 c =
+returns-2 : tie.Need-returns-2
+returns-2 c =
     let wrote = c .before .before .before .before .before .before .before .before .before in
     let fits = wrote .before .before .before .before .before .before .before in
     let found = fits .before .before in
-    let measured = found .before .before .before in
+    let measured = found .before .before in
     let again = wrote .pass .ensures ∙ ap (played _) (starts-fresh _ _ _) in
-    has-room (needs-in _ _ _ _ _ (measured .measure .ensures) (found .before .before .if1 .left) (found .extent-of .ensures))
-    (sym (fits .before .has-room .ensures) ∙ not-false _ (fits .if2 .left)) (held-in _ _ _ _ _ again) (c .before .stats-of .ensures ∙ stats-in _ _ _ _ _ again)
+    has-room (needs-in _ _ _ _ _ (measured .measure .ensures) (found .extent-of .ensures))
+    (sym (fits .before .has-room .ensures) ∙ not-false _ (fits .if1 .left)) (held-in _ _ _ _ _ again) (c .before .stats-of .ensures ∙ stats-in _ _ _ _ _ again)
     (c .window-verdict .ensures _ _)
 
 pub two-passes-spec : {M : Type 1} → statement M
@@ -74,15 +68,13 @@ two-passes-spec =
     (tie.spec
     level-spans-requires
     measure-requires
-    array-read-if1
-    returns
     extent-of-requires
     has-room-requires
-    returns-2
+    returns
     pass-requires
     stats-of-requires
     window-verdict-requires
     same-length
     same-length-2
     same-length-3
-    returns-3)
+    returns-2)

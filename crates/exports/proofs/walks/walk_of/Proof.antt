@@ -32,12 +32,6 @@ enum-told-3 c = search needs
 not-walked-requires-3 : tie.Need-not-walked-requires-3
 not-walked-requires-3 c κs = search needs
 
-enum-told-4 : tie.Need-enum-told-4
-enum-told-4 c = search needs
-
-not-walked-requires-4 : tie.Need-not-walked-requires-4
-not-walked-requires-4 c κs = search needs
-
 returns : tie.Need-returns
 returns c =
     let k = c .before .counters-of .ensures in
@@ -55,9 +49,6 @@ returns-3 c = search needs
 returns-4 : tie.Need-returns-4
 returns-4 c = search needs
 
-returns-5 : tie.Need-returns-5
-returns-5 c = search needs
-
 pub walk-of-spec : {M : Type 1} → statement M
 walk-of-spec =
     tie.close
@@ -71,10 +62,7 @@ walk-of-spec =
     not-walked-requires-2
     enum-told-3
     not-walked-requires-3
-    enum-told-4
-    not-walked-requires-4
     returns
     returns-2
     returns-3
-    returns-4
-    returns-5)
+    returns-4)

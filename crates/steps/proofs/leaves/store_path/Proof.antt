@@ -13,25 +13,32 @@ use Rattle.steps.specs.Paths.{pools}
 use Rattle.steps.proofs.leaves.store_path.Statement.{statement}
 use Rattle.steps.proofs.leaves.store_path.Tie as tie
 
-room : (c : tie.Else1) → let a = c .before .before .before .before .before .args in a .at + a .n ≤ length (a .paths .now)
+room : (c : tie.Else1) →
+    let at-start = c .before .before .before .before .before .before .before in
+    at-start .args .at + at-start .args .n ≤ length (at-start .args .paths .now)
 room c = fitting _ _ _ (c .before .fits2 .ensures) (c .if1 .left)
+
+path-room-requires : tie.Need-path-room-requires
+path-room-requires c κs = search needs
 
 fits-requires : tie.Need-fits-requires
 fits-requires c κs = search needs
 
 returns : tie.Need-returns
 returns c =
-    let a = c .before .before .before .before .before .args in
-    let p = c .before .before .before .before .before .pre in
+    let at-start = c .before .before .before .before .before .before .before in
+    let a = at-start .args in
+    let p = at-start .pre in
+    let r = c .before .before .path-room .ensures .1 in
     let h : length (a .paths .now) < a .at + a .n = past _ _ _ (c .before .fits2 .ensures) (c .if1 .taken) in
-    let l = path-length (pools (a .names .now) (a .declared-names .now)) (a .handle) (a .tag) (a .path .now) (a .plen) (a .n) (p .3) (p .0) (omega arith) (p .1) in
-    (sym (store-out _ _ _ (omega (arith, l))), refl)
+    let l = path-length (pools (a .names .now) (a .declared-names .now)) (a .handle) (a .tag) (a .path .now) (a .plen) (a .n) (p .2) r (omega (arith, p .0)) (p .0) in
+    (sym (store-out _ _ _ (omega (arith, l))), (refl, r))
 
 write-tag-requires : tie.Need-write-tag-requires
 write-tag-requires c κs =
-    let at-start = c .before .before .before .before .before .before in
+    let at-start = c .before .before .before .before .before .before .before .before in
     let p = at-start .pre in
-    (p .3, omega (arith, p .1))
+    (p .2, omega (arith, p .0))
 
 sub-copy-run : tie.Need-sub-copy-run
 sub-copy-run c = search needs
@@ -54,16 +61,18 @@ returns-2 : tie.Need-returns-2
 returns-2 c =
     let after-write-tag = c .before .before .before .before .before .before .before in
     let else-1 = after-write-tag .before .before in
-    let at-start = else-1 .before .before .before .before .before in
+    let at-start = else-1 .before .before .before .before .before .before .before in
     let a = at-start .args in
     let p = at-start .pre in
-    let w = after-write-tag .write-tag .ensures in
-    (path-copied (pools (a .names .now) (a .declared-names .now)) (a .handle) (a .tag) (a .path .now) (a .plen) (a .n) (p .3) (p .0) (omega (arith, p .1)) (p .1) _ _ _ _ _ (sub-zero _) (room (else-1)) w (c .before .before .copy-run .ensures), take-kept _ _ _ _ w (omega (arith, p .0, p .1)))
+    let r = else-1 .before .before .path-room .ensures .1 in
+    let w = after-write-tag .write-tag .ensures .0 in
+    (path-copied (pools (a .names .now) (a .declared-names .now)) (a .handle) (a .tag) (a .path .now) (a .plen) (a .n) (p .2) r (omega (arith, p .0)) (p .0) _ _ _ _ _ (sub-zero _) (room (else-1)) w (c .before .before .copy-run .ensures), (take-kept _ _ _ _ w (omega (arith, r, p .0)), r))
 
 pub store-path-spec : {M : Type 1} → statement M
 store-path-spec =
     tie.close
     (tie.spec
+    path-room-requires
     fits-requires
     returns
     write-tag-requires

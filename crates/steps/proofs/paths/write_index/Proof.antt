@@ -1,6 +1,8 @@
 -- A bracket, the digits and a bracket are one run.
 use borrow.Author.Needs.{needs}
 use native.Mathlib.Omega.{arith}
+use mathlib.Core.Path.{sym, _∙_}
+use lib.ListN.{length-set}
 use Rattle.steps.proofs.PathLaws.{between}
 use Rattle.steps.proofs.paths.write_index.Statement.{statement}
 use Rattle.steps.proofs.paths.write_index.Tie as tie
@@ -24,7 +26,10 @@ element-write-path-2 : tie.Need-element-write-path-2
 element-write-path-2 c = search needs
 
 returns : tie.Need-returns
-returns c = between _ _ _ _ _ _ _ (c .before .before .pre .0) (omega (arith, c .before .write-decimal-arg .given .0 .1)) (c .write-decimal .ensures .1)
+returns c =
+    let a = c .before .before .args in
+    let n = c .before .write-decimal-arg .given .0 .1 in
+    (between _ _ _ _ _ _ _ (c .before .before .pre .0) (omega (arith, n)) (c .write-decimal .ensures .1), sym (length-set (a .path .now) (a .plen) 91) ∙ n)
 
 pub write-index-spec : {M : Type 1} → statement M
 write-index-spec =

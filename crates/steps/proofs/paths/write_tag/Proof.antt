@@ -1,7 +1,8 @@
 -- A dot is stored before the tag, which follows it.
 use borrow.Author.Needs.{needs}
 use native.Mathlib.Omega.{arith}
-use mathlib.Core.Path.{ap, subst}
+use mathlib.Core.Path.{sym, ap, _∙_, subst}
+use lib.ListN.{length-set}
 use Rattle.steps.specs.Paths.{pools, tagLength, TagLies}
 use Rattle.steps.proofs.PathLaws.{tag-put}
 use Rattle.steps.proofs.paths.write_tag.Statement.{statement}
@@ -39,12 +40,15 @@ returns c =
     let at-start = c .before .before .before .before .before .before .before in
     let n = c .write-label .ensures .1 in
     let m = ap (tagLength (at-start .args .handle)) (c .before .before .before .tag .given .1) in
-    tag-put _ _ _ _ _ _ _ (c .before .before .before .tag .given .1) (omega (arith, n)) (c .write-label .ensures .0)
+    let a = at-start .args in
+    (tag-put _ _ _ _ _ _ _ (c .before .before .before .tag .given .1) (omega (arith, n)) (c .write-label .ensures .0), sym (length-set (a .path .now) (a .plen) 46) ∙ n)
 
 returns-2 : tie.Need-returns-2
 returns-2 c =
     let n = c .write-raw .ensures .1 in
-    tag-put _ _ _ _ _ _ _ (c .before .before .enum-told .given .1) (omega (arith, n)) (c .write-raw .ensures .0)
+    let at-start = c .before .before .before .before .before .before in
+    let a = at-start .args in
+    (tag-put _ _ _ _ _ _ _ (c .before .before .enum-told .given .1) (omega (arith, n)) (c .write-raw .ensures .0), sym (length-set (a .path .now) (a .plen) 46) ∙ n)
 
 pub write-tag-spec : {M : Type 1} → statement M
 write-tag-spec =
