@@ -16,6 +16,8 @@ NEVER_REFUSING = ("bits::decimal::", "bits::digits::", "schema::labels::", "sche
 SAYING = "said"
 # walks: a cut window is the front of the whole one
 CUT = {"array::decode_struct_array", "array::decode_struct_array_exact", "array::decode_object_ref_array"}
+# calls that give paths
+PATHS = {"array::decode_struct_array", "array::decode_struct_array_exact", "exports::vrf_struct_array", "exports::vrf_struct_array_exact"}
 # calls that answer a verdict, on a window or on counters
 JUDGE = CUT | {
     "exports::vrf_struct_array", "exports::vrf_struct_array_exact", "exports::vrf_object_array", "array::stats::verdict", "exports::vrf_verdict",
@@ -48,4 +50,5 @@ KINDS = {
     "longer": owes_longer,
     "prefix": lambda call: call.name in CUT,
     "judged": lambda call: call.name in JUDGE,
+    "paths": lambda call: call.name in PATHS,
 }

@@ -18,6 +18,7 @@ for several lists side by side (MAKERS of contracts.py). In all kinds:
   prefix-    under FirstBits, and two accepted answers that meet the contract: Begins, or PairsBegin, of these answers and buffers
   judged-    under the contract: OnWindow of an accepted answer's counters and verdict, or InC of the struct for C, with the call's own walk
              and bits; OnSet of an answer on counters alone
+  paths-     under the contract: PathsFit of the answer, or PathsFitInC of the struct for C
 """
 import re
 
@@ -31,9 +32,11 @@ OF_DETERMINING = ("promises", "specs/Determining")
 OF_OUTSIDE = ("promises", "specs/Outside")
 OF_PREFIX = ("promises", "specs/Prefix")
 OF_VERDICTS = ("promises", "specs/Verdicts")
+OF_PATHS = ("promises", "specs/Paths")
 FIRST_OF = ("bits", "specs/Refusals", "firstOf")
 NUMBERED_RULES = ("promises", "specs/ExportOrders", "numberedRules")
 ROOM_IN = ("array", "specs/Refusals", "roomIn")
+ANSWER_OF = ("array", "specs/Refusals", "answerOf")
 COUNTERS_OF = ("array", "specs/Refusals", "countersOf")
 COUNTERS_IN = ("exports", "specs/WalkResults", "countersIn")
 VERDICT_NAMED = ("array", "specs/Calls", "verdictNamed")
@@ -323,3 +326,16 @@ class Shapes(Spoken):
         own = self.call.name.startswith("array::")
         form = VERDICT_NAMED if own else VERDICT_NUMBER
         return "OnSet", (named(form), ("app", named(COUNTERS_OF if own else COUNTERS_IN), (counters,)), r)
+
+    def paths(self, statement):
+        self.opened(statement)
+        found = {}
+        if len(statement.premises) != 1 or len(self.contract.clauses) != 1 or not self.fits(statement.premises[0], self.contract.clauses[0].whole, found):
+            raise Wrong("its premise is not an answer that meets the contract")
+        r = next(("var", v) for v in found if found[v] == ANSWER)
+        own = self.call.name.startswith("array::")
+        said, of = ("PathsFit", ("app", named(ANSWER_OF), (r,))) if own else ("PathsFitInC", r)
+        name = head(statement.conclusion)
+        if name is None or name[1] != (*OF_PATHS, said) or arguments(statement.conclusion) != (of,):
+            raise Wrong("it doesn't end in what the call's answer says of paths")
+        self.all_stand(statement, found)

@@ -82,6 +82,35 @@ STATED = {
           pub partial : Exactly (v ≡ form F.partial) (isClean c ≡ false)
           pub not-empty : v ≡ form F.empty → ⊥
         """,
+    ("promises", "specs/Paths"): """
+        abbrev pub PathsFit : Answer Room → Type 0
+        PathsFit (refused n need) = need .pathBytes ≤ longestPath * need .leaves
+        PathsFit (accepted c need) = need .pathBytes ≤ longestPath * need .leaves
+
+        abbrev pub PathsFitInC : VrfWalk → Type 0
+        PathsFitInC r = r .«path_bytes» ≤ longestPath * r .leaves
+        """,
+    ("framing", "specs/Paths"): """
+        abbrev pub PathFits : (path : List ℕ) → Type 0
+        PathFits path = length path ≤ longestPath
+
+        abbrev pub workingPaths : Trace → List (List ℕ)
+        workingPaths [] = []
+        workingPaths (element p ∷ t) = p ∷ workingPaths t
+        workingPaths (array p ∷ t) = p ∷ workingPaths t
+        workingPaths (leaf x ∷ t) = x .path ∷ workingPaths t
+        workingPaths (number x ∷ t) = workingPaths t
+        workingPaths (pair x ∷ t) = workingPaths t
+        workingPaths (truncation ∷ t) = workingPaths t
+        workingPaths (error ∷ t) = workingPaths t
+        workingPaths (implicit ∷ t) = workingPaths t
+        workingPaths (nested n ∷ t) = workingPaths t
+        workingPaths (root n ∷ t) = workingPaths t
+        """,
+    ("bits", "specs/Sizes"): """
+        abbrev pub longestPath : ℕ
+        longestPath = 852
+        """,
     ("array", "specs/Calls"): """
         abbrev pub verdictNamed : F.Verdict → Verdict
         verdictNamed F.clean = verdict.Clean
