@@ -24,7 +24,6 @@ static const char *refusal_in_words(uint32_t number) {
   case VRF_REFUSED_TOO_LONG: return "a bit count over 524,288";
   case VRF_REFUSED_BROKEN_TABLES: return "a schema or declared table breaks its layout or a size, or the root isn't one of its levels";
   case VRF_REFUSED_SHORT_BUFFER: return "a lent buffer is too short";
-  case VRF_REFUSED_PATH_TOO_LONG: return "a path of over 1,024 bytes";
   default: return "a number that this call doesn't give";
   }
 }

@@ -40,7 +40,7 @@
  *       isn't one of its levels                                                none
  *    3  a lent buffer is too short                                             what each of them needs: fields of the same name
  *    4  a sum of two counters is over 2^64 - 1                                 the left counters
- *    5  a path of over 1,024 bytes                                             none
+ *    5  retired: no call gives it                                              none
  *    6  the bits aren't a fast-array body, or the bytes aren't as many as the
  *       bits take                                                              none
  *    7  a read asks more bits than the window has left                         first: position, second: window's length, third: bits asked
@@ -73,7 +73,7 @@ enum {
   VRF_REFUSED_BROKEN_TABLES = 2,
   VRF_REFUSED_SHORT_BUFFER = 3,
   VRF_REFUSED_COUNTER_OVERFLOW = 4,
-  VRF_REFUSED_PATH_TOO_LONG = 5,
+  /* 5 is retired */
   VRF_REFUSED_NOT_FAST_ARRAY = 6,
   VRF_REFUSED_TOO_FEW_BITS = 7,
   VRF_REFUSED_NUMBER_GOES_ON = 8,
@@ -89,6 +89,7 @@ enum {
 
 enum {
   VRF_LONGEST_WINDOW = 524288, /* bits */
+  VRF_LONGEST_PATH = 852,      /* bytes of a leaf's path, at most */
   VRF_LEAF_WORDS = 5,          /* uint32_t in a leaf */
   VRF_PAIR_WORDS = 2,          /* uint32_t in a pair */
   VRF_CLEAN = 0,               /* verdicts; a refused walk has none, and 0 in its place */
@@ -113,7 +114,7 @@ typedef struct VrfCounters {
 
 /* Accepted: how much of each buffer is filled. Refusal 3: how much of each is needed. */
 typedef struct VrfWalk {
-  uint32_t refusal; /* 1, 2, 5, 3, tried in this order */
+  uint32_t refusal; /* 1, 2, 3, tried in this order */
   uint32_t leaves;  /* leaves, of VRF_LEAF_WORDS each */
   uint32_t path_bytes;
   uint32_t payload_bytes;
@@ -132,7 +133,8 @@ typedef struct VrfWalk {
  * payloads; paths aren't ended by a zero. A payload takes (bits + 7) / 8 bytes, the first bit lowest, the last byte's spare bits 0.
  *
  * How large to lend: call once with lengths 0. The answer is refusal 3 with leaves, path_bytes and payload_bytes; lend
- * VRF_LEAF_WORDS * leaves numbers and so many bytes, and call again. (A walk that gives nothing is accepted at once.) */
+ * VRF_LEAF_WORDS * leaves numbers and so many bytes, and call again. (A walk that gives nothing is accepted at once.) Paths never
+ * need more than VRF_LONGEST_PATH bytes for each leaf. */
 VrfWalk vrf_struct_array(const uint8_t *bytes, size_t bytes_len, uint32_t bits,
                          const uint32_t *rows, size_t rows_len, uint32_t levels, uint32_t root,
                          const uint8_t *names, size_t names_len,

@@ -3,6 +3,8 @@
 #include "check.h"
 #include "window.h"
 
+#include <string.h>
+
 /* Level 1 is the root: handle 2 is an array of level 2. Level 0 has no rows. */
 static const uint32_t rows[] = {
     1, 0, 2, 2, 0,  /* level 1: handle 2 is an array of level 2 */
@@ -208,6 +210,57 @@ static void of_no_bits(const Window *w) {
   SAME(v.verdict, VRF_CLEAN);
 }
 
+/* Twelve levels of the element 4095 and a name of 64 bytes: 852 bytes of path, of a leaf and of an array that is too deep. Lent one
+ * byte less, the walk says how many it needs. */
+static void longest_path(uint32_t handle, uint64_t truncations, uint32_t verdict) {
+  static const uint32_t chain[] = {0, 0, 0, 0, 0, 0, 1, 0, 0, 64}; /* handle 0 is an array of its own level, and has a name */
+  static const uint32_t named[] = {VRF_NONE, 0, 0, 64};             /* so has handle 1 */
+  uint8_t name[64], path[VRF_LONGEST_PATH], paths[VRF_LONGEST_PATH + 1], payload[1];
+  uint32_t leaf[VRF_LEAF_WORDS];
+  Window w, inner;
+  window_clear(&w);
+  memset(name, 'W', sizeof name);
+  for (int level = 0; level < 12; level++) {
+    inner = w;
+    window_clear(&w);
+    put_packed(&w, 4096);
+    put_packed(&w, 4096);
+    if (level == 0) {
+      put_number(&w, handle, 0xab, 8);
+    } else {
+      put_window(&w, 0, &inner);
+    }
+    put_packed(&w, 0);
+    put_packed(&w, 0);
+    memcpy(path + 71 * level, "[4095].", 7);
+    memcpy(path + 71 * level + 7, name, sizeof name);
+  }
+  for (size_t lent = VRF_LONGEST_PATH - 1; lent <= sizeof paths; lent++) {
+    lay_out(paths, sizeof paths);
+    const VrfWalk v = vrf_struct_array(w.bytes, window_bytes(&w), w.bits, chain, 10, 1, 0, name, 64, named, 4, name, 64, leaf,
+                                       VRF_LEAF_WORDS, paths, lent, payload, 1);
+    SAME(v.refusal, lent < VRF_LONGEST_PATH ? VRF_REFUSED_SHORT_BUFFER : 0);
+    SAME(v.leaves, 1);
+    SAME(v.path_bytes, VRF_LONGEST_PATH);
+    if (v.refusal == 0) {
+      SAME_COUNTERS(v.counters, 12, 1, truncations, 0, 0, 0, 0);
+      SAME(v.verdict, verdict);
+      SAME(leaf[1], VRF_LONGEST_PATH);
+      SAME(leaf[2], handle);
+      SAME(payload[0], 0xab);
+      SAME_BYTES(paths, path, sizeof path);
+      SAME_UNTOUCHED(paths + VRF_LONGEST_PATH, 1);
+    } else {
+      SAME_UNTOUCHED(paths, sizeof paths);
+    }
+  }
+}
+
+static void longest_paths(void) {
+  longest_path(1, 0, VRF_CLEAN);
+  longest_path(0, 1, VRF_PARTIAL);
+}
+
 void struct_walks(void) {
   Window w;
   Lent lent;
@@ -226,8 +279,8 @@ void struct_walks(void) {
   nothing_named(vrf_struct_array(w.bytes, window_bytes(&w), w.bits, rows, ROWS, LEVELS, LEVELS, names, NAMES, declared, DECLARED, pool,
                                  POOL, lent.leaves, LEAF_WORDS, lent.paths, PATHS, lent.payloads, PAYLOADS),
                 2, &lent);
-  /* Refusal 5 can't be shown: no tables are known that make a path of over 1,024 bytes. */
   broken_tables(&w);
   without_tables();
   of_no_bits(&w);
+  longest_paths();
 }

@@ -4,7 +4,7 @@ use crate::answer::{Difference, Outcome, walked};
 use crate::port::Desk;
 use crate::walk::WalkCase;
 use crate::window::Window;
-use vrf_proved::lent::{LEAF_WORDS, NONE, PAIR_WORDS, Refusal, Verdict};
+use vrf_proved::lent::{LEAF_WORDS, LONGEST_PATH, NONE, PAIR_WORDS, Refusal, Verdict};
 
 #[derive(Clone)]
 pub enum OpeningCase {
@@ -55,11 +55,11 @@ impl OpeningCase {
         }
     }
 
-    /// Room for any answer to a window of so many bits: no leaf or pair takes fewer than 16, no path is longer than 1,024.
+    /// Room for any answer to a window of so many bits: no leaf or pair takes fewer than 16.
     pub fn lend(desk: &mut Desk, bits: u32) {
         let records = bits as usize / 16 + 2;
         desk.leaves.lend(LEAF_WORDS * records, 0);
-        desk.paths.lend(1024 * records, 0);
+        desk.paths.lend(LONGEST_PATH * records, 0);
         desk.payloads.lend(bits as usize / 8 + records, 0);
         desk.pairs.lend(PAIR_WORDS * records, 0);
     }

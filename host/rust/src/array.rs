@@ -72,7 +72,7 @@ pub fn decode_struct_array(
     counted(try_decode_struct_array(data, bit_count, schema, declared), stats)
 }
 
-/// [`decode_struct_array`] with its own counters and verdict, or the refusal: 1, 2 or 5.
+/// [`decode_struct_array`] with its own counters and verdict, or the refusal: 1 or 2.
 ///
 /// ```
 /// use vrf_proved::lent::Verdict;
@@ -127,7 +127,7 @@ pub fn decode_struct_array_exact(
     counted(try_decode_struct_array_exact(data, bit_count, declared), stats)
 }
 
-/// [`decode_struct_array_exact`] with its own counters and verdict, or the refusal: 1, 2 or 5.
+/// [`decode_struct_array_exact`] with its own counters and verdict, or the refusal: 1 or 2.
 ///
 /// ```
 /// use vrf_proved::{lent::Verdict, try_decode_struct_array_exact};

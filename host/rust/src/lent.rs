@@ -26,6 +26,8 @@ use std::fmt;
 
 /// The longest window that is walked or opened, in bits.
 pub const LONGEST_WINDOW: u32 = 524_288;
+/// No leaf's path has more bytes: so many for each leaf are room for all paths.
+pub const LONGEST_PATH: usize = raw::LONGEST_PATH;
 /// A root that means no schema; the start of a declared name, with length 0, that means none; the handle of a kept tail; in C the
 /// answer for a number that is no byte, where [`byte_angle_steps`] gives `None`.
 pub const NONE: u32 = raw::NONE;
@@ -63,8 +65,6 @@ impl Refusal {
     pub const SHORT_BUFFER: u32 = 3;
     /// A sum of two counters is over 2^64 - 1.
     pub const COUNTER_OVERFLOW: u32 = 4;
-    /// A path of over 1,024 bytes.
-    pub const PATH_TOO_LONG: u32 = 5;
     /// The bits aren't a fast-array body, or the bytes aren't as many as the bits take.
     pub const NOT_FAST_ARRAY: u32 = 6;
     /// A read asks more bits than the window has left.
@@ -96,7 +96,6 @@ impl Refusal {
             Self::BROKEN_TABLES => "a schema or declared table breaks its layout or a size, or the root isn't one of its levels",
             Self::SHORT_BUFFER => "a lent buffer is too short",
             Self::COUNTER_OVERFLOW => "a sum of two counters is over 2^64 - 1",
-            Self::PATH_TOO_LONG => "a path of over 1,024 bytes",
             Self::NOT_FAST_ARRAY => "the bits aren't a fast-array body, or the bytes aren't as many as the bits take",
             Self::TOO_FEW_BITS => "a read asks more bits than the window has left",
             Self::NUMBER_GOES_ON => "a packed number's fifth byte says that another follows",
@@ -185,7 +184,7 @@ impl Tables<'_> {
 pub struct Buffers<'a> {
     /// [`LEAF_WORDS`] numbers a leaf.
     pub leaves: &'a mut [u32],
-    /// Paths, one behind the other.
+    /// Paths, one behind the other; none has more than [`LONGEST_PATH`] bytes.
     pub paths: &'a mut [u8],
     /// Payloads, one behind the other, each of whole bytes with its spare bits 0.
     pub payloads: &'a mut [u8],
@@ -234,7 +233,7 @@ fn walk_of(w: raw::VrfWalk) -> Result<Walk, Refusal> {
     })
 }
 
-/// The array of structs in the first `bits` bits, taken apart into leaves. Refusals: 1, 2, 5, 3, in this order.
+/// The array of structs in the first `bits` bits, taken apart into leaves. Refusals: 1, 2, 3, in this order.
 ///
 /// ```
 /// # use vrf_proved::lent::{self, Buffers, Tables};
@@ -278,7 +277,7 @@ pub fn struct_array(bytes: &[u8], bits: u32, tables: Tables<'_>, lent: Buffers<'
     })
 }
 
-/// The same with no schema, and with no zero byte accepted behind the array. Refusals: 1, 2, 5, 3.
+/// The same with no schema, and with no zero byte accepted behind the array. Refusals: 1, 2, 3.
 ///
 /// ```
 /// # use vrf_proved::lent::{self, Buffers, Verdict};

@@ -1,6 +1,7 @@
 //! The C interface as it stands in host/c/vrf.h: structs, functions, nothing else. What each call owes and gives is said there.
 
 pub(crate) const NONE: u32 = u32::MAX;
+pub(crate) const LONGEST_PATH: usize = 852;
 pub(crate) const LEAF_WORDS: usize = 5;
 pub(crate) const PAIR_WORDS: usize = 2;
 pub(crate) const ITEM_WORDS: usize = 2;
