@@ -11,8 +11,8 @@ use Rattle.framing.specs.Refusing.{Room, Answer, refused, accepted}
 use Rattle.outputs.specs.Answers.{Call, Lent, final}
 use Rattle.outputs.proofs.Passes.{determined, refusal-keeps, pairs-determined, pairs-refusal-keeps}
 use Rattle.array.specs.Refusals.{countersOf, answerOf, pairsOf, sumsOf}
-use Rattle.array.specs.Merges.{Sums, summed, overflowing, merge}
-use Rattle.array.specs.Calls.{verdictIs, verdictNamed, Judges, Judged, PairsJudged, Decodes, DecodesPairs}
+use Rattle.array.specs.Merges.{Sums, summed, overflowing}
+use Rattle.array.specs.Calls.{verdictIs, verdictNamed, Judges, Adds, Judged, PairsJudged, Decodes, DecodesPairs}
 use Rattle.array.specs.declared.ArrayDecodeStats.{ArrayDecodeStats}
 use Rattle.array.specs.declared.Extent.{Extent}
 use Rattle.array.specs.declared.Verdict.{Verdict}
@@ -102,11 +102,11 @@ one-object bytes bits b r s x y f g =
     (sym (object-back bits r (f .judged)) ∙ ap (objectWith bits) (d .0) ∙ object-back bits s (g .judged), d .1)
 
 -- The same of a merge, and of a verdict.
-pub one-merged : (left right : Counters) (r s : Merged) → sumsOf r ≡ merge left right → sumsOf s ≡ merge left right → r ≡ s
+pub one-merged : (left right : ArrayDecodeStats) (r s : Merged) → Adds left right r → Adds left right s → r ≡ s
 one-merged left right r s f g = sym (merged-back r) ∙ ap mergedWith (f ∙ sym g) ∙ merged-back s
 
-pub one-verdict : (c : Counters) (r s : Verdict) → Judges c r → Judges c s → r ≡ s
-one-verdict c r s f g = sym (verdict-back r) ∙ ap verdictNamed (f ∙ sym g) ∙ verdict-back s
+pub one-verdict : (stats : ArrayDecodeStats) (r s : Verdict) → Judges stats r → Judges stats s → r ≡ s
+one-verdict stats r s f g = sym (verdict-back r) ∙ ap verdictNamed (f ∙ sym g) ∙ verdict-back s
 
 -- ---- refusals change no buffer
 

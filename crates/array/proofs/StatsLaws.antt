@@ -8,10 +8,13 @@ use borrow.Author.Tests.{ltb-true, leb-true, leb-false, lt-ltb, le-ltb, ne-eqb}
 use Rattle.framing.specs.Counters.{Counters, sums, faults, isClean}
 use Rattle.framing.specs.declared.Walk.{Walk}
 use Rattle.framing.specs.Sinks.{walker, givesLeaves}
+use Rattle.framing.specs.Verdicts.{countersVerdict}
 use Rattle.framing.proofs.VerdictLaws.{set-clean, set-partial, silent-empty, none-partial, some-verdict}
 use Rattle.bits.proofs.ChoiceLaws.{and-true}
 use Rattle.array.specs.Merges.{summed, overflowing, counterLimit, bounded, merge}
-use Rattle.array.specs.Calls.{Judges, JudgesWindow}
+use Rattle.array.specs.Calls.{verdictIs, statsClean, Judges, JudgesWindow}
+use Rattle.array.specs.Refusals.{countersOf}
+use Rattle.array.specs.declared.ArrayDecodeStats.{ArrayDecodeStats}
 use Rattle.array.specs.declared.Verdict.{Verdict}
 use Rattle.array.specs.declared.Verdict.the-variants as verdict
 
@@ -39,11 +42,11 @@ last-decides c t r n b = let e : c .implicits ≡ faults c = omega arith in ap (
 
 -- ---- verdicts
 
-pub judged-clean : (c : Counters) → isClean c ≡ true → Judges c verdict.Clean
-judged-clean c h = sym (set-clean c h)
+pub judged-clean : (s : ArrayDecodeStats) → statsClean s ≡ true → Judges s verdict.Clean
+judged-clean s h = sym (set-clean (countersOf s) h)
 
-pub judged-partial : (c : Counters) → isClean c ≡ false → Judges c verdict.Partial
-judged-partial c h = sym (set-partial c h)
+pub judged-partial : (s : ArrayDecodeStats) → statsClean s ≡ false → Judges s verdict.Partial
+judged-partial s h = sym (set-partial (countersOf s) h)
 
 -- of a window: nothing was sent to a walk that counts nothing then; nothing was sent to an object walk; something was sent
 module _ (s : Walk) (bits : ℕ) (c : Counters) where
@@ -53,7 +56,7 @@ module _ (s : Walk) (bits : ℕ) (c : Counters) where
   pub judged-nothing : givesLeaves s && eqb bits 0 ≡ false → bits ≡ 0 → JudgesWindow s bits c verdict.Partial
   judged-nothing e z t root = sym (none-partial (walker s t root) bits c e z)
 
-  pub judged-some : (bits ≡ 0 → ⊥) → (v : Verdict) → Judges c v → JudgesWindow s bits c v
+  pub judged-some : (bits ≡ 0 → ⊥) → (v : Verdict) → verdictIs v ≡ countersVerdict c → JudgesWindow s bits c v
   judged-some h v j t root = j ∙ sym (some-verdict (walker s t root) bits c (omega arith))
 
 -- ---- sums

@@ -1,10 +1,11 @@
--- The contracts of the three public walks: the answer and the buffers of `outputs`, and the verdict of an accepted answer; of a verdict on
--- counters alone and of a merge.
+-- The contracts of the three public walks: the answer and the buffers of `outputs`, and the verdict of an accepted answer; of what is said of
+-- counters alone, and of a merge.
 use Prim.Native.Nat.{ℕ}
 use mathlib.Core.Path.{_≡_}
+use mathlib.Core.Bool.{Bool}
 use mathlib.Core.List.{List}
 use Rattle.schema.specs.Tables.{Tables}
-use Rattle.framing.specs.Counters.{Counters}
+use Rattle.framing.specs.Counters.{Counters, isClean}
 use Rattle.framing.specs.declared.Walk.{Walk}
 use Rattle.framing.specs.Sinks.{Walker, walker, struct, exact, object}
 use Rattle.framing.specs.Verdicts as F
@@ -12,6 +13,7 @@ use Rattle.framing.specs.Verdicts.{countersVerdict, verdictOf}
 use Rattle.outputs.specs.Answers.{Call, Lent, Answered, PairsAnswered}
 use Rattle.array.specs.Merges.{merge}
 use Rattle.array.specs.Refusals.{countersOf, answerOf, pairsOf, sumsOf}
+use Rattle.array.specs.declared.ArrayDecodeStats.{ArrayDecodeStats}
 use Rattle.array.specs.declared.Merged.{Merged}
 use Rattle.array.specs.declared.Verdict.{Verdict}
 use Rattle.array.specs.declared.Verdict.the-variants as verdict
@@ -46,9 +48,13 @@ verdictNamed F.clean = verdict.Clean
 verdictNamed F.partial = verdict.Partial
 verdictNamed F.empty = verdict.Empty
 
--- a verdict on a set of counters, of one walk or of several: how many bits were walked isn't asked, so it is never empty
-abbrev pub Judges : Counters → Verdict → Type 0
-Judges c v = verdictIs v ≡ countersVerdict c
+-- whether a set of counters, of one walk or of several, is clean
+abbrev pub statsClean : ArrayDecodeStats → Bool
+statsClean s = isClean (countersOf s)
+
+-- the verdict on such a set: how many bits were walked isn't asked, so it is never empty
+abbrev pub Judges : ArrayDecodeStats → Verdict → Type 0
+Judges s v = verdictIs v ≡ countersVerdict (countersOf s)
 
 -- a verdict on a window of so many bits, walked in this way, with these counters; tables make no difference
 abbrev pub JudgesWindow : Walk → (bits : ℕ) → Counters → Verdict → Type 0
@@ -69,8 +75,8 @@ PairsJudged bits (objects.Short n) = Unit
 -- ---- sums
 
 -- an answer that says what the sums of two walks' counters are
-abbrev pub Adds : (left right : Counters) → Merged → Type 0
-Adds left right r = sumsOf r ≡ merge left right
+abbrev pub Adds : (left right : ArrayDecodeStats) → Merged → Type 0
+Adds left right r = sumsOf r ≡ merge (countersOf left) (countersOf right)
 
 -- ---- the contracts: what was lent, the answer, and what the buffers hold at the exit
 

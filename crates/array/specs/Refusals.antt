@@ -58,3 +58,13 @@ refusedPairs (accepted c need) = record { number = 0; pairs = 0 }
 abbrev pub refusedSum : Sums → ℕ
 refusedSum (summed c) = 0
 refusedSum (overflowing n c) = n
+
+-- of each answer
+abbrev pub said : StructArray → Saying
+said answer = refusedRoom (answerOf answer)
+
+abbrev pub pairsSaid : ObjectArray → PairSaying
+pairsSaid answer = refusedPairs (pairsOf answer)
+
+abbrev pub mergeNumber : Merged → ℕ
+mergeNumber answer = refusedSum (sumsOf answer)

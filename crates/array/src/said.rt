@@ -1,7 +1,7 @@
 // What an answer says of document 01's refusals: the number, 0 for an accepted call, and the values of its table.
 ghost use mathlib.Core.Path.{_≡_};
 ghost use Rattle.bits.specs.Refusals.{refusal};
-ghost use Rattle.array.specs.Refusals.{answerOf, pairsOf, sumsOf, refusedRoom, refusedPairs, refusedSum, sayingAs};
+ghost use Rattle.array.specs.Refusals.{said, pairsSaid, mergeNumber, sayingAs};
 use crate::Merged;
 use crate::ObjectArray;
 use crate::StructArray;
@@ -32,7 +32,7 @@ fn numbers(number: u32, leaves: u32, paths: u32, payloads: u32) -> Saying
 }
 
 pub fn said(answer: StructArray) -> Saying
-    ensures { λ r. ⌜ r ≡ refusedRoom (answerOf answer) ⌝ }
+    ensures { λ r. ⌜ r ≡ said answer ⌝ }
 {
     match answer {
         StructArray::Decoded(_, _, _) => numbers(0, 0, 0, 0),
@@ -43,7 +43,7 @@ pub fn said(answer: StructArray) -> Saying
 }
 
 pub fn pairs_said(answer: ObjectArray) -> PairSaying
-    ensures { λ r. ⌜ r ≡ refusedPairs (pairsOf answer) ⌝ }
+    ensures { λ r. ⌜ r ≡ pairsSaid answer ⌝ }
 {
     match answer {
         ObjectArray::Decoded(_, _, _) => PairSaying {
@@ -60,7 +60,7 @@ pub fn pairs_said(answer: ObjectArray) -> PairSaying
 
 // Of a merge, whose refusal has the left counters beside its number: the answer has them.
 pub fn merge_number(answer: Merged) -> u32
-    ensures { λ r. ⌜ r ≡ refusedSum (sumsOf answer) ⌝ }
+    ensures { λ r. ⌜ r ≡ mergeNumber answer ⌝ }
 {
     match answer {
         Merged::Sum(_) => 0,

@@ -2,10 +2,10 @@
 ghost use mathlib.Core.Path.{_≡_};
 ghost use Prim.Native.Nat.{_+_};
 ghost use lib.Dec.{ltb};
-ghost use Rattle.framing.specs.Counters.{isClean, sums};
+ghost use Rattle.framing.specs.Counters.{sums};
 ghost use Rattle.array.specs.Refusals.{countersOf};
 ghost use Rattle.array.specs.Merges.{counterLimit, bounded};
-ghost use Rattle.array.specs.Calls.{Judges, Adds};
+ghost use Rattle.array.specs.Calls.{statsClean, Judges, Adds};
 use crate::ArrayDecodeStats;
 use crate::Merged;
 use crate::Verdict;
@@ -13,7 +13,7 @@ use crate::Verdict;
 // Whether nothing but elements and fields was counted. It is so too for a struct or exact walk of no bits, whose verdict is
 // empty.
 pub fn is_clean(stats: ArrayDecodeStats) -> bool
-    ensures { λ r. ⌜ r ≡ isClean (countersOf stats) ⌝ }
+    ensures { λ r. ⌜ r ≡ statsClean stats ⌝ }
 {
     if stats.truncations != 0 {
         return false;
@@ -33,7 +33,7 @@ pub fn is_clean(stats: ArrayDecodeStats) -> bool
 // The verdict on a set of counters, of one walk or of several added up: clean or partial. The rule on no bits is a window's: a set
 // doesn't tell how many bits were walked, and is never empty. The verdict on a window stands in its walk's answer.
 pub fn verdict(stats: ArrayDecodeStats) -> Verdict
-    ensures { λ r. ⌜ Judges (countersOf stats) r ⌝ }
+    ensures { λ r. ⌜ Judges stats r ⌝ }
 {
     if is_clean(stats) {
         Verdict::Clean
@@ -75,7 +75,7 @@ fn sums_fit(left: ArrayDecodeStats, right: ArrayDecodeStats) -> bool
 
 // The counters of two walks, counter by counter.
 pub fn merge_from(left: ArrayDecodeStats, right: ArrayDecodeStats) -> Merged
-    ensures { λ r. ⌜ Adds (countersOf left) (countersOf right) r ⌝ }
+    ensures { λ r. ⌜ Adds left right r ⌝ }
 {
     if !sums_fit(left, right) {
         return Merged::Overflow(left);

@@ -1,11 +1,12 @@
 -- The laws of cursors: what is good, what a bad one gets, and the window's fields as fields of the bytes.
 use Prim.Native.Nat.{ℕ, _+_, _≤_, _<_}
-use mathlib.Core.Path.{_≡_, sym, ap, _∙_}
+use mathlib.Core.Path.{_≡_, sym, ap, _∙_, subst}
 use mathlib.Core.List.{List}
 use mathlib.Core.Bool.{Bool, true, false, not}
-use borrow.Author.Tests.{le-leb, lt-leb, leb-true, lt-ltb, le-ltb, not-true, not-false}
+use lib.Dec.{leb}
+use borrow.Author.Tests.{le-leb, lt-leb, leb-true, leb-false, lt-ltb, le-ltb, not-true, not-false}
 use Rattle.bits.specs.Bits.{num, field}
-use Rattle.bits.proofs.ChoiceLaws.{and-true}
+use Rattle.bits.proofs.ChoiceLaws.{by-cases, and-true}
 use Rattle.bits.proofs.FieldLaws.{field-field}
 use Rattle.bitio.specs.Cursors.{bitsOf, good, window, badCursor, atCursor, asking}
 use Rattle.bitio.specs.declared.Cursor.{Cursor}
@@ -50,6 +51,10 @@ module _ (s : List ℕ) (c : Cursor) where
     unfolding atCursor
     at-good e = simp e
 
+    -- what holds of every refusal and of what is made of the window holds of the answer
+    pub at-holds : (E : A → Type 0) → ((r : Refusal) → E (refused r)) → (good s c ≡ true → E (inside (window s c))) → E (atCursor s c refused inside)
+    at-holds E fails holds = by-cases (good s c) (λ g. subst E (sym (at-good g)) (holds g)) (λ g. subst E (sym (at-bad g)) (fails (badCursor s c)))
+
     -- the code's way out for a bad cursor
     pub bad-way : (b : Bool) (r : Refusal) → b ≡ good s c → not b ≡ true → r ≡ badCursor s c → refused r ≡ atCursor s c refused inside
     bad-way b r e h er = ap refused er ∙ sym (at-bad (failed b e h))
@@ -66,3 +71,9 @@ module _ {A : Type 0} (len pos n : ℕ) (refused : Refusal → A) (enough : A) w
   pub asking-enough : pos + n ≤ len → asking len pos n refused enough ≡ enough
   unfolding asking
   asking-enough h = simp (le-ltb _ _ h)
+
+  pub asking-holds : (E : A → Type 0) → ((r : Refusal) → E (refused r)) → (pos + n ≤ len → E enough) → E (asking len pos n refused enough)
+  asking-holds E fails holds =
+      by-cases (leb (pos + n) len)
+      (λ h. let k = leb-true (pos + n) len h in subst E (sym (asking-enough k)) (holds k))
+      (λ h. subst E (sym (asking-few (leb-false (pos + n) len h))) (fails (TooFew pos len n)))

@@ -4,3 +4,4 @@ pub mod ReadLaws
 pub mod CopyLaws
 pub mod RefusalOrder
 pub mod Outside
+pub mod Ends

@@ -2,7 +2,6 @@
 use Prim.Native.Nat.{ℕ, _+_}
 use mathlib.Core.Path.{_≡_, refl, _∙_}
 use mathlib.Core.List.{List}
-use mathlib.Core.Option.{Option, none, some}
 use lib.ListN.{length}
 use lib.Dec.{ltb}
 use Rattle.bits.specs.Bits.{field}
@@ -12,40 +11,11 @@ use Rattle.bitio.specs.Cursors.{bitsOf, good, window, atCursor, asking, 
 use Rattle.bitio.specs.Reads.{seen, taken, widestRead, readBits}
 use Rattle.bitio.specs.Copies.{copyAnswer}
 use Rattle.bits.specs.Refusals.{firstOf}
-use Rattle.bitio.specs.Order.{openingRules, takingRules, readingRules, copyingRules}
+use Rattle.bitio.specs.Order.{refusalOfOpened, refusalOfSkipped, refusalOfTaken, refusalOfBits, refusalOfCopied, openingRules, takingRules, readingRules, copyingRules}
 use Rattle.bits.proofs.ChoiceLaws.{by-cases}
 use Rattle.bitio.specs.declared.Cursor.{Cursor}
-use Rattle.bitio.specs.declared.Refusal.{Refusal}
-use Rattle.bitio.specs.declared.Opened.{Opened}
-use Rattle.bitio.specs.declared.Opened.the-variants as Open
 use Rattle.bitio.specs.declared.Skipped.{Skipped}
 use Rattle.bitio.specs.declared.Skipped.the-variants as Skip
-use Rattle.bitio.specs.declared.U64Read.{U64Read}
-use Rattle.bitio.specs.declared.U64Read.the-variants as U64
-use Rattle.bitio.specs.declared.BitsRead.{BitsRead}
-use Rattle.bitio.specs.declared.BitsRead.the-variants as B
-use Rattle.bitio.specs.declared.Copied.{Copied}
-use Rattle.bitio.specs.declared.Copied.the-variants as Copy
-
-abbrev pub refusalOfOpened : Opened → Option Refusal
-refusalOfOpened (Open.Reader c) = none
-refusalOfOpened (Open.Refused r) = some r
-
-abbrev pub refusalOfSkipped : Skipped → Option Refusal
-refusalOfSkipped (Skip.Done next) = none
-refusalOfSkipped (Skip.Refused r) = some r
-
-abbrev pub refusalOfTaken : U64Read → Option Refusal
-refusalOfTaken (U64.Value x next) = none
-refusalOfTaken (U64.Refused r) = some r
-
-abbrev pub refusalOfBits : BitsRead → Option Refusal
-refusalOfBits (B.Value x next) = none
-refusalOfBits (B.Refused r) = some r
-
-abbrev pub refusalOfCopied : Copied → Option Refusal
-refusalOfCopied (Copy.Done next) = none
-refusalOfCopied (Copy.Refused r) = some r
 
 -- Opening a reader gives 1, then 14, and else no refusal.
 pub opening-order : (s : List ℕ) (n : ℕ) → refusalOfOpened (opened s n) ≡ firstOf (openingRules s n)

@@ -1,6 +1,7 @@
 -- `copy_bits_to`, a copy of n bits to a lent buffer d, from its first byte on: 14 for a bad cursor, then 14 if d has fewer bytes than n bits
 -- take, then 7 (01, Refusal numbers).
 use Prim.Native.Nat.{ℕ, _+_}
+use mathlib.Core.Path.{_≡_}
 use mathlib.Core.List.{List}
 use lib.ListN.{length}
 use lib.Dec.{ltb}
@@ -25,3 +26,7 @@ pasted d n x (Copy.Refused r) = d
 
 abbrev pub copyTarget : List ℕ → Cursor → (n : ℕ) → (d : List ℕ) → List ℕ
 copyTarget s c n d = pasted d n (field (window s c) (c .pos) n) (copyAnswer s c n d)
+
+-- the contract: what is answered, and what the buffer holds at the exit
+abbrev pub CopiesBits : List ℕ → Cursor → (n : ℕ) → (d : List ℕ) → Copied → (end : List ℕ) → Type 0
+CopiesBits s c n d r end = (r ≡ copyAnswer s c n d) × (end ≡ copyTarget s c n d)

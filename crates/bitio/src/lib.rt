@@ -10,7 +10,7 @@ ghost use Prim.Native.Nat.{_+_, _-_, _*_, _≤_, _<_};
 ghost use Rattle.bitio.specs.Cursors.{bitsOf, good, badCursor, opened, wholeOf, positionOf, lengthOf, remainingOf, endOf, skipped, skippedAll, subReader};
 ghost use Rattle.bitio.specs.Reads.{taken, readBit, readBits, readU8, readU16, readU32, readI32, readU64};
 ghost use Rattle.bitio.specs.Numbers.{log2, readIntPacked, readSerializedInt};
-ghost use Rattle.bitio.specs.Copies.{copyAnswer, copyTarget};
+ghost use Rattle.bitio.specs.Copies.{CopiesBits};
 use bits::Packed;
 use bits::sizes::LONGEST_WINDOW;
 
@@ -29,17 +29,17 @@ pub struct Cursor {
 pub enum Refusal {
     // 1: the window is longer than 524,288 bits.
     TooLong,
-    // 7: fewer bits are left than asked. Position, length, bits asked; the cursor stands at the position.
+    // 7: a read asks more bits than are left. Position, length, bits asked; the cursor stands at the position.
     TooFew(u64, u64, u64),
-    // 8: a packed number goes on after its fifth byte. Its start; the cursor stands 40 bits on.
+    // 8: a packed number's fifth byte says that another follows. Where it starts; the cursor stands 40 bits on.
     GoesOn(u64),
-    // 9: a packed number's fifth byte holds more than 15. Its start; the cursor stands 40 bits on.
+    // 9: a packed number's fifth byte holds more than 15. Where it starts; the cursor stands 40 bits on.
     Overflows(u64),
-    // 10: a serialized integer with maximum 0.
+    // 10: a serialized integer is asked with maximum 0.
     NoMaximum,
     // 13: a read of more than 64 bits.
     TooMany,
-    // 14: past the bytes or the length, or a target that is too short. Bits asked, bits available.
+    // 14: past the bytes or the length, or a target that is too short. How many bits were asked, how many there are.
     Past(u64, u64),
 }
 
@@ -455,8 +455,7 @@ pub fn read_serialized_int(bytes: &[u8], c: Cursor, max: u32) -> SerializedRead
 
 // The next `count` bits to the front of dst, as bytes; the last one's padding is 0.
 pub fn copy_bits_to(bytes: &[u8], c: Cursor, count: u64, dst: &mut [u8]) -> Copied
-    ensures answer { λ r. ⌜ r ≡ copyAnswer (now (bytes .entry)) c count (now (dst .entry)) ⌝ }
-    ensures target { λ r. ⌜ now (dst .exit) ≡ copyTarget (now (bytes .entry)) c count (now (dst .entry)) ⌝ }
+    ensures { λ r. ⌜ CopiesBits (now (bytes .entry)) c count (now (dst .entry)) r (now (dst .exit)) ⌝ }
 {
     if !is_good(bytes, c) {
         return Copied::Refused(bad_cursor(bytes, c));

@@ -1,8 +1,7 @@
 // What a refusal says: its number and the values of document 01's table, and where the cursor stands after it.
 ghost use mathlib.Core.Path.{_≡_};
-ghost use Prim.Native.Nat.{_%_, _^_};
 ghost use Rattle.bits.specs.Refusals.{refusal};
-ghost use Rattle.bitio.specs.Refusals.{numbered, sayingOf, standsAfter};
+ghost use Rattle.bitio.specs.Refusals.{sayingOf, said, standsAfter64};
 use crate::Refusal;
 
 // The number, and the values in the table's order; what it doesn't name is 0.
@@ -25,7 +24,7 @@ fn numbers(number: u32, first: u64, second: u64, third: u64) -> Saying
 }
 
 pub fn said(why: Refusal) -> Saying
-    ensures { λ r. ⌜ r ≡ sayingOf (numbered why) ⌝ }
+    ensures { λ r. ⌜ r ≡ said why ⌝ }
 {
     match why {
         Refusal::TooLong => numbers(1, 0, 0, 0),
@@ -41,7 +40,7 @@ pub fn said(why: Refusal) -> Saying
 // Where the cursor that stood at `at` stands after the refusal. The 40 bits of a packed number lie in its window, so that no sum
 // wraps where a call refused.
 pub fn stands_after(why: Refusal, at: u64) -> u64
-    ensures { λ r. ⌜ r ≡ standsAfter at why % 2 ^ 64 ⌝ }
+    ensures { λ r. ⌜ r ≡ standsAfter64 why at ⌝ }
 {
     match why {
         Refusal::TooLong => at,

@@ -1,12 +1,14 @@
 -- The laws of `num` and `field`.
 use Prim.Native.Nat.{ℕ, zero, suc, _+_, _-_, _*_, _/_, _%_, _^_, _≤_, _<_}
 use mathlib.Core.Path.{_≡_, refl, sym, ap, ap₂, _∙_, subst}
+use mathlib.Core.Bool.{Bool, true, false}
 use mathlib.Core.List.{List, [], _∷_}
 use native.Mathlib.Nat.{mod-lt, zero-div, zero-mod, div-add-mod, mod-one, add-zero, mul-comm, add-comm, div-one, add-mul-div-left, add-mul-mod-self-left, div-eq-of-lt, mod-eq-of-lt, sub-add-cancel, zero-add, lt-of-lt-of-le}
 use native.Mathlib.Numerals.{add-one}
 use native.Mathlib.Omega.{arith}
 use lib.ListN.{length, getD, take, drop}
-use lib.Dec.{lit<}
+use lib.Dec.{lit<, eqb}
+use borrow.Author.Tests.{eqb-true, eqb-false}
 use lib.Seq.{getD-drop}
 use lib.Pow.{pow-pos, pow-mono, pow-add, shr-shr, shr-lt, mod-pow-add, mod-mod-pow}
 use lib.Pow as P
@@ -210,3 +212,22 @@ field-same N M p q (suc n) h =
     field-suc N p n
     ∙ ap₂ (λ (x b : ℕ). x + 2 ^ n * b) (field-same N M p q n (λ k l. h k (omega arith))) (h n (omega arith))
     ∙ sym (field-suc M q n)
+
+-- The two bytes from bit p: the bytes that hold them, shifted; the third is not looked at where p is a byte's first bit.
+pub two-bytes : (N p x y : ℕ) → x ≡ field N (8 * (p / 8)) 16 → y ≡ field N (8 * ((p + 15) / 8)) 8 → (x + 65536 * y) / 2 ^ (p % 8) % 65536 ≡ field N p 16
+two-bytes N p x y ex ey = go (eqb (p % 8) 0) refl
+  where
+    go : (t : Bool) → eqb (p % 8) 0 ≡ t → (x + 65536 * y) / 2 ^ (p % 8) % 65536 ≡ field N p 16
+    go true t =
+        let z : p % 8 ≡ 0 = eqb-true (p % 8) 0 t in
+        let b : x < 65536 = bound x N (8 * (p / 8)) 16 ex in
+        let l : (x + 65536 * y) / 1 % 65536 ≡ x = omega arith in
+        let o : 8 * (p / 8) ≡ p = omega arith in
+        ap (λ (k : ℕ). (x + 65536 * y) / 2 ^ k % 65536) z ∙ l ∙ placed N (8 * (p / 8)) p 16 x o ex
+    go false t =
+        let n = eqb-false (p % 8) 0 t in
+        let z : 8 * ((p + 15) / 8) ≡ 8 * (p / 8 + 2) = omega (arith, n) in
+        let o : 8 * (p / 8) + p % 8 ≡ p = omega arith in
+        let r : p % 8 + 16 ≤ 24 = omega arith in
+        inside N (8 * (p / 8)) 24 (p % 8) 16 p (x + 65536 * y) o r
+        (joined N (p / 8) 2 16 8 x y refl ex (placed N (8 * ((p + 15) / 8)) (8 * (p / 8 + 2)) 8 y z ey))

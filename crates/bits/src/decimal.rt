@@ -2,8 +2,8 @@
 ghost use mathlib.Core.Path.{_≡_};
 ghost use Prim.Native.Nat.{_+_, _≤_};
 ghost use lib.ListN.{length};
-ghost use Rattle.bits.specs.Runs.{put, store};
-ghost use Rattle.bits.specs.Decimals.{decimal, placeAfter};
+ghost use Rattle.bits.specs.Runs.{put};
+ghost use Rattle.bits.specs.Decimals.{decimal, placeAfter, WritesDecimal};
 use crate::digits::decimal_length;
 
 // The digits of n, of which there are k, from byte at of d. The last one is written first.
@@ -32,8 +32,7 @@ fn place_after(at: usize, n: usize) -> usize
 
 // The digits of n from byte at of d, and the place after them. Where they don't fit nothing is written.
 pub fn write_decimal(d: &mut [u8], at: usize, n: u32) -> usize
-    ensures answer { λ r. ⌜ r ≡ placeAfter at (length (decimal n)) ⌝ }
-    ensures buffer { λ r. ⌜ now (d .exit) ≡ store (now (d .entry)) at (decimal n) ⌝ }
+    ensures { λ r. ⌜ WritesDecimal (now (d .entry)) at n r (now (d .exit)) ⌝ }
 {
     let k = decimal_length(n);
     let end = place_after(at, k);

@@ -3,6 +3,7 @@ ghost use mathlib.Core.Path.{_≡_};
 ghost use Prim.Native.Nat.{_+_, _*_, _≤_, _<_};
 ghost use lib.ListN.{length};
 ghost use Rattle.bits.specs.Bits.{num, field};
+ghost use Rattle.bits.specs.Sizes.{longestWindow};
 use crate::load::load;
 use crate::load::load8;
 use crate::load::load16;
@@ -49,6 +50,20 @@ pub fn byte_at(s: &[u8], at: u64) -> u64
     } else {
         (load16(s, i) >> off) % 256
     }
+}
+
+// The two bytes from bit at.
+pub fn two_bytes_at(s: &[u8], at: u64) -> u64
+    requires { ⌜ (at + 16 ≤ 8 * length (now s)) × (at ≤ longestWindow) ⌝ }
+    ensures { λ r. ⌜ r ≡ field (num (now (s .entry))) at 16 ⌝ }
+{
+    let i = (at / 8) as usize;
+    let last = ((at + 15) / 8) as usize;
+    let low = load16(s, i);
+    let high = load8(s, last);
+    let three = low + 0x1_0000 * high;
+    let off = at % 8;
+    (three >> off) % 65536
 }
 
 // The word from bit at.

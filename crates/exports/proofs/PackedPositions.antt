@@ -23,7 +23,7 @@ use Rattle.geometry.specs.declared.RotatorQuantization.{RotatorQuantization}
 use Rattle.geometry.specs.declared.VectorQuantization.{VectorQuantization}
 use Rattle.geometry.specs.declared.MovementRead.{MovementRead}
 use Rattle.geometry.specs.declared.MovementRead.the-variants as M
-use Rattle.exports.specs.ReadResults.{as64, packedResult}
+use Rattle.exports.specs.ReadResults.{packedResult}
 use Rattle.exports.specs.MoveResults.{movementResult}
 use Rattle.exports.proofs.MovementLaws.{OnMovement, movement-fits}
 
@@ -33,7 +33,6 @@ stands at (P.Value x p) = p
 stands at (P.Refused r) = standsAfter at r
 
 shown : (at : ℕ) (a : PackedRead) → stands at a < 2 ^ 64 → packedResult at a .position ≡ stands at a
-unfolding as64
 shown at (P.Value x p) h = refl
 shown at (P.Refused r) h = omega (arith, h)
 
@@ -61,13 +60,11 @@ packed-position s c hp hl = shown (c .pos) (readIntPacked s c) (stands-below s c
 -- So is that of `vrf_movement`, where one of its packed numbers is refused.
 module _ (s : List ℕ) (n : ℕ) (k : RotatorQuantization) (l : VectorQuantization) (start : ℕ) where
   pub movement-goes-on : readMovement s n k l ≡ M.Refused (Unread (GoesOn start)) → movementResult (readMovement s n k l) .position ≡ start + 40
-  unfolding as64
   movement-goes-on e =
       let h : start + 40 ≤ longestWindow = subst (OnMovement longestWindow) e (movement-fits s n k l) in
       ap (λ (x : MovementRead). movementResult x .position) e ∙ omega (arith, h)
 
   pub movement-overflows : readMovement s n k l ≡ M.Refused (Unread (Overflows start)) → movementResult (readMovement s n k l) .position ≡ start + 40
-  unfolding as64
   movement-overflows e =
       let h : start + 40 ≤ longestWindow = subst (OnMovement longestWindow) e (movement-fits s n k l) in
       ap (λ (x : MovementRead). movementResult x .position) e ∙ omega (arith, h)

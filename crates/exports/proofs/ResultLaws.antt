@@ -35,7 +35,8 @@ use Rattle.fastarray.specs.declared.FastArray.{FastArray}
 use Rattle.fastarray.specs.Refusals.{sayingOf as bodySaying}
 use Rattle.fastarray.specs.declared.said.Saying as P
 use Rattle.exports.specs.WalkResults.{countersIn, countersOut, noCounters, verdictNumber, walkResult, notWalked, walkOf, Walks, objectsResult, noPairs, objectsOf, WalksPairs, mergeResult, notFilled, refusedBody, noBody, bodyResult, DecodesBody}
-use Rattle.exports.specs.ReadResults.{cursorOf, as64, refusedAt, refusedRead}
+use Rattle.exports.specs.Calls.{vrfMerge, vrfVerdict}
+use Rattle.exports.specs.ReadResults.{cursorOf, refusedAt, refusedRead}
 use Rattle.exports.specs.declared.VrfCounters.{VrfCounters}
 use Rattle.exports.specs.declared.VrfWalk.{VrfWalk}
 use Rattle.exports.specs.declared.VrfObjects.{VrfObjects}
@@ -54,7 +55,6 @@ by-form f e h = h ∙ sym (ap f e)
 -- of a read, with its position taken in 64 bits
 pub as-said : (n : Numbered) (q : ℕ) {s : B.Saying} {p : ℕ} {a : VrfRead} → s ≡ sayingOf n → p ≡ q % 2 ^ 64
     → a ≡ refusedAt (s .number) (s .first) (s .second) (s .third) p → a ≡ refusedRead n q
-unfolding as64
 as-said n q e f h = h ∙ (λ i. refusedAt (e i .number) (e i .first) (e i .second) (e i .third) (f i))
 
 pub walk-said : (a : Answer Room) {s : W.Saying} {k : VrfCounters} → s ≡ refusedRoom a → k ≡ noCounters
@@ -154,13 +154,12 @@ pairs-as bytes bits b {a} d h =
 -- ---- counters
 
 pub merge-as : (left right : VrfCounters) (m : Merged) {a b : ArrayDecodeStats} {r : VrfMerge} → countersOf a ≡ countersIn left
-    → countersOf b ≡ countersIn right → sumsOf m ≡ merge (countersOf a) (countersOf b) → r ≡ mergeResult (sumsOf m)
-    → r ≡ mergeResult (merge (countersIn left) (countersIn right))
+    → countersOf b ≡ countersIn right → A.Adds a b m → r ≡ mergeResult (sumsOf m) → r ≡ vrfMerge left right
 merge-as left right m {a} {b} e f g h =
     h ∙ ap mergeResult (g ∙ ap (λ (x : Counters). merge x (countersOf b)) e ∙ ap (merge (countersIn left)) f)
 
-pub judges-as : (c : VrfCounters) (v : Verdict) {s : ArrayDecodeStats} {n : ℕ} → countersOf s ≡ countersIn c → A.Judges (countersOf s) v
-    → n ≡ verdictNumber (verdictIs v) → n ≡ verdictNumber (countersVerdict (countersIn c))
+pub judges-as : (c : VrfCounters) (v : Verdict) {s : ArrayDecodeStats} {n : ℕ} → countersOf s ≡ countersIn c → A.Judges s v
+    → n ≡ verdictNumber (verdictIs v) → n ≡ vrfVerdict c
 judges-as c v e j h = h ∙ ap verdictNumber (j ∙ ap countersVerdict e)
 
 -- ---- the fast array

@@ -1,3 +1,4 @@
 pub mod WalkResults
 pub mod ReadResults
 pub mod MoveResults
+pub mod Calls

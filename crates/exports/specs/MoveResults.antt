@@ -87,9 +87,11 @@ rotationResult at (R.Refused r) = noRotation (refusedRead (numbered r) (standsAf
 
 -- ---- movements: how they are sent, by number, and what comes of them; they start at bit 0
 
+-- 0: angles of bytes; any other: of 16 bits
 unfoldable pub rotationKind : ℕ → RotatorQuantization
 rotationKind n = if eqb n 0 then ByteComponents else ShortComponents
 
+-- 0: scale 1; 1: scale 10; any other: scale 100
 unfoldable pub locationKind : ℕ → VectorQuantization
 locationKind n = if eqb n 0 then RoundWholeNumber else (if eqb n 1 then RoundOneDecimal else RoundTwoDecimals)
 

@@ -1,8 +1,8 @@
 -- Cursors from C, and the answers of the bit reader as structs for C: the refusal's number and values, or zeros; the value read, or 0; where the
 -- cursor stands, refused or not.
-use Prim.Native.Nat.{ℕ, _%_, _^_}
+use Prim.Native.Nat.{ℕ}
 use Rattle.bits.specs.Refusals.{Numbered}
-use Rattle.bitio.specs.Refusals.{numbered, standsAfter}
+use Rattle.bitio.specs.Refusals.{numbered, standsAfter, as64}
 use Rattle.bitio.specs.declared.Cursor.{Cursor}
 use Rattle.bitio.specs.declared.BitsRead.{BitsRead}
 use Rattle.bitio.specs.declared.BitsRead.the-variants as B
@@ -23,11 +23,6 @@ readValue x p = record { refusal = 0; first = 0; second = 0; third = 0; value = 
 
 abbrev pub refusedAt : (number first second third position : ℕ) → VrfRead
 refusedAt n a b c p = record { refusal = n; first = a; second = b; third = c; value = 0; position = p }
-
--- a position in 64 bits, after any refusal; none is past them: a refused read stands inside its window (for a packed number, which stands 40
--- bits on, proofs/PackedPositions.packed-position)
-unfoldable pub as64 : ℕ → ℕ
-as64 p = p % 2 ^ 64
 
 abbrev pub refusedRead : Numbered → (stands : ℕ) → VrfRead
 refusedRead n p = refusedAt (n .number) (n .first) (n .second) (n .third) (as64 p)

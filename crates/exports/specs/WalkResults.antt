@@ -1,5 +1,6 @@
 -- The answers of the walks, the merge, the schema and the fast array as structs for C: the refusal's number, or 0; the values that 01's table
--- names, which an accepted call has too; then what only an accepted call gives, else 0. The verdict is a number of its own.
+-- names, which an accepted call has too; then what only an accepted call gives, else 0. The verdict is a number of its own. A refused merge has
+-- the left counters.
 use Prim.Native.Nat.{ℕ}
 use mathlib.Core.Path.{_≡_}
 use mathlib.Core.List.{List}
@@ -77,12 +78,16 @@ abbrev pub walkResult : Walker → (bits : ℕ) → Answer Room → VrfWalk
 walkResult k bits (refused n need) = refusedWalk n (need .leaves) (need .pathBytes) (need .payloadBytes)
 walkResult k bits (accepted c need) = acceptedWalk c (verdictOf k bits c) (need .leaves) (need .pathBytes) (need .payloadBytes)
 
+-- what the struct of an accepted walk says that it filled
+abbrev pub filledIn : VrfWalk → Room
+filledIn r = record { leaves = r .leaves; pathBytes = r .«path_bytes»; payloadBytes = r .«payload_bytes» }
+
 -- the contract: r is the struct of the walk's answer, and `end` what the buffers hold at the exit
 pub record Walks (c : Call) (b : Lent) (r : VrfWalk) (end : Lent) : Type 0 where
   pub says : r ≡ walkResult (c .how) (c .bits) (answer c b)
   pub buffers : end ≡ final c b
 
--- the struct of a refusal, whose number and values an answer of `array` stands for
+-- the struct of a refusal, whose number and values an answer of `array` stands for; never asked of an accepted one
 abbrev pub notWalked : Answer Room → VrfWalk
 notWalked (refused n need) = refusedWalk n (need .leaves) (need .pathBytes) (need .payloadBytes)
 notWalked (accepted c need) = refusedWalk 0 0 0 0
@@ -110,6 +115,7 @@ pub record WalksPairs (bytes : List ℕ) (bits : ℕ) (b : List ℕ) (r : VrfObj
   pub says : r ≡ objectsResult bits (pairAnswer bytes bits b)
   pub buffer : end ≡ finalPairs bytes bits b
 
+-- never asked of an accepted one
 abbrev pub noPairs : Answer ℕ → VrfObjects
 noPairs (refused n need) = refusedObjects n need
 noPairs (accepted c need) = refusedObjects 0 0
@@ -127,6 +133,7 @@ mergeResult (overflowing n c) = record { refusal = n; counters = countersOut c }
 
 -- ---- the schema: what is filled, or needed, of both buffers, and the number of levels
 
+-- never asked where there is no refusal
 abbrev pub notFilled : Option Numbered → VrfSchema
 notFilled none = record { refusal = 0; rows = 0; names = 0; levels = 0 }
 notFilled (some n) = record { refusal = n .number; rows = n .first; names = n .second; levels = 0 }
@@ -137,13 +144,14 @@ schemaResult (Fill.Short r n) = notFilled (filledNumbered (Fill.Short r n))
 
 -- ---- the fast array
 
--- a number as the checksum mode
+-- a number as the checksum mode: 0 is absent, any other present
 unfoldable pub modeOf : ℕ → ChecksumMode
 modeOf n = if eqb n 0 then Absent else Present
 
 abbrev pub refusedBody : (number deletes items fields : ℕ) → VrfFastArray
 refusedBody n d i f = record { refusal = n; deletes = d; items = i; fields = f; key = pos 0; base = pos 0; used = 0 }
 
+-- never asked where there is no refusal
 abbrev pub noBody : Option Numbered → VrfFastArray
 noBody none = refusedBody 0 0 0 0
 noBody (some n) = refusedBody (n .number) (n .first) (n .second) (n .third)

@@ -3,28 +3,18 @@
 // A slice is a pointer and a length, a result a struct by value: the refusal's number first, 0 where the call is accepted,
 // then the values of document 01's table in its order, then what an accepted call gives; what isn't named is 0, but for the
 // position that a refused read leaves. Only `vrf_verdict` and `vrf_byte_angle_steps`, which refuse nothing, give a plain
-// number. Each function takes the answer of one proved call apart, and its contract cites that call's definition.
+// number. Each function takes the answer of one proved call apart; the definition that its contract cites is made of that call's.
 mod cursors;
 mod moves;
 mod walks;
 
 ghost use mathlib.Core.Path.{_≡_};
-ghost use Rattle.bitio.specs.Reads.{readBits};
-ghost use Rattle.bitio.specs.Numbers.{readIntPacked, readSerializedInt};
-ghost use Rattle.bitio.specs.Copies.{copyAnswer, copyTarget};
 ghost use Rattle.schema.specs.Tables.{tables};
-ghost use Rattle.schema.specs.TwelveLevels.{fillAnswer, filledRows, filledNames};
-ghost use Rattle.framing.specs.Verdicts.{countersVerdict};
 ghost use Rattle.array.specs.Calls.{structCall, exactCall, lent};
-ghost use Rattle.array.specs.Merges.{merge};
 ghost use Rattle.fastarray.specs.Answers as F;
-ghost use Rattle.geometry.specs.Vectors.{readVector, readNormal};
-ghost use Rattle.geometry.specs.Rotations.{readRotation};
-ghost use Rattle.geometry.specs.Movements.{readMovement};
 ghost use Rattle.geometry.specs.ByteAngles.{byteAngleSteps};
-ghost use Rattle.exports.specs.WalkResults.{Walks, WalksPairs, countersIn, mergeResult, verdictNumber, schemaResult, modeOf, DecodesBody};
-ghost use Rattle.exports.specs.ReadResults.{cursorOf, bitsResult, packedResult, serializedResult, copyResult};
-ghost use Rattle.exports.specs.MoveResults.{vectorResult, rotationResult, movementResult, rotationKind, locationKind};
+ghost use Rattle.exports.specs.WalkResults.{Walks, WalksPairs, modeOf, DecodesBody};
+ghost use Rattle.exports.specs.Calls.{vrfMerge, vrfVerdict, FillsForC, vrfReadBits, vrfReadPacked, vrfReadSerialized, CopiesForC, vrfVector, vrfNormal, vrfRotation, vrfMovement};
 
 // ---- what is handed in and out
 
@@ -250,7 +240,7 @@ pub extern "C" fn vrf_object_array(bytes: &[u8], bits: u32, pairs: &mut [u32]) -
 
 #[no_mangle]
 pub extern "C" fn vrf_merge(left: VrfCounters, right: VrfCounters) -> VrfMerge
-    ensures { λ r. ⌜ r ≡ mergeResult (merge (countersIn left) (countersIn right)) ⌝ }
+    ensures { λ r. ⌜ r ≡ vrfMerge left right ⌝ }
 {
     let a = walks::stats_of(left);
     let b = walks::stats_of(right);
@@ -262,7 +252,7 @@ pub extern "C" fn vrf_merge(left: VrfCounters, right: VrfCounters) -> VrfMerge
 // stands in its walk's struct.
 #[no_mangle]
 pub extern "C" fn vrf_verdict(counters: VrfCounters) -> u32
-    ensures { λ r. ⌜ r ≡ verdictNumber (countersVerdict (countersIn counters)) ⌝ }
+    ensures { λ r. ⌜ r ≡ vrfVerdict counters ⌝ }
 {
     let stats = walks::stats_of(counters);
     let answer = array::stats::verdict(stats);
@@ -273,9 +263,7 @@ pub extern "C" fn vrf_verdict(counters: VrfCounters) -> u32
 
 #[no_mangle]
 pub extern "C" fn vrf_schema(rows: &mut [u32], names: &mut [u8]) -> VrfSchema
-    ensures answer { λ r. ⌜ r ≡ schemaResult (fillAnswer (now (rows .entry)) (now (names .entry))) ⌝ }
-    ensures rows { λ r. ⌜ now (rows .exit) ≡ filledRows (now (rows .entry)) (now (names .entry)) ⌝ }
-    ensures names { λ r. ⌜ now (names .exit) ≡ filledNames (now (rows .entry)) (now (names .entry)) ⌝ }
+    ensures { λ r. ⌜ FillsForC (now (rows .entry)) (now (names .entry)) r (now (rows .exit)) (now (names .exit)) ⌝ }
 {
     let answer = schema::twelve::fill_schema(rows, names);
     walks::schema_of(answer)
@@ -304,7 +292,7 @@ pub extern "C" fn vrf_fast_array(
 
 #[no_mangle]
 pub extern "C" fn vrf_read_bits(bytes: &[u8], cursor: VrfCursor, count: u64) -> VrfRead
-    ensures { λ r. ⌜ r ≡ bitsResult (cursor .pos) (readBits (now (bytes .entry)) (cursorOf cursor) count) ⌝ }
+    ensures { λ r. ⌜ r ≡ vrfReadBits (now (bytes .entry)) cursor count ⌝ }
 {
     let c = cursors::cursor_of(cursor);
     let answer = bitio::read_bits(bytes, c, count);
@@ -313,7 +301,7 @@ pub extern "C" fn vrf_read_bits(bytes: &[u8], cursor: VrfCursor, count: u64) -> 
 
 #[no_mangle]
 pub extern "C" fn vrf_read_packed(bytes: &[u8], cursor: VrfCursor) -> VrfRead
-    ensures { λ r. ⌜ r ≡ packedResult (cursor .pos) (readIntPacked (now (bytes .entry)) (cursorOf cursor)) ⌝ }
+    ensures { λ r. ⌜ r ≡ vrfReadPacked (now (bytes .entry)) cursor ⌝ }
 {
     let c = cursors::cursor_of(cursor);
     let answer = bitio::read_int_packed(bytes, c);
@@ -322,7 +310,7 @@ pub extern "C" fn vrf_read_packed(bytes: &[u8], cursor: VrfCursor) -> VrfRead
 
 #[no_mangle]
 pub extern "C" fn vrf_read_serialized(bytes: &[u8], cursor: VrfCursor, maximum: u32) -> VrfRead
-    ensures { λ r. ⌜ r ≡ serializedResult (cursor .pos) (readSerializedInt (now (bytes .entry)) (cursorOf cursor) maximum) ⌝ }
+    ensures { λ r. ⌜ r ≡ vrfReadSerialized (now (bytes .entry)) cursor maximum ⌝ }
 {
     let c = cursors::cursor_of(cursor);
     let answer = bitio::read_serialized_int(bytes, c, maximum);
@@ -336,8 +324,7 @@ pub extern "C" fn vrf_copy_bits(
     count: u64,
     target: &mut [u8],
 ) -> VrfRead
-    ensures answer { λ r. ⌜ r ≡ copyResult (cursor .pos) (copyAnswer (now (bytes .entry)) (cursorOf cursor) count (now (target .entry))) ⌝ }
-    ensures target { λ r. ⌜ now (target .exit) ≡ copyTarget (now (bytes .entry)) (cursorOf cursor) count (now (target .entry)) ⌝ }
+    ensures { λ r. ⌜ CopiesForC (now (bytes .entry)) cursor count (now (target .entry)) r (now (target .exit)) ⌝ }
 {
     let c = cursors::cursor_of(cursor);
     let answer = bitio::copy_bits_to(bytes, c, count, target);
@@ -348,7 +335,7 @@ pub extern "C" fn vrf_copy_bits(
 
 #[no_mangle]
 pub extern "C" fn vrf_vector(bytes: &[u8], cursor: VrfCursor, scale: u32) -> VrfVector
-    ensures { λ r. ⌜ r ≡ vectorResult (cursor .pos) (readVector (now (bytes .entry)) (cursorOf cursor) scale) ⌝ }
+    ensures { λ r. ⌜ r ≡ vrfVector (now (bytes .entry)) cursor scale ⌝ }
 {
     let c = cursors::cursor_of(cursor);
     let answer = geometry::read_vector_net_quantize(bytes, c, scale);
@@ -357,7 +344,7 @@ pub extern "C" fn vrf_vector(bytes: &[u8], cursor: VrfCursor, scale: u32) -> Vrf
 
 #[no_mangle]
 pub extern "C" fn vrf_normal(bytes: &[u8], cursor: VrfCursor) -> VrfVector
-    ensures { λ r. ⌜ r ≡ vectorResult (cursor .pos) (readNormal (now (bytes .entry)) (cursorOf cursor)) ⌝ }
+    ensures { λ r. ⌜ r ≡ vrfNormal (now (bytes .entry)) cursor ⌝ }
 {
     let c = cursors::cursor_of(cursor);
     let answer = geometry::read_fixed_vector_normal(bytes, c);
@@ -366,7 +353,7 @@ pub extern "C" fn vrf_normal(bytes: &[u8], cursor: VrfCursor) -> VrfVector
 
 #[no_mangle]
 pub extern "C" fn vrf_rotation(bytes: &[u8], cursor: VrfCursor, width: u32) -> VrfRotation
-    ensures { λ r. ⌜ r ≡ rotationResult (cursor .pos) (readRotation (now (bytes .entry)) (cursorOf cursor) width) ⌝ }
+    ensures { λ r. ⌜ r ≡ vrfRotation (now (bytes .entry)) cursor width ⌝ }
 {
     let c = cursors::cursor_of(cursor);
     let answer = geometry::read_rotation(bytes, c, width);
@@ -381,7 +368,7 @@ pub extern "C" fn vrf_movement(
     rotation: u32,
     location: u32,
 ) -> VrfMovement
-    ensures { λ r. ⌜ r ≡ movementResult (readMovement (now (bytes .entry)) count (rotationKind rotation) (locationKind location)) ⌝ }
+    ensures { λ r. ⌜ r ≡ vrfMovement (now (bytes .entry)) count rotation location ⌝ }
 {
     let width = moves::rotation_kind(rotation);
     let scale = moves::location_kind(location);

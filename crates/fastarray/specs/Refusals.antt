@@ -19,3 +19,6 @@ sayingAs n = record { number = n .number; deletes = n .first; items = n .second;
 abbrev pub sayingOf : Option Numbered → Saying
 sayingOf none = sayingAs (refusal 0 0 0 0)
 sayingOf (some n) = sayingAs n
+
+abbrev pub said : FastArray → Saying
+said answer = sayingOf (numbered answer)

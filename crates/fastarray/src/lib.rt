@@ -132,8 +132,8 @@ fn write_body(
     items::read_items(s, at, end, changes, flag, items, fields);
 }
 
-// The body that the first `bits` bits of the payload are. Deleted ids are an i32 each; an item is its id's bits and how many
-// fields it has; a field is its handle, the first bit of its payload and its width.
+// The body that the first `bits` bits of the payload are. Deleted ids are an i32 each; an item is two numbers, the bits of its id
+// and how many fields it has; a field is its handle, the first bit of its payload and its width.
 pub fn decode_fast_array_delta(
     payload: &[u8],
     bits: u32,

@@ -1,7 +1,7 @@
 // What an answer says of document 01's refusals: the number, 0 for a body that is read, and the values of its table.
 ghost use mathlib.Core.Path.{_≡_};
 ghost use Rattle.bits.specs.Refusals.{refusal};
-ghost use Rattle.fastarray.specs.Refusals.{numbered, sayingOf, sayingAs};
+ghost use Rattle.fastarray.specs.Refusals.{said, sayingAs};
 use crate::FastArray;
 
 // The number, and what the buffers need; of the other refusals the three are 0.
@@ -24,7 +24,7 @@ fn numbers(number: u32, deletes: u32, items: u32, fields: u32) -> Saying
 }
 
 pub fn said(answer: FastArray) -> Saying
-    ensures { λ r. ⌜ r ≡ sayingOf (numbered answer) ⌝ }
+    ensures { λ r. ⌜ r ≡ said answer ⌝ }
 {
     match answer {
         FastArray::Decoded(_) => numbers(0, 0, 0, 0),

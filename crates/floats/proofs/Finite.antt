@@ -1,17 +1,17 @@
--- A quotient of an integer of at most 63 bits by one from 1 to 2 ^ 53 is finite.
-use mathlib.Core.Path.{_≡_, refl, ap, _∙_, subst}
+-- A quotient of an integer of at most 63 bits by one from 1 to 2 ^ 53 is finite; an axis of a normal is one.
+use mathlib.Core.Path.{_≡_, refl, sym, ap, _∙_, subst}
 use mathlib.Core.Logic.{_⊎_, inl, inr}
 use mathlib.Core.Bool.{Bool, true, false, not, cond}
 use Prim.Native.Nat.{ℕ, zero, suc, _+_, _-_, _*_, _/_, _%_, _^_, _≤_, _<_, compare}
 use native.Mathlib.Nat.{le-trans, le-of-eq, mul-one, mul-comm, mul-assoc, mul-pos, mul-le-mul, mul-le-mul-right, zero-lt-suc}
 use native.Mathlib.Omega.{arith}
 use lib.Dec.{T, ltb, eqb, eqb·suc-zero, lit≤}
-use lib.IntN.{ℤ, pos, negsuc, natAbs}
+use lib.IntN.{ℤ, pos, negsuc, natAbs, subℕ}
 use lib.Ieee.{Float, nan, inf, fin, Format, binary64, prec, low, emax, up, down, unlike, size, nearest, odd, units, round, neg, div, ofInt, le}
 use lib.Ieee.Scale.{finite}
 use lib.Ieee.Order.{round-mono}
 use lib.Ieee.Positive.{positive, num, den, den-pos, own-value, value-pos, between, le→cross}
-use Rattle.floats.specs.Numbers.{quotient}
+use Rattle.floats.specs.Numbers.{quotient, normalAxis}
 use Rattle.floats.proofs.Rounding.{quotient-once}
 
 -- ---- a sign goes through `round` and `div`
@@ -163,3 +163,17 @@ quotient-finite (negsuc n) d h D E =
     ∙ ap finite (div-neg binary64 (round binary64 false (suc n) 1) (round binary64 false d 1))
     ∙ finite-neg (div binary64 (round binary64 false (suc n) 1) (round binary64 false d 1))
     ∙ positive-quotient (suc n) d (omega arith) h D E
+
+-- an axis of a normal is such a quotient
+small-difference : (k : ℕ) → k < 65536 → natAbs (subℕ k 32768) ≤ 32768
+small-difference k h = go (ltb k 32768)
+  where
+    go : (b : Bool) → natAbs (cond b (negsuc (32768 - suc k)) (pos (k - 32768))) ≤ 32768
+    go true = omega arith
+    go false = omega arith
+
+pub normal-finite : (k : ℕ) → k < 65536 → finite (normalAxis k) ≡ true
+normal-finite k h =
+    let z = subℕ k 32768 in
+    let small : natAbs z ≤ 32768 = small-difference k h in
+    ap finite (sym (quotient-once z 32767 (omega arith) (omega arith) (omega arith))) ∙ quotient-finite z 32767 (omega arith) (omega arith) (omega arith)

@@ -8,7 +8,7 @@ use Prim.Native.Nat.{ℕ, _+_, _-_, _*_, _%_, _^_, _≤_, _<_}
 use native.Mathlib.Omega.{arith}
 use lib.Dec.{eqb}
 use lib.ListN.{length}
-use borrow.Author.Tests.{le-ltb, eqb-true, eqb-false, eq-eqb, ne-eqb}
+use borrow.Author.Tests.{lt-ltb, le-ltb, eqb-true, eqb-false, eq-eqb, ne-eqb}
 use Rattle.bits.proofs.ChoiceLaws.{and-true}
 use Rattle.bits.proofs.Never.{never}
 use Rattle.bits.specs.Bits.{num, field}
@@ -279,3 +279,8 @@ outside-alters-nothing k a b n ha hb h =
     walk-inside k a n ha
     ∙ ap (λ (x : ℕ). walkWindow k (record { bits = x; size = n; origin = 0 })) (field-same (num a) (num b) 0 0 n h)
     ∙ sym (walk-inside k b n hb)
+
+-- Two windows that pass their bytes give the same trace, whatever the bytes are: one error.
+pub past-alike : (k : Walker) (a b : List ℕ) (n : ℕ) → 8 * length a < n → 8 * length b < n → walk k a n ≡ walk k b n
+unfolding walk
+past-alike k a b n ha hb = rw (lt-ltb (8 * length a) n ha, lt-ltb (8 * length b) n hb) refl

@@ -1,35 +1,22 @@
--- Rule 8 of document 01 gives an element's pair behind its fields. In the definitions the pair stands at the field that gives it. No answer shows
--- the difference: moving the pairs of a trace behind its other events changes no leaf, no pair, no counter, since these are lists of one kind of
--- event, and sums.
+-- Rule 8 of document 01 gives an element's pair behind its fields (specs/PairsBehind). In `walk` the pair stands at the field that gives it. No
+-- answer shows the difference: moving the pairs of a trace behind its other events changes no leaf, no pair, no counter, since these are lists of one
+-- kind of event, and sums; and so it is for the traces of an element's fields, one by one.
+use Prim.Native.Nat.{ℕ, zero, suc, _+_, _*_}
 use mathlib.Core.Path.{_≡_, refl, sym, ap, ap₂, _∙_}
+use mathlib.Core.Bool.{true}
 use mathlib.Core.List.{List, [], _∷_, _++_, append-nil}
-use Prim.Native.Nat.{ℕ, _+_}
 use native.Mathlib.Omega.{arith}
+use lib.ListN.{length}
+use lib.Dec.{ltb}
+use Rattle.bits.specs.Sizes.{maxElements, maxFields}
+use Rattle.bits.proofs.ChoiceLaws.{by-cases}
+use Rattle.framing.specs.Windows.{Window, windowOf, Reading, got, failed, reading}
 use Rattle.framing.specs.Events.{Pair, number, element, array, leaf, pair, truncation, error, implicit, nested, root, leaves, pairs, Trace}
 use Rattle.framing.specs.Counters.{Counters, counted, counters, sums, countOf}
+use Rattle.framing.specs.Walk.{numberAt, Lead, ends, fails, closes, opens, lead, tail, Run, done, stopped, fields, closing, inItem, behind, beyond, onIndex, onLastIndex, elements, tooMany, onCount, level}
+use Rattle.framing.specs.Sinks.{objectSink, object, sinkOf, walkWindow, walk}
+use Rattle.framing.specs.PairsBehind.{others, asEvents, late, lateRun, onIndexBehind, elementsBehind, onCountBehind, walkBehind, NotToldApart}
 use Rattle.framing.proofs.TraceLaws.{counters-append, leaves-append, pairs-append, sums-assoc}
-
--- the other events, and the pairs as events
-abbrev pub others : Trace → Trace
-others [] = []
-others (pair x ∷ t) = others t
-others (number x ∷ t) = number x ∷ others t
-others (element p ∷ t) = element p ∷ others t
-others (array p ∷ t) = array p ∷ others t
-others (leaf x ∷ t) = leaf x ∷ others t
-others (truncation ∷ t) = truncation ∷ others t
-others (error ∷ t) = error ∷ others t
-others (implicit ∷ t) = implicit ∷ others t
-others (nested n ∷ t) = nested n ∷ others t
-others (root n ∷ t) = root n ∷ others t
-
-abbrev pub asEvents : List Pair → Trace
-asEvents [] = []
-asEvents (x ∷ l) = pair x ∷ asEvents l
-
--- the pairs behind all else
-abbrev pub late : Trace → Trace
-late t = others t ++ asEvents (pairs t)
 
 others-leaves : (t : Trace) → leaves (others t) ≡ leaves t
 others-leaves [] = refl
@@ -99,3 +86,56 @@ late-split (root n ∷ t) = ap (λ c. sums (countOf (root n)) c) (late-split t) 
 
 pub late-counters : (t : Trace) → counters (late t) ≡ counters t
 late-counters t = counters-append (others t) (asEvents (pairs t)) ∙ sym (late-split t)
+
+-- ---- the walk as rule 8 words it
+
+one-trace : (t : Trace) → NotToldApart t t
+one-trace t = record { same-leaves = refl; same-pairs = refl; same-counters = refl }
+
+moved-late : (t : Trace) → NotToldApart (late t) t
+moved-late t = record { same-leaves = late-leaves t; same-pairs = late-pairs t; same-counters = late-counters t }
+
+-- one behind the other
+in-turn : {t u v w : Trace} → NotToldApart t u → NotToldApart v w → NotToldApart (t ++ v) (u ++ w)
+in-turn {t} {u} {v} {w} a b =
+    record {
+      same-leaves = leaves-append t v ∙ ap₂ (λ x y. x ++ y) (a .same-leaves) (b .same-leaves) ∙ sym (leaves-append u w);
+      same-pairs = pairs-append t v ∙ ap₂ (λ x y. x ++ y) (a .same-pairs) (b .same-pairs) ∙ sym (pairs-append u w);
+      same-counters = counters-append t v ∙ ap₂ sums (a .same-counters) (b .same-counters) ∙ sym (counters-append u w);
+    }
+
+behind-late : {f g : ℕ → Trace} → ((q : ℕ) → NotToldApart (f q) (g q)) → (r : Run) → NotToldApart (behind f (lateRun r)) (behind g r)
+behind-late h (done t q) = in-turn (moved-late t) (h q)
+behind-late h (stopped t) = moved-late t
+
+module _ (w : Window) (count : ℕ) where
+  index-late : {f g : ℕ → Trace} → ((q : ℕ) → NotToldApart (f q) (g q)) → (l : Lead)
+      → NotToldApart (onIndexBehind w count f l) (onIndex objectSink w [] count g l)
+  unfolding inItem objectSink
+  index-late h ends = one-trace (implicit ∷ [])
+  index-late h fails = one-trace (error ∷ [])
+  index-late h (closes e q) = one-trace (number e ∷ closing objectSink w q)
+  index-late {f} {g} h (opens e i q) =
+      by-cases (beyond count i)
+      (λ k. rw k (one-trace (number e ∷ error ∷ [])))
+      (λ k. rw k (in-turn (one-trace (number e ∷ element [] ∷ [])) (behind-late h (fields objectSink w i [] maxFields q true))))
+
+  elements-late : (left p : ℕ) → NotToldApart (elementsBehind w count left p) (elements objectSink w [] count left p)
+  unfolding elementsBehind elements
+  elements-late zero p = one-trace (onLastIndex objectSink w [] p (lead w p))
+  elements-late (suc left) p = index-late (λ q. elements-late left q) (lead w p)
+
+count-late : (w : Window) (r : Reading) → NotToldApart (onCountBehind w r) (onCount objectSink w [] r)
+count-late w failed = one-trace (error ∷ [])
+count-late w (got count b) =
+    by-cases (tooMany count)
+    (λ k. rw k (one-trace (number (numberAt w 0 b count) ∷ truncation ∷ tail objectSink w [] (8 * b))))
+    (λ k. rw k (in-turn (one-trace (number (numberAt w 0 b count) ∷ [])) (elements-late w count maxElements (8 * b))))
+
+-- No answer tells the walk with pairs behind their fields from the object walk.
+pub behind-fields : (bytes : List ℕ) (n : ℕ) → NotToldApart (walkBehind bytes n) (walk object bytes n)
+unfolding walkBehind walk walkWindow sinkOf level
+behind-fields bytes n =
+    by-cases (ltb (8 * length bytes) n)
+    (λ k. rw k (one-trace (error ∷ [])))
+    (λ k. rw k (count-late (windowOf bytes n) (reading (windowOf bytes n) 0)))

@@ -2,7 +2,10 @@
 -- own.
 use mathlib.Core.Path.{_≡_, refl, sym, ap, _∙_}
 use mathlib.Core.List.{[], _∷_, _++_}
+use Prim.Native.Nat.{_+_}
 use native.Mathlib.Nat.{zero-add, add-assoc}
+use native.Mathlib.Omega.{arith}
+use lib.ListN.{length}
 use Rattle.framing.specs.Events.{number, element, array, leaf, pair, truncation, error, implicit, nested, root, leaves, pairs, Trace}
 use Rattle.framing.specs.Counters.{Counters, counted, counters, sums, countOf}
 
@@ -59,3 +62,17 @@ pairs-append (error ∷ t) u = pairs-append t u
 pairs-append (implicit ∷ t) u = pairs-append t u
 pairs-append (nested x ∷ t) u = pairs-append t u
 pairs-append (root x ∷ t) u = pairs-append t u
+
+-- The fields that were counted are the leaves and the pairs.
+pub fields-given : (t : Trace) → (counters t) .fields ≡ length (leaves t) + length (pairs t)
+fields-given [] = refl
+fields-given (leaf x ∷ t) = let z = fields-given t in omega (arith, z)
+fields-given (pair x ∷ t) = let z = fields-given t in omega (arith, z)
+fields-given (number x ∷ t) = let z = fields-given t in omega (arith, z)
+fields-given (element p ∷ t) = let z = fields-given t in omega (arith, z)
+fields-given (array p ∷ t) = let z = fields-given t in omega (arith, z)
+fields-given (truncation ∷ t) = let z = fields-given t in omega (arith, z)
+fields-given (error ∷ t) = let z = fields-given t in omega (arith, z)
+fields-given (implicit ∷ t) = let z = fields-given t in omega (arith, z)
+fields-given (nested n ∷ t) = let z = fields-given t in omega (arith, z)
+fields-given (root n ∷ t) = let z = fields-given t in omega (arith, z)

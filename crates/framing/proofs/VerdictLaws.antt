@@ -9,13 +9,24 @@ use Rattle.bits.specs.Choice.{if_then_else_}
 use Rattle.bits.proofs.ChoiceLaws.{by-cases, and-true}
 use Rattle.bits.proofs.Never.{never}
 use Rattle.framing.specs.declared.Walk.the-variants as how
-use Rattle.framing.specs.Counters.{Counters, isClean}
+use Rattle.framing.specs.Counters.{Counters, counted, faults, isClean}
 use Rattle.framing.specs.Sinks.{Walker, walker, givesLeaves, Leafy, silent}
 use Rattle.framing.specs.Verdicts.{clean, partial, empty, countersVerdict, verdictOf}
 
 -- ---- a set of counters
 
 module _ (c : Counters) where
+  -- what a clean set counts: elements and fields
+  pub clean-counts : isClean c ≡ true → c ≡ counted (c .elements) (c .fields) 0 0 0 0 0
+  clean-counts e =
+      let z = eqb-true (faults c) 0 e in
+      let t : c .truncations ≡ 0 = omega (arith, z) in
+      let r : c .errors ≡ 0 = omega (arith, z) in
+      let n : c .nestedBits ≡ 0 = omega (arith, z) in
+      let b : c .rootBits ≡ 0 = omega (arith, z) in
+      let m : c .implicits ≡ 0 = omega (arith, z) in
+      λ i. counted (c .elements) (c .fields) (t i) (r i) (n i) (b i) (m i)
+
   pub set-clean : isClean c ≡ true → countersVerdict c ≡ clean
   unfolding countersVerdict
   set-clean e = simp e

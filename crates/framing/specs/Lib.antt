@@ -4,6 +4,7 @@ pub mod Counters
 pub mod Paths
 pub mod Walk
 pub mod Sinks
+pub mod PairsBehind
 pub mod Verdicts
 pub mod Records
 pub mod Refusing

@@ -68,7 +68,7 @@ structSink (suc deeper) t trailer leftover lvl =
 -- ---- the object walk
 
 -- Rule 8: the first field with a payload names the object, by one packed number and nothing behind it. Its pair stands here at the field that
--- gives it; 01 gives it behind the element's fields, which makes no difference to any answer (proofs/PairOrder).
+-- gives it; 01 gives it behind the element's fields. specs/PairsBehind has that walk too, and no answer tells the two apart (proofs/PairOrder).
 abbrev pub guidOf : (index : ℕ) → Window → Reading → Trace
 guidOf index w failed = error ∷ []
 guidOf index w (got v b) =

@@ -5,13 +5,13 @@ use mathlib.Core.Bool.{Bool, true, false, _||_}
 use mathlib.Core.List.{List}
 use native.Mathlib.Omega.{arith}
 use lib.Dec.{eqb}
-use lib.Ieee.{Float}
 use borrow.Author.Tests.{eqb-true}
 use Rattle.bits.specs.Choice.{if_then_else_}
 use Rattle.floats.specs.Numbers.{angle, Angle}
 use Rattle.floats.proofs.Rounding.{byte-exact, short-exact}
 use Rattle.bitio.specs.Cursors.{good, badCursor, atCursor}
 use Rattle.bitio.specs.declared.Cursor.{Cursor}
+use Rattle.geometry.specs.Finite.{ExactRotation}
 use Rattle.geometry.specs.Parts.{threeAt, Below}
 use Rattle.geometry.specs.Rotations.{rotation, rotationOf, rotationAt, readRotation}
 use Rattle.geometry.proofs.PartLaws.{below-axes}
@@ -21,17 +21,6 @@ use Rattle.geometry.specs.declared.Refusal.the-variants.{Unread, NoSuchW
 use Rattle.geometry.specs.declared.parts.Part.the-variants.{Axis}
 use Rattle.geometry.specs.declared.parts.Three.{Three}
 use Rattle.geometry.specs.declared.parts.Three.the-variants as T
-
--- r is exactly k times 45 / 2 ^ (w - 3) degrees, for a k of w bits
-pub record Exact (w : ℕ) (r : Float) : Type 0 where
-  pub steps : ℕ
-  pub few : steps < 2 ^ w
-  pub angle-of : Angle w steps r
-
-pub record ExactRotation (w : ℕ) (v : Rotation) : Type 0 where
-  pub exact-pitch : Exact w (v .pitch)
-  pub exact-yaw : Exact w (v .yaw)
-  pub exact-roll : Exact w (v .roll)
 
 module _ (w : ℕ) (each : (k : ℕ) → k < 2 ^ w → Angle w k (angle w k)) where
   exact-of : (v : Rotation) (p : ℕ) (t : Three) → Below (2 ^ w) t → rotationOf w t ≡ R.Value v p → ExactRotation w v

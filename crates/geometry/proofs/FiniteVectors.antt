@@ -1,4 +1,4 @@
--- An accepted vector's components are finite: `checked` asks it of all three.
+-- An accepted vector's components are finite, as `checked` asks it of all three; a normal's are, as a quotient of two small integers is.
 use Prim.Native.Nat.{ℕ, _/_, _%_}
 use mathlib.Core.Path.{_≡_, refl, subst}
 use mathlib.Core.Bool.{Bool, true, false, _&&_}
@@ -9,25 +9,23 @@ use lib.Ieee.{Float, binary32, binary64, ofBits}
 use lib.Ieee.Scale.{finite}
 use Rattle.bits.specs.Choice.{if_then_else_}
 use Rattle.bits.specs.TwosComplement.{twos}
-use Rattle.floats.specs.Numbers.{quotient}
+use Rattle.floats.specs.Numbers.{quotient, normalAxis}
+use Rattle.floats.proofs.Finite.{normal-finite}
 use Rattle.bitio.specs.Cursors.{good, badCursor, atCursor}
 use Rattle.bitio.specs.Numbers.{readSerializedInt}
 use Rattle.bitio.specs.declared.Cursor.{Cursor}
 use Rattle.bitio.specs.declared.BitsRead.{BitsRead}
 use Rattle.bitio.specs.declared.BitsRead.the-variants as B
-use Rattle.geometry.specs.Parts.{at, afterRead, asBits, threeAt, componentsAt}
-use Rattle.geometry.specs.Vectors.{vector, checked, vectorOf, divisor, vectorBehind, headerMaximum, quantizedAt, readVector}
+use Rattle.geometry.specs.Finite.{FiniteVector}
+use Rattle.geometry.specs.Parts.{at, afterRead, asBits, threeAt, componentsAt, Below}
+use Rattle.geometry.specs.Vectors.{vector, checked, vectorOf, divisor, vectorBehind, headerMaximum, quantizedAt, readVector, normalMaximum, normalOf, readNormal}
+use Rattle.geometry.proofs.PartLaws.{below-integers}
 use Rattle.geometry.specs.declared.Vector.{Vector}
 use Rattle.geometry.specs.declared.VectorRead.the-variants as Vec
 use Rattle.geometry.specs.declared.Refusal.the-variants.{Unread, NoScale, NotFinite}
-use Rattle.geometry.specs.declared.parts.Part.the-variants.{Bits}
+use Rattle.geometry.specs.declared.parts.Part.the-variants.{Bits, Integer}
 use Rattle.geometry.specs.declared.parts.Three.{Three}
 use Rattle.geometry.specs.declared.parts.Three.the-variants as T
-
-pub record FiniteVector (v : Vector) : Type 0 where
-  pub finite-x : finite (v .x) ≡ true
-  pub finite-y : finite (v .y) ≡ true
-  pub finite-z : finite (v .z) ≡ true
 
 module _ (v : Vector) (p : ℕ) where
   checked-finite : (x y z : Float) (q : ℕ) → checked x y z q ≡ Vec.Value v p → FiniteVector v
@@ -67,16 +65,29 @@ module _ (v : Vector) (p : ℕ) where
     header-finite c (B.Value h q) g = behind-finite (h % 64) (h / 64) (at c q) g
     header-finite c (B.Refused r) g = let z : _≡_ {A = ℕ} 0 1 = cc in absurd (omega arith)
 
+    pub quantized-finite : (c : Cursor) → quantizedAt s scale c ≡ Vec.Value v p → FiniteVector v
+    unfolding quantizedAt
+    quantized-finite c g = header-finite c (asBits (readSerializedInt s c headerMaximum)) g
+
     -- An accepted vector has finite components.
     pub vector-finite : (c : Cursor) → readVector s c scale ≡ Vec.Value v p → FiniteVector v
-    unfolding atCursor quantizedAt
+    unfolding atCursor
     vector-finite c g = go (good s c) (eqb scale 0) g
       where
         go : (a b : Bool)
-            → (if a then
-            (if b then Vec.Refused NoScale else afterRead (λ r. Vec.Refused (Unread r)) (asBits (readSerializedInt s c headerMaximum)) (λ h q. vectorBehind s scale (h % 64) (h / 64) (at c q))) else
-            Vec.Refused (Unread (badCursor s c))) ≡ Vec.Value v p
+            → (if a then (if b then Vec.Refused NoScale else quantizedAt s scale c) else Vec.Refused (Unread (badCursor s c))) ≡ Vec.Value v p
             → FiniteVector v
         go true true g = let z : _≡_ {A = ℕ} 0 1 = cc in absurd (omega arith)
-        go true false g = header-finite c (asBits (readSerializedInt s c headerMaximum)) g
+        go true false g = quantized-finite c g
         go false b g = let z : _≡_ {A = ℕ} 0 1 = cc in absurd (omega arith)
+
+  axes-finite : (t : Three) → Below normalMaximum t → normalOf t ≡ Vec.Value v p → FiniteVector v
+  unfolding normalOf Below
+  axes-finite (T.Value x y z q) b e =
+      let f : vector (normalAxis x) (normalAxis y) (normalAxis z) ≡ v = cc in
+      subst FiniteVector f (record { finite-x = normal-finite x (b .0); finite-y = normal-finite y (b .1); finite-z = normal-finite z (b .2) })
+  axes-finite (T.Refused r) b e = let z : _≡_ {A = ℕ} 0 1 = cc in absurd (omega arith)
+
+  -- An accepted normal has finite components.
+  pub fixed-finite : (s : List ℕ) (c : Cursor) → readNormal s c ≡ Vec.Value v p → FiniteVector v
+  fixed-finite s c e = axes-finite (threeAt s (Integer normalMaximum) c) (below-integers s c normalMaximum (omega arith) (omega arith) refl) e

@@ -6,5 +6,6 @@ pub mod MovementLaws
 pub mod CasesProved
 pub mod ExactAngles
 pub mod FiniteVectors
+pub mod SameParts
 pub mod Outside
 pub mod ExactMovements

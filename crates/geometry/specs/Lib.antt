@@ -5,3 +5,4 @@ pub mod Rotations
 pub mod Movements
 pub mod Cases
 pub mod ByteAngles
+pub mod Finite

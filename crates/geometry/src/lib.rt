@@ -6,7 +6,7 @@
 //     normal   = three times 16 bits k, as (k - 32768) / 32767
 //     rotation = for each axis a bit, and behind a set one k of 8 or 16 bits, as k turns of 360 / 2^width degrees;
 //                of 8 bits that is 45 k thirty-seconds of a degree
-//     movement = four bits (sleep, physics, frame, handle), vector, rotation, vector,
+//     movement = a bit each for sleep, physics, frame and handle, vector, rotation, vector,
 //                [physics] vector, [frame] packed number, [handle] packed number
 //
 // Every call takes any bytes, any cursor and any number, and answers with a value or with one of document 01's refusals. A

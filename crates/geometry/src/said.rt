@@ -1,10 +1,9 @@
 // What a refusal says: its number and the values of document 01's table, and where the cursor stands after it. A part that can't be
 // read says what the bit reader says.
 ghost use mathlib.Core.Path.{_≡_};
-ghost use Prim.Native.Nat.{_%_, _^_};
 ghost use Rattle.bits.specs.Refusals.{refusal};
 ghost use Rattle.bitio.specs.Refusals.{sayingOf};
-ghost use Rattle.geometry.specs.Refusals.{numbered, standsAfter};
+ghost use Rattle.geometry.specs.Refusals.{said, standsAfter64};
 use crate::Refusal;
 use bitio::said::Saying;
 
@@ -20,7 +19,7 @@ fn plain(number: u32) -> Saying
 }
 
 pub fn said(why: Refusal) -> Saying
-    ensures { λ r. ⌜ r ≡ sayingOf (numbered why) ⌝ }
+    ensures { λ r. ⌜ r ≡ said why ⌝ }
 {
     match why {
         Refusal::Unread(part) => bitio::said::said(part),
@@ -32,7 +31,7 @@ pub fn said(why: Refusal) -> Saying
 
 // Where the cursor that stood at `at` stands after the refusal.
 pub fn stands_after(why: Refusal, at: u64) -> u64
-    ensures { λ r. ⌜ r ≡ standsAfter at why % 2 ^ 64 ⌝ }
+    ensures { λ r. ⌜ r ≡ standsAfter64 why at ⌝ }
 {
     match why {
         Refusal::Unread(part) => bitio::said::stands_after(part, at),

@@ -90,13 +90,18 @@ heldBy w = record { leaves = w .records .held; paths = w .paths .held; payloads 
 abbrev pub pairTrace : (bytes : List ℕ) (bits : ℕ) → Trace
 pairTrace bytes bits = walk object bytes bits
 
+-- the answer of a walk with this trace, and what its buffer holds at the end
+abbrev pub pairAnswerOf : Trace → (bits : ℕ) (lent : List ℕ) → Answer ℕ
+pairAnswerOf t bits lent = decided bits true t 0 (length (pairs t)) (leb (length (pairs t)) (wholeRecords pairWords (length lent)))
+
+abbrev pub finalPairsOf : Trace → Answer ℕ → (lent : List ℕ) → List ℕ
+finalPairsOf t a lent = atExit a (pairRecords (pairs t)) lent
+
 unfoldable pub pairAnswer : (bytes : List ℕ) (bits : ℕ) (lent : List ℕ) → Answer ℕ
-pairAnswer bytes bits lent =
-    decided bits true (pairTrace bytes bits) 0 (length (pairs (pairTrace bytes bits)))
-    (leb (length (pairs (pairTrace bytes bits))) (wholeRecords pairWords (length lent)))
+pairAnswer bytes bits lent = pairAnswerOf (pairTrace bytes bits) bits lent
 
 unfoldable pub finalPairs : (bytes : List ℕ) (bits : ℕ) (lent : List ℕ) → List ℕ
-finalPairs bytes bits lent = atExit (pairAnswer bytes bits lent) (pairRecords (pairs (pairTrace bytes bits))) lent
+finalPairs bytes bits lent = finalPairsOf (pairTrace bytes bits) (pairAnswer bytes bits lent) lent
 
 pub record PairsAnswered (bytes : List ℕ) (bits : ℕ) (lent : List ℕ) (r : Answer ℕ) (end : List ℕ) : Type 0 where
   pub says : r ≡ pairAnswer bytes bits lent

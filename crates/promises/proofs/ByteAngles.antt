@@ -14,7 +14,8 @@ use Rattle.bitio.specs.declared.Cursor.{Cursor}
 use Rattle.geometry.specs.ByteAngles.{byteAngleSteps}
 use Rattle.geometry.specs.Rotations.{readRotation}
 use Rattle.geometry.specs.Movements.{widthOf, readMovement}
-use Rattle.geometry.proofs.ExactAngles.{Exact, ExactRotation, rotation-exact}
+use Rattle.geometry.specs.Finite.{Exact, ExactRotation}
+use Rattle.geometry.proofs.ExactAngles.{rotation-exact}
 use Rattle.geometry.proofs.ExactMovements.{movement-exact}
 use Rattle.geometry.specs.declared.Rotation.{Rotation}
 use Rattle.geometry.specs.declared.Movement.{Movement}

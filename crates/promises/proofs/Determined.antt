@@ -1,6 +1,6 @@
 -- Two answers that meet a call's contract are the same, with the same contents of every lent buffer. There is one file for each crate with public
--- calls; the theorem on a call is `one-` and the call's name, with `-` for `_`. What stands behind `Determines` is the contract's own
--- proposition, with the lent lists as arguments.
+-- calls; the theorem on a call is `one-` and the call's name, with `-` for `_`. What stands behind `Determines` is the one definition that the
+-- contract cites, over the same parameters.
 use mathlib.Core.Path.{_≡_, sym, _∙_}
 use Rattle.promises.specs.Determining.{Determines, DeterminesAll}
 

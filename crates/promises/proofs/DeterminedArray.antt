@@ -4,10 +4,9 @@ use Prim.Native.Nat.{ℕ}
 use mathlib.Core.Path.{_≡_}
 use mathlib.Core.List.{List}
 use Rattle.schema.specs.Tables.{Tables}
-use Rattle.framing.specs.Counters.{isClean}
 use Rattle.outputs.specs.Answers.{Lent}
-use Rattle.array.specs.Calls.{structCall, exactCall, Judges, Adds, Decodes, DecodesPairs}
-use Rattle.array.specs.Refusals.{countersOf, answerOf, pairsOf, sumsOf, refusedRoom, refusedPairs, refusedSum}
+use Rattle.array.specs.Calls.{structCall, exactCall, statsClean, Judges, Adds, Decodes, DecodesPairs}
+use Rattle.array.specs.Refusals.{said, pairsSaid, mergeNumber}
 use Rattle.array.proofs.OneAnswer as A
 use Rattle.array.proofs.OneAnswer.{one-struct, one-object, one-merged}
 use Rattle.array.specs.declared.ArrayDecodeStats.{ArrayDecodeStats}
@@ -36,27 +35,27 @@ one-decode-object-ref-array bytes bits pairs = one-object bytes bits pairs
 -- ---- counters
 
 -- `is_clean` has one answer.
-pub one-is-clean : (stats : ArrayDecodeStats) → Determines (λ r. r ≡ isClean (countersOf stats))
-one-is-clean stats = one-equal (isClean (countersOf stats))
+pub one-is-clean : (stats : ArrayDecodeStats) → Determines (λ r. r ≡ statsClean stats)
+one-is-clean stats = one-equal (statsClean stats)
 
 -- `verdict` has one answer.
-pub one-verdict : (stats : ArrayDecodeStats) → Determines (Judges (countersOf stats))
-one-verdict stats = A.one-verdict (countersOf stats)
+pub one-verdict : (stats : ArrayDecodeStats) → Determines (Judges stats)
+one-verdict stats = A.one-verdict stats
 
 -- `merge_from` has one answer.
-pub one-merge-from : (left right : ArrayDecodeStats) → Determines (Adds (countersOf left) (countersOf right))
-one-merge-from left right = one-merged (countersOf left) (countersOf right)
+pub one-merge-from : (left right : ArrayDecodeStats) → Determines (Adds left right)
+one-merge-from left right = one-merged left right
 
 -- ---- what a refusal says
 
 -- `said` has one answer.
-pub one-said : (answer : StructArray) → Determines (λ r. r ≡ refusedRoom (answerOf answer))
-one-said answer = one-equal (refusedRoom (answerOf answer))
+pub one-said : (answer : StructArray) → Determines (λ r. r ≡ said answer)
+one-said answer = one-equal (said answer)
 
 -- `pairs_said` has one answer.
-pub one-pairs-said : (answer : ObjectArray) → Determines (λ r. r ≡ refusedPairs (pairsOf answer))
-one-pairs-said answer = one-equal (refusedPairs (pairsOf answer))
+pub one-pairs-said : (answer : ObjectArray) → Determines (λ r. r ≡ pairsSaid answer)
+one-pairs-said answer = one-equal (pairsSaid answer)
 
 -- `merge_number` has one answer.
-pub one-merge-number : (answer : Merged) → Determines (λ r. r ≡ refusedSum (sumsOf answer))
-one-merge-number answer = one-equal (refusedSum (sumsOf answer))
+pub one-merge-number : (answer : Merged) → Determines (λ r. r ≡ mergeNumber answer)
+one-merge-number answer = one-equal (mergeNumber answer)

@@ -1,12 +1,12 @@
 -- Each public call of bitio is determined by its contract: the answer, and a copy's target, equal what a definition gives.
-use Prim.Native.Nat.{ℕ, _%_, _^_}
+use Prim.Native.Nat.{ℕ}
 use mathlib.Core.Path.{_≡_}
 use mathlib.Core.List.{List}
 use Rattle.bitio.specs.Cursors.{opened, wholeOf, positionOf, lengthOf, remainingOf, endOf, skipped, skippedAll, subReader}
 use Rattle.bitio.specs.Reads.{readBit, readBits, readU8, readU16, readU32, readI32, readU64}
 use Rattle.bitio.specs.Numbers.{readIntPacked, readSerializedInt}
-use Rattle.bitio.specs.Copies.{copyAnswer, copyTarget}
-use Rattle.bitio.specs.Refusals.{numbered, sayingOf, standsAfter}
+use Rattle.bitio.specs.Copies.{CopiesBits}
+use Rattle.bitio.specs.Refusals.{said, standsAfter64}
 use Rattle.bitio.specs.declared.Cursor.{Cursor}
 use Rattle.bitio.specs.declared.Refusal.{Refusal}
 use Rattle.promises.specs.Determining.{Determines, DeterminesAll}
@@ -92,15 +92,15 @@ one-read-serialized-int bytes c max = one-equal (readSerializedInt bytes c max)
 
 -- `copy_bits_to` has one answer and leaves its target in one state.
 pub one-copy-bits-to : (bytes : List ℕ) (c : Cursor) (count : ℕ) (dst : List ℕ)
-    → DeterminesAll (λ r end. (r ≡ copyAnswer bytes c count dst) × (end ≡ copyTarget bytes c count dst))
-one-copy-bits-to bytes c count dst = both-equal (copyAnswer bytes c count dst) (copyTarget bytes c count dst)
+    → DeterminesAll (CopiesBits bytes c count dst)
+one-copy-bits-to bytes c count dst = both-equal _ _
 
 -- ---- what a refusal says
 
 -- `said` has one answer.
-pub one-said : (why : Refusal) → Determines (λ r. r ≡ sayingOf (numbered why))
-one-said why = one-equal (sayingOf (numbered why))
+pub one-said : (why : Refusal) → Determines (λ r. r ≡ said why)
+one-said why = one-equal (said why)
 
 -- `stands_after` has one answer.
-pub one-stands-after : (why : Refusal) (at : ℕ) → Determines (λ r. r ≡ standsAfter at why % 2 ^ 64)
-one-stands-after why at = one-equal (standsAfter at why % 2 ^ 64)
+pub one-stands-after : (why : Refusal) (at : ℕ) → Determines (λ r. r ≡ standsAfter64 why at)
+one-stands-after why at = one-equal (standsAfter64 why at)

@@ -2,23 +2,13 @@
 use Prim.Native.Nat.{ℕ}
 use mathlib.Core.Path.{_≡_, sym, _∙_}
 use mathlib.Core.List.{List}
-use Rattle.bitio.specs.Copies.{copyAnswer, copyTarget}
-use Rattle.bitio.specs.Numbers.{readIntPacked, readSerializedInt}
-use Rattle.bitio.specs.Reads.{readBits}
 use Rattle.schema.specs.Tables.{Tables}
-use Rattle.schema.specs.TwelveLevels.{fillAnswer, filledRows, filledNames}
-use Rattle.framing.specs.Verdicts.{countersVerdict}
 use Rattle.outputs.specs.Answers.{Call, Lent}
 use Rattle.array.specs.Calls.{structCall, exactCall}
-use Rattle.array.specs.Merges.{merge}
 use Rattle.fastarray.specs.Answers as F
 use Rattle.geometry.specs.ByteAngles.{byteAngleSteps}
-use Rattle.geometry.specs.Movements.{readMovement}
-use Rattle.geometry.specs.Rotations.{readRotation}
-use Rattle.geometry.specs.Vectors.{readVector, readNormal}
-use Rattle.exports.specs.MoveResults.{vectorResult, rotationResult, movementResult, rotationKind, locationKind}
-use Rattle.exports.specs.ReadResults.{cursorOf, bitsResult, packedResult, serializedResult, copyResult}
-use Rattle.exports.specs.WalkResults.{Walks, WalksPairs, countersIn, mergeResult, verdictNumber, schemaResult, modeOf, DecodesBody}
+use Rattle.exports.specs.Calls.{vrfMerge, vrfVerdict, FillsForC, vrfReadBits, vrfReadPacked, vrfReadSerialized, CopiesForC, vrfVector, vrfNormal, vrfRotation, vrfMovement}
+use Rattle.exports.specs.WalkResults.{Walks, WalksPairs, modeOf, DecodesBody}
 use Rattle.exports.specs.declared.VrfCounters.{VrfCounters}
 use Rattle.exports.specs.declared.VrfCursor.{VrfCursor}
 use Rattle.promises.specs.Determining.{Determines, DeterminesAll}
@@ -48,19 +38,19 @@ pub one-vrf-object-array : (bytes : List ℕ) (bits : ℕ) (pairs : List ℕ) �
 one-vrf-object-array bytes bits pairs = one-pairs bytes bits pairs
 
 -- `vrf_merge` has one answer.
-pub one-vrf-merge : (left right : VrfCounters) → Determines (λ r. r ≡ mergeResult (merge (countersIn left) (countersIn right)))
-one-vrf-merge left right = one-equal (mergeResult (merge (countersIn left) (countersIn right)))
+pub one-vrf-merge : (left right : VrfCounters) → Determines (λ r. r ≡ vrfMerge left right)
+one-vrf-merge left right = one-equal (vrfMerge left right)
 
 -- `vrf_verdict` has one answer.
-pub one-vrf-verdict : (counters : VrfCounters) → Determines (λ r. r ≡ verdictNumber (countersVerdict (countersIn counters)))
-one-vrf-verdict counters = one-equal (verdictNumber (countersVerdict (countersIn counters)))
+pub one-vrf-verdict : (counters : VrfCounters) → Determines (λ r. r ≡ vrfVerdict counters)
+one-vrf-verdict counters = one-equal (vrfVerdict counters)
 
 -- ---- the schema, and the fast array
 
 -- `vrf_schema` has one answer and leaves both buffers in one state.
 pub one-vrf-schema : (rows names : List ℕ)
-    → DeterminesAll (λ r (end : List ℕ × List ℕ). (r ≡ schemaResult (fillAnswer rows names)) × (end .0 ≡ filledRows rows names) × (end .1 ≡ filledNames rows names))
-one-vrf-schema rows names = three-equal (schemaResult (fillAnswer rows names)) (filledRows rows names) (filledNames rows names)
+    → DeterminesAll (λ r (end : List ℕ × List ℕ). FillsForC rows names r (end .0) (end .1))
+one-vrf-schema rows names = three-equal _ _ _
 
 -- `vrf_fast_array` has one answer and leaves its three buffers in one state.
 pub one-vrf-fast-array : (payload : List ℕ) (bits checksum : ℕ) (l : F.Lent) → DeterminesAll (DecodesBody (F.call payload bits (modeOf checksum)) l)
@@ -73,47 +63,41 @@ one-vrf-fast-array payload bits checksum l r s x y f g =
 -- ---- reads
 
 -- `vrf_read_bits` has one answer.
-pub one-vrf-read-bits : (bytes : List ℕ) (cursor : VrfCursor) (count : ℕ)
-    → Determines (λ r. r ≡ bitsResult (cursor .pos) (readBits bytes (cursorOf cursor) count))
-one-vrf-read-bits bytes cursor count = one-equal (bitsResult (cursor .pos) (readBits bytes (cursorOf cursor) count))
+pub one-vrf-read-bits : (bytes : List ℕ) (cursor : VrfCursor) (count : ℕ) → Determines (λ r. r ≡ vrfReadBits bytes cursor count)
+one-vrf-read-bits bytes cursor count = one-equal (vrfReadBits bytes cursor count)
 
 -- `vrf_read_packed` has one answer.
-pub one-vrf-read-packed : (bytes : List ℕ) (cursor : VrfCursor)
-    → Determines (λ r. r ≡ packedResult (cursor .pos) (readIntPacked bytes (cursorOf cursor)))
-one-vrf-read-packed bytes cursor = one-equal (packedResult (cursor .pos) (readIntPacked bytes (cursorOf cursor)))
+pub one-vrf-read-packed : (bytes : List ℕ) (cursor : VrfCursor) → Determines (λ r. r ≡ vrfReadPacked bytes cursor)
+one-vrf-read-packed bytes cursor = one-equal (vrfReadPacked bytes cursor)
 
 -- `vrf_read_serialized` has one answer.
 pub one-vrf-read-serialized : (bytes : List ℕ) (cursor : VrfCursor) (maximum : ℕ)
-    → Determines (λ r. r ≡ serializedResult (cursor .pos) (readSerializedInt bytes (cursorOf cursor) maximum))
-one-vrf-read-serialized bytes cursor maximum = one-equal (serializedResult (cursor .pos) (readSerializedInt bytes (cursorOf cursor) maximum))
+    → Determines (λ r. r ≡ vrfReadSerialized bytes cursor maximum)
+one-vrf-read-serialized bytes cursor maximum = one-equal (vrfReadSerialized bytes cursor maximum)
 
 -- `vrf_copy_bits` has one answer and leaves its target in one state.
 pub one-vrf-copy-bits : (bytes : List ℕ) (cursor : VrfCursor) (count : ℕ) (target : List ℕ)
-    → DeterminesAll
-    (λ r end. (r ≡ copyResult (cursor .pos) (copyAnswer bytes (cursorOf cursor) count target)) × (end ≡ copyTarget bytes (cursorOf cursor) count target))
-one-vrf-copy-bits bytes cursor count target =
-    both-equal (copyResult (cursor .pos) (copyAnswer bytes (cursorOf cursor) count target)) (copyTarget bytes (cursorOf cursor) count target)
+    → DeterminesAll (CopiesForC bytes cursor count target)
+one-vrf-copy-bits bytes cursor count target = both-equal _ _
 
 -- ---- vectors, rotations, movement
 
 -- `vrf_vector` has one answer.
-pub one-vrf-vector : (bytes : List ℕ) (cursor : VrfCursor) (scale : ℕ)
-    → Determines (λ r. r ≡ vectorResult (cursor .pos) (readVector bytes (cursorOf cursor) scale))
-one-vrf-vector bytes cursor scale = one-equal (vectorResult (cursor .pos) (readVector bytes (cursorOf cursor) scale))
+pub one-vrf-vector : (bytes : List ℕ) (cursor : VrfCursor) (scale : ℕ) → Determines (λ r. r ≡ vrfVector bytes cursor scale)
+one-vrf-vector bytes cursor scale = one-equal (vrfVector bytes cursor scale)
 
 -- `vrf_normal` has one answer.
-pub one-vrf-normal : (bytes : List ℕ) (cursor : VrfCursor) → Determines (λ r. r ≡ vectorResult (cursor .pos) (readNormal bytes (cursorOf cursor)))
-one-vrf-normal bytes cursor = one-equal (vectorResult (cursor .pos) (readNormal bytes (cursorOf cursor)))
+pub one-vrf-normal : (bytes : List ℕ) (cursor : VrfCursor) → Determines (λ r. r ≡ vrfNormal bytes cursor)
+one-vrf-normal bytes cursor = one-equal (vrfNormal bytes cursor)
 
 -- `vrf_rotation` has one answer.
-pub one-vrf-rotation : (bytes : List ℕ) (cursor : VrfCursor) (width : ℕ)
-    → Determines (λ r. r ≡ rotationResult (cursor .pos) (readRotation bytes (cursorOf cursor) width))
-one-vrf-rotation bytes cursor width = one-equal (rotationResult (cursor .pos) (readRotation bytes (cursorOf cursor) width))
+pub one-vrf-rotation : (bytes : List ℕ) (cursor : VrfCursor) (width : ℕ) → Determines (λ r. r ≡ vrfRotation bytes cursor width)
+one-vrf-rotation bytes cursor width = one-equal (vrfRotation bytes cursor width)
 
 -- `vrf_movement` has one answer.
 pub one-vrf-movement : (bytes : List ℕ) (count rotation location : ℕ)
-    → Determines (λ r. r ≡ movementResult (readMovement bytes count (rotationKind rotation) (locationKind location)))
-one-vrf-movement bytes count rotation location = one-equal (movementResult (readMovement bytes count (rotationKind rotation) (locationKind location)))
+    → Determines (λ r. r ≡ vrfMovement bytes count rotation location)
+one-vrf-movement bytes count rotation location = one-equal (vrfMovement bytes count rotation location)
 
 -- `vrf_byte_angle_steps` has one answer.
 pub one-vrf-byte-angle-steps : (k : ℕ) → Determines (λ r. r ≡ byteAngleSteps k)

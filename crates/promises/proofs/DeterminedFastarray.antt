@@ -3,7 +3,7 @@ use Prim.Native.Nat.{ℕ}
 use mathlib.Core.Path.{_≡_}
 use mathlib.Core.List.{List}
 use Rattle.fastarray.specs.Answers.{call, Lent, Answered}
-use Rattle.fastarray.specs.Refusals.{numbered, sayingOf}
+use Rattle.fastarray.specs.Refusals.{said}
 use Rattle.fastarray.specs.declared.FastArray.{FastArray}
 use Rattle.fastarray.specs.declared.ChecksumMode.{ChecksumMode}
 use Rattle.fastarray.proofs.AnswerLaws.{one-answer}
@@ -15,5 +15,5 @@ pub one-decode-fast-array-delta : (payload : List ℕ) (bits : ℕ) (mode : Chec
 one-decode-fast-array-delta payload bits mode l = one-answer (call payload bits mode) l
 
 -- `said` has one answer.
-pub one-said : (answer : FastArray) → Determines (λ r. r ≡ sayingOf (numbered answer))
-one-said answer = one-equal (sayingOf (numbered answer))
+pub one-said : (answer : FastArray) → Determines (λ r. r ≡ said answer)
+one-said answer = one-equal (said answer)

@@ -1,10 +1,9 @@
 -- Each public call of geometry is determined by its contract: the answer equals what a definition gives.
-use Prim.Native.Nat.{ℕ, _%_, _^_}
+use Prim.Native.Nat.{ℕ}
 use mathlib.Core.Path.{_≡_}
 use mathlib.Core.List.{List}
 use Rattle.bitio.specs.declared.Cursor.{Cursor}
-use Rattle.bitio.specs.Refusals.{sayingOf}
-use Rattle.geometry.specs.Refusals.{numbered, standsAfter}
+use Rattle.geometry.specs.Refusals.{said, standsAfter64}
 use Rattle.geometry.specs.Vectors.{readVector, readNormal}
 use Rattle.geometry.specs.Rotations.{readRotation}
 use Rattle.geometry.specs.Movements.{readMovement}
@@ -37,9 +36,9 @@ pub one-byte-angle-steps : (k : ℕ) → Determines (λ r. r ≡ byteAngleSteps 
 one-byte-angle-steps k = one-equal (byteAngleSteps k)
 
 -- `said` has one answer.
-pub one-said : (why : Refusal) → Determines (λ r. r ≡ sayingOf (numbered why))
-one-said why = one-equal (sayingOf (numbered why))
+pub one-said : (why : Refusal) → Determines (λ r. r ≡ said why)
+one-said why = one-equal (said why)
 
 -- `stands_after` has one answer.
-pub one-stands-after : (why : Refusal) (at : ℕ) → Determines (λ r. r ≡ standsAfter at why % 2 ^ 64)
-one-stands-after why at = one-equal (standsAfter at why % 2 ^ 64)
+pub one-stands-after : (why : Refusal) (at : ℕ) → Determines (λ r. r ≡ standsAfter64 why at)
+one-stands-after why at = one-equal (standsAfter64 why at)

@@ -2,13 +2,13 @@
 use Prim.Native.Nat.{ℕ}
 use mathlib.Core.Path.{_≡_}
 use mathlib.Core.Bool.{Bool}
-use mathlib.Core.List.{List, []}
-use Rattle.schema.specs.Labels.{bySchema, byDeclaration, containerLabel, leafLabel, labelLength, labelPart}
+use mathlib.Core.List.{List}
+use Rattle.schema.specs.Labels.{containerLabelFrom, leafLabelFrom, containerLabelOf, leafLabelOf, labelLength, labelPart}
 use Rattle.schema.specs.Layout.{laidOut}
-use Rattle.schema.specs.Refusals.{tablesNumbered, filledNumbered, refusalNumber, sayingOf}
+use Rattle.schema.specs.Refusals.{said, tablesNumber}
 use Rattle.schema.specs.Spans.{spansOf, entryIn, entryAt}
-use Rattle.schema.specs.Tables.{tables, lookUps, rowIn, rowOf, child, schemaName, declaredName}
-use Rattle.schema.specs.TwelveLevels.{publicLevels, fillAnswer, filledRows, filledNames}
+use Rattle.schema.specs.Tables.{tables, rowIn, rowOf, child, schemaName, declaredName}
+use Rattle.schema.specs.TwelveLevels.{publicLevels, FillsSchema}
 use Rattle.schema.specs.declared.Filled.{Filled}
 use Rattle.schema.specs.declared.Entry.{Entry}
 use Rattle.schema.specs.declared.Label.{Label}
@@ -18,21 +18,20 @@ use Rattle.promises.proofs.Determined.{one-equal, three-equal}
 -- ---- labels
 
 -- `container_label_from` has one answer.
-pub one-container-label-from : (entry : Entry) → Determines (λ r. r ≡ bySchema (entry .name))
-one-container-label-from entry = one-equal (bySchema (entry .name))
+pub one-container-label-from : (entry : Entry) → Determines (λ r. r ≡ containerLabelFrom entry)
+one-container-label-from entry = one-equal (containerLabelFrom entry)
 
 -- `leaf_label_from` has one answer.
-pub one-leaf-label-from : (entry : Entry) (declared : List ℕ) (handle : ℕ)
-    → Determines (λ r. r ≡ byDeclaration (declaredName declared handle) (bySchema (entry .name)))
-one-leaf-label-from entry declared handle = one-equal (byDeclaration (declaredName declared handle) (bySchema (entry .name)))
+pub one-leaf-label-from : (entry : Entry) (declared : List ℕ) (handle : ℕ) → Determines (λ r. r ≡ leafLabelFrom entry declared handle)
+one-leaf-label-from entry declared handle = one-equal (leafLabelFrom entry declared handle)
 
 -- `container_label` has one answer.
-pub one-container-label : (rows : List ℕ) (level handle : ℕ) → Determines (λ r. r ≡ containerLabel (lookUps rows []) level handle)
-one-container-label rows level handle = one-equal (containerLabel (lookUps rows []) level handle)
+pub one-container-label : (rows : List ℕ) (level handle : ℕ) → Determines (λ r. r ≡ containerLabelOf rows level handle)
+one-container-label rows level handle = one-equal (containerLabelOf rows level handle)
 
 -- `label_of` has one answer.
-pub one-label-of : (rows declared : List ℕ) (level handle : ℕ) → Determines (λ r. r ≡ leafLabel (lookUps rows declared) level handle)
-one-label-of rows declared level handle = one-equal (leafLabel (lookUps rows declared) level handle)
+pub one-label-of : (rows declared : List ℕ) (level handle : ℕ) → Determines (λ r. r ≡ leafLabelOf rows declared level handle)
+one-label-of rows declared level handle = one-equal (leafLabelOf rows declared level handle)
 
 -- `label_length` has one answer.
 pub one-label-length : (label : Label) (handle : ℕ) → Determines (λ r. r ≡ labelLength handle label)
@@ -89,15 +88,15 @@ one-public-levels = one-equal publicLevels
 
 -- `fill_schema` has one answer and leaves both buffers in one state.
 pub one-fill-schema : (rows names : List ℕ)
-    → DeterminesAll (λ r (end : List ℕ × List ℕ). (r ≡ fillAnswer rows names) × (end .0 ≡ filledRows rows names) × (end .1 ≡ filledNames rows names))
-one-fill-schema rows names = three-equal (fillAnswer rows names) (filledRows rows names) (filledNames rows names)
+    → DeterminesAll (λ r (end : List ℕ × List ℕ). FillsSchema rows names r (end .0) (end .1))
+one-fill-schema rows names = three-equal _ _ _
 
 -- ---- what a refusal says
 
 -- `said` has one answer.
-pub one-said : (answer : Filled) → Determines (λ r. r ≡ sayingOf (filledNumbered answer))
-one-said answer = one-equal (sayingOf (filledNumbered answer))
+pub one-said : (answer : Filled) → Determines (λ r. r ≡ said answer)
+one-said answer = one-equal (said answer)
 
 -- `tables_number` has one answer.
-pub one-tables-number : (kept : Bool) → Determines (λ r. r ≡ refusalNumber (tablesNumbered kept))
-one-tables-number kept = one-equal (refusalNumber (tablesNumbered kept))
+pub one-tables-number : (kept : Bool) → Determines (λ r. r ≡ tablesNumber kept)
+one-tables-number kept = one-equal (tablesNumber kept)

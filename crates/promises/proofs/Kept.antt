@@ -7,19 +7,18 @@ use mathlib.Core.List.{List}
 use mathlib.Core.Option.{none, some}
 use lib.ListN.{length}
 use Rattle.bits.specs.Refusals.{Numbered}
-use Rattle.bits.specs.Runs.{store}
 use Rattle.bits.proofs.Never.{never}
 use Rattle.bits.proofs.RunLaws.{store-out}
-use Rattle.bitio.specs.Copies.{copyAnswer, copyTarget}
-use Rattle.bitio.proofs.RefusalOrder.{refusalOfCopied}
+use Rattle.bitio.specs.Copies.{copyAnswer, CopiesBits}
 use Rattle.bitio.proofs.CopyLaws.{refused-target}
+use Rattle.bitio.specs.Order.{refusalOfCopied}
 use Rattle.bitio.specs.declared.Cursor.{Cursor}
 use Rattle.bitio.specs.declared.Refusal.{Refusal}
 use Rattle.bitio.specs.declared.Copied.{Copied}
 use Rattle.bitio.specs.declared.Copied.the-variants as Copy
-use Rattle.bits.specs.Decimals.{decimal}
+use Rattle.bits.specs.Decimals.{decimal, WritesDecimal}
 use Rattle.schema.specs.Tables.{Tables}
-use Rattle.schema.specs.TwelveLevels.{enough, fillAnswer, filledRows, filledNames}
+use Rattle.schema.specs.TwelveLevels.{enough, fillAnswer, filledRows, filledNames, FillsSchema}
 use Rattle.schema.specs.declared.Filled.{Filled}
 use Rattle.schema.specs.declared.Filled.the-variants as Fill
 use Rattle.framing.specs.Refusing.{Room, Answer, refused, accepted}
@@ -36,6 +35,7 @@ use Rattle.fastarray.proofs.RefusalOrder as fast
 use Rattle.fastarray.specs.declared.ChecksumMode.{ChecksumMode}
 use Rattle.fastarray.specs.declared.FastArray.{FastArray}
 use Rattle.fastarray.specs.declared.FastArray.the-variants as body
+use Rattle.exports.specs.Calls.{FillsForC, CopiesForC}
 use Rattle.exports.specs.ReadResults.{cursorOf, copyResult}
 use Rattle.exports.specs.WalkResults.{Walks, WalksPairs, walkResult, objectsResult, schemaResult, modeOf, bodyResult, DecodesBody}
 use Rattle.exports.specs.declared.VrfCursor.{VrfCursor}
@@ -93,34 +93,34 @@ kept-decode-fast-array-delta payload bits mode l r x n f e =
 
 -- A refused copy leaves its target as lent.
 pub kept-copy-bits-to : (bytes : List ℕ) (c : Cursor) (count : ℕ) (dst : List ℕ) (r : Copied) (end : List ℕ) (n : Refusal)
-    → r ≡ copyAnswer bytes c count dst → end ≡ copyTarget bytes c count dst → refusalOfCopied r ≡ some n → end ≡ dst
-kept-copy-bits-to bytes c count dst r end n f g e = go r f e
+    → CopiesBits bytes c count dst r end → refusalOfCopied r ≡ some n → end ≡ dst
+kept-copy-bits-to bytes c count dst r end n f e = go r (f .0) e
   where
     go : (r : Copied) → r ≡ copyAnswer bytes c count dst → refusalOfCopied r ≡ some n → end ≡ dst
-    go (Copy.Done next) f e = let z : _≡_ {A = ℕ} 0 1 = cc in never z
-    go (Copy.Refused k) f e = g ∙ refused-target bytes c count dst k (sym f)
+    go (Copy.Done next) g e = let z : _≡_ {A = ℕ} 0 1 = cc in never z
+    go (Copy.Refused k) g e = f .1 ∙ refused-target bytes c count dst k (sym g)
 
 -- ---- the schema's two buffers
 
 -- A refused fill leaves rows and names as lent.
 pub kept-fill-schema : (rows names : List ℕ) (r : Filled) (end : List ℕ × List ℕ) (n : Numbered)
-    → r ≡ fillAnswer rows names → end .0 ≡ filledRows rows names → end .1 ≡ filledNames rows names → filledNumbered r ≡ some n → (end .0 ≡ rows) × (end .1 ≡ names)
+    → FillsSchema rows names r (end .0) (end .1) → filledNumbered r ≡ some n → (end .0 ≡ rows) × (end .1 ≡ names)
 unfolding fillAnswer filledRows filledNames
-kept-fill-schema rows names r end n f g h e = go (enough rows names) refl
+kept-fill-schema rows names r end n f e = go (enough rows names) refl
   where
     go : (b : Bool) → enough rows names ≡ b → (end .0 ≡ rows) × (end .1 ≡ names)
     go true t =
         let d : fillAnswer rows names ≡ Fill.Done = simp t in
-        let k : none ≡ some n = sym (ap filledNumbered (f ∙ d)) ∙ e in
+        let k : none ≡ some n = sym (ap filledNumbered (f .0 ∙ d)) ∙ e in
         let z : _≡_ {A = ℕ} 0 1 = cc in
         never z
-    go false t = (g ∙ simp t, h ∙ simp t)
+    go false t = (f .1 ∙ simp t, f .2 ∙ simp t)
 
 -- ---- decimals: `write_decimal` refuses nothing, and writes nothing where the digits don't fit
 
 -- Digits that don't fit leave the buffer as lent.
-pub kept-write-decimal : (d : List ℕ) (at n : ℕ) (end : List ℕ) → end ≡ store d at (decimal n) → length d < at + length (decimal n) → end ≡ d
-kept-write-decimal d at n end f h = f ∙ store-out d at (decimal n) h
+pub kept-write-decimal : (d : List ℕ) (at n : ℕ) (r : ℕ) (end : List ℕ) → WritesDecimal d at n r end → length d < at + length (decimal n) → end ≡ d
+kept-write-decimal d at n r end f h = f .1 ∙ store-out d at (decimal n) h
 
 -- ---- the calls for C
 
@@ -169,20 +169,18 @@ kept-vrf-fast-array payload bits checksum l r x f e =
 
 -- `vrf_copy_bits`, refused, leaves its target as lent.
 pub kept-vrf-copy-bits : (bytes : List ℕ) (cursor : VrfCursor) (count : ℕ) (target : List ℕ) (r : VrfRead) (end : List ℕ)
-    → r ≡ copyResult (cursor .pos) (copyAnswer bytes (cursorOf cursor) count target) → end ≡ copyTarget bytes (cursorOf cursor) count target
-    → (r .refusal ≡ 0 → ⊥) → end ≡ target
-kept-vrf-copy-bits bytes cursor count target r end f g e = go (copyAnswer bytes (cursorOf cursor) count target) refl
+    → CopiesForC bytes cursor count target r end → (r .refusal ≡ 0 → ⊥) → end ≡ target
+kept-vrf-copy-bits bytes cursor count target r end f e = go (copyAnswer bytes (cursorOf cursor) count target) refl
   where
     go : (a : Copied) → copyAnswer bytes (cursorOf cursor) count target ≡ a → end ≡ target
-    go (Copy.Done p) h = absurd (e (ap (λ (v : VrfRead). v .refusal) f ∙ ap (λ (a : Copied). copyResult (cursor .pos) a .refusal) h))
-    go (Copy.Refused k) h = g ∙ refused-target bytes (cursorOf cursor) count target k h
+    go (Copy.Done p) h = absurd (e (ap (λ (v : VrfRead). v .refusal) (f .0) ∙ ap (λ (a : Copied). copyResult (cursor .pos) a .refusal) h))
+    go (Copy.Refused k) h = f .1 ∙ refused-target bytes (cursorOf cursor) count target k h
 
 -- `vrf_schema`, refused, leaves rows and names as lent.
 pub kept-vrf-schema : (rows names : List ℕ) (r : VrfSchema) (end : List ℕ × List ℕ)
-    → r ≡ schemaResult (fillAnswer rows names) → end .0 ≡ filledRows rows names → end .1 ≡ filledNames rows names → (r .refusal ≡ 0 → ⊥)
-    → (end .0 ≡ rows) × (end .1 ≡ names)
-kept-vrf-schema rows names r end f g h e = go (fillAnswer rows names) refl
+    → FillsForC rows names r (end .0) (end .1) → (r .refusal ≡ 0 → ⊥) → (end .0 ≡ rows) × (end .1 ≡ names)
+kept-vrf-schema rows names r end f e = go (fillAnswer rows names) refl
   where
     go : (a : Filled) → fillAnswer rows names ≡ a → (end .0 ≡ rows) × (end .1 ≡ names)
-    go Fill.Done k = absurd (e (ap (λ (v : VrfSchema). v .refusal) f ∙ ap (λ (a : Filled). schemaResult a .refusal) k))
-    go (Fill.Short a b) k = kept-fill-schema rows names (fillAnswer rows names) end _ refl g h (ap filledNumbered k)
+    go Fill.Done k = absurd (e (ap (λ (v : VrfSchema). v .refusal) (f .0) ∙ ap (λ (a : Filled). schemaResult a .refusal) k))
+    go (Fill.Short a b) k = kept-fill-schema rows names (fillAnswer rows names) end _ (refl, f .1, f .2) (ap filledNumbered k)

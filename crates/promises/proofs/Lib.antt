@@ -7,11 +7,16 @@ pub mod DeterminedFastarray
 pub mod DeterminedGeometry
 pub mod DeterminedExports
 pub mod Accepted
+pub mod VerdictForms
+pub mod Ran
 pub mod FrontLaws
 pub mod Prefix
 pub mod OutsideReads
-pub mod OutsideLonger
+pub mod LongerReads
+pub mod LongerMoves
 pub mod OutsideWalks
+pub mod LongerExports
+pub mod LongerWalks
 pub mod OutsideExports
 pub mod Cases
 pub mod TestLaws
@@ -25,5 +30,9 @@ pub mod RefusedMoves
 pub mod RefusedMovement
 pub mod RefusedExports
 pub mod ByteAngles
+pub mod Finite
 pub mod Verdicts
+pub mod Clean
 pub mod Paths
+pub mod Stays
+pub mod PairsBehind

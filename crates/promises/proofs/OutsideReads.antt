@@ -2,24 +2,20 @@
 -- same, since the definitions see the bytes only as the window's number and its length. The theorem on a call is `outside-` and the call's name,
 -- with `-` for `_`.
 use Prim.Native.Nat.{ℕ, _-_, _*_, _^_, min}
-use mathlib.Core.Path.{_≡_, ap}
+use mathlib.Core.Path.{_≡_, sym, ap, _∙_}
 use mathlib.Core.List.{List}
-use lib.Dec.{ltb}
 use lib.ListN.{length}
-use Rattle.bits.specs.Choice.{if_then_else_}
-use Rattle.bits.specs.Sizes.{longestWindow}
 use Rattle.bitio.specs.Cursors.{window, opened, wholeOf, positionOf, lengthOf, remainingOf, endOf, skipped, skippedAll, asWindow, subReader}
 use Rattle.bitio.specs.Reads.{asBit, asU8, asU16, asU32, asI32, readBit, readBits, readU8, readU16, readU32, readI32, readU64}
 use Rattle.bitio.specs.Numbers.{readIntPacked, readSerializedInt}
-use Rattle.bitio.specs.Copies.{copyAnswer, copyTarget}
+use Rattle.bitio.specs.Copies.{CopiesBits}
 use Rattle.bitio.proofs.Outside as bits
 use Rattle.bitio.proofs.Outside.{same-window, outside-alters-nothing, outside-taken}
 use Rattle.bitio.specs.declared.Cursor.{Cursor}
-use Rattle.bitio.specs.declared.Refusal.the-variants.{TooLong, Past}
-use Rattle.bitio.specs.declared.Opened.the-variants as Open
 use Rattle.bitio.specs.declared.Measured.the-variants as Measure
 use Rattle.bitio.specs.declared.Ended.the-variants as End
 use Rattle.bitio.specs.declared.Skipped.the-variants as Skip
+use Rattle.bitio.specs.declared.Copied.{Copied}
 use Rattle.geometry.specs.Vectors.{readVector, readNormal}
 use Rattle.geometry.specs.Rotations.{readRotation}
 use Rattle.geometry.specs.Movements.{readMovement}
@@ -102,8 +98,9 @@ module _ (s t : List ℕ) (c : Cursor) (same : Agree s t (c .start) (c .len)) wh
   outside-read-serialized-int m = bits.outside-serialized s t c as-many one-window m
 
   -- `copy_bits_to` answers the same and leaves the same target.
-  pub outside-copy-bits-to : (n : ℕ) (d : List ℕ) → (copyAnswer s c n d ≡ copyAnswer t c n d) × (copyTarget s c n d ≡ copyTarget t c n d)
-  outside-copy-bits-to n d = bits.outside-copy s t c as-many one-window n d
+  pub outside-copy-bits-to : (n : ℕ) (d : List ℕ) (r q : Copied) (x y : List ℕ) → CopiesBits s c n d r x → CopiesBits t c n d q y → (r ≡ q) × (x ≡ y)
+  outside-copy-bits-to n d r q x y f g =
+      let e = bits.outside-copy s t c as-many one-window n d in (f .0 ∙ e .0 ∙ sym (g .0), f .1 ∙ e .1 ∙ sym (g .1))
 
   -- `read_vector_net_quantize` answers the same.
   pub outside-read-vector-net-quantize : (scale : ℕ) → readVector s c scale ≡ readVector t c scale
@@ -121,11 +118,7 @@ module _ (s t : List ℕ) (c : Cursor) (same : Agree s t (c .start) (c .len)) wh
 
 -- Opening a reader looks at no bit, but only at how many bytes there are.
 pub outside-open : (s t : List ℕ) (n : ℕ) → length s ≡ length t → opened s n ≡ opened t n
-unfolding opened
-outside-open s t n h =
-    ap (λ (k : ℕ).
-    if ltb longestWindow n then Open.Refused TooLong else
-    (if ltb (min (8 * k) (2 ^ 64 - 1)) n then Open.Refused (Past n (min (8 * k) (2 ^ 64 - 1))) else Open.Reader (record { start = 0; pos = 0; len = n }))) h
+outside-open s t n h = bits.outside-opened s t n h
 
 -- So does a reader of all bits.
 pub outside-new : (s t : List ℕ) → length s ≡ length t → wholeOf s ≡ wholeOf t
@@ -135,4 +128,4 @@ outside-new s t h = ap (λ (k : ℕ). record { start = 0; pos = 0; len = min (8 
 pub outside-read-rep-movement : (s t : List ℕ) (n : ℕ) (rotation : RotatorQuantization) (location : VectorQuantization) → Agree s t 0 n
     → readMovement s n rotation location ≡ readMovement t n rotation location
 outside-read-rep-movement s t n rotation location same =
-    moves.outside-movement s t n rotation location (same .as-many) (same-window s t (moves.front n) (same .same-bits))
+    moves.outside-movement s t n rotation location (same .as-many) (same-window s t (bits.front n) (same .same-bits))

@@ -1,5 +1,5 @@
--- Demand 3 of accepted answers and of lent buffers. It holds because an accepted answer tells its walk's counters and needs, its buffers begin
--- with the walk's leaves or pairs, and demand 3 holds of the walks. The theorem on a call is `prefix-` and the call's name, with `-` for `_`.
+-- Demand 3 of accepted answers and of lent buffers. It holds because an accepted answer tells its walk's counters and needs (Ran), its buffers
+-- begin with the walk's leaves or pairs, and demand 3 holds of the walks. The theorem on a call is `prefix-` and the call's name, with `-` for `_`.
 use mathlib.Core.Path.{_≡_, refl, sym, ap, ap₂, _∙_, subst}
 use mathlib.Core.Bool.{true}
 use mathlib.Core.List.{List, [], _∷_, _++_, append-assoc}
@@ -25,27 +25,28 @@ use Rattle.framing.specs.Demand.{Opens, LacksTrailer, CutOf}
 use Rattle.framing.proofs.RecordLaws.{records-append}
 use Rattle.framing.proofs.Demand3.{demand3}
 use Rattle.outputs.specs.Records.{leafNumber}
-use Rattle.outputs.specs.Answers.{Call, Lent, traceOf, answer, finalLeaves, final, pairAnswer, pairTrace, finalPairs, shared, Front, wasAccepted}
+use Rattle.outputs.specs.Answers.{Call, Lent, traceOf, finalLeaves, pairTrace, finalPairs, shared, Front, wasAccepted}
 use Rattle.outputs.proofs.Fronts.{CutCall, demand3-buffers, demand3-pairs, opens-filled, opens-paths, opens-payloads}
-use Rattle.array.specs.Calls.{callOf, structCall, exactCall, verdictIs, Decodes, DecodesPairs}
-use Rattle.array.specs.Refusals.{countersOf, roomIn}
+use Rattle.array.specs.Calls.{callOf, structCall, exactCall, verdictNamed, Decodes, DecodesPairs}
+use Rattle.array.specs.Refusals.{roomIn}
 use Rattle.array.specs.declared.ArrayDecodeStats.{ArrayDecodeStats}
 use Rattle.array.specs.declared.Extent.{Extent}
 use Rattle.array.specs.declared.Verdict.{Verdict}
-use Rattle.array.specs.declared.Verdict.the-variants.{Clean}
+use Rattle.exports.specs.WalkResults.{verdictNumber, Walks, WalksPairs}
+use Rattle.exports.specs.declared.VrfWalk.{VrfWalk}
+use Rattle.exports.specs.declared.VrfObjects.{VrfObjects}
 use Rattle.array.specs.declared.StructArray.the-variants as structs
 use Rattle.array.specs.declared.ObjectArray.the-variants as objects
 use Rattle.promises.specs.Prefix as P
-use Rattle.promises.specs.Prefix.{FirstBits, BeforeTail, tail-off, Begins, PairsBegin}
-use Rattle.promises.proofs.Accepted.{accepted-tells}
+use Rattle.promises.specs.Prefix.{FirstBits, BeforeTail, tail-off, Begins, PairsBegin, BeginsInC, PairsBeginInC}
+use Rattle.promises.proofs.VerdictForms.{Apart, named-apart, number-apart}
+use Rattle.promises.proofs.Ran.{Ran, ran-tells, ran-decodes, ran-walks, RanPairs, pairs-tell, ran-pairs, ran-objects}
 use Rattle.promises.proofs.FrontLaws.{same-front, opens-length, getD-behind, records-size, pairs-size, Tailed, no-tail, one-tail, tailed}
 
--- ---- what an accepted answer tells
-
 -- an accepted answer that says clean has the counters of a clean walk
-judged-clean : (k : Walker) (bits : ℕ) (c d : Counters) (v : Verdict) → verdictIs v ≡ verdictOf k bits c → c ≡ d → v ≡ Clean
-    → verdictOf k bits d ≡ F.clean
-judged-clean k bits c d v j e h = sym (ap verdictIs (sym h) ∙ j ∙ ap (verdictOf k bits) e)
+judged-clean : {A : Type 0} (form : F.Verdict → A) → Apart form → (k : Walker) (bits : ℕ) (c d : Counters) (v : A) → v ≡ form (verdictOf k bits c)
+    → c ≡ d → v ≡ form F.clean → verdictOf k bits d ≡ F.clean
+judged-clean form apart k bits c d v j e h = ap (verdictOf k bits) (sym e) ∙ apart _ _ (sym j ∙ h)
 
 -- ---- struct and exact walks
 
@@ -57,44 +58,27 @@ module _ (short long : Call) (cut : CutCall short long) where
       (sym (cut .how))
       (demand3 (long .how) (long .bytes) (short .bytes) (long .bits) (short .bits) (cut .shorter) (cut .inside-long) (cut .inside-short) (cut .bits))
 
-  module _ (b d x y : Lent) (st su : ArrayDecodeStats) (v w : Verdict) (e f : Extent)
-      (p : Decodes short b (structs.Decoded st v e) x) (q : Decodes long d (structs.Decoded su w f) y) where
+  module _ {A : Type 0} (form : F.Verdict → A) (apart : Apart form) (b d x y : Lent) (st su : Counters) (v w : A) (e f : Room)
+      (p : Ran form short b st v e x) (q : Ran form long d su w f y) where
     same-leaves : Opens (shared short) (leaves (traceOf long))
     same-leaves = walks-cut .same-leaves
 
     shared-room : Room
     shared-room = record { leaves = length (shared short); pathBytes = length (pathBytes (shared short)); payloadBytes = length (payloadBytes (shared short)) }
 
-    short-tells : (countersOf st ≡ counters (traceOf short)) × (roomIn e ≡ needed (traceOf short))
-    unfolding answer
-    short-tells = accepted-tells _ _ _ _ _ _ (p .answered .says)
+    short-tells : (st ≡ counters (traceOf short)) × (e ≡ needed (traceOf short))
+    short-tells = ran-tells p
 
-    long-tells : (countersOf su ≡ counters (traceOf long)) × (roomIn f ≡ needed (traceOf long))
-    unfolding answer
-    long-tells = accepted-tells _ _ _ _ _ _ (q .answered .says)
-
-    short-ends : x ≡ final short b
-    short-ends =
-        let l = p .answered .leaves in
-        let t = p .answered .paths in
-        let z = p .answered .payloads in
-        λ i. record { leaves = l i; paths = t i; payloads = z i }
-
-    long-ends : y ≡ final long d
-    long-ends =
-        let l = q .answered .leaves in
-        let t = q .answered .paths in
-        let z = q .answered .payloads in
-        λ i. record { leaves = l i; paths = t i; payloads = z i }
+    long-tells : (su ≡ counters (traceOf long)) × (f ≡ needed (traceOf long))
+    long-tells = ran-tells q
 
     fronts : Front (shared short) x × Front (shared short) y
     fronts =
-        let g =
-        demand3-buffers short long cut b d (subst wasAccepted (p .answered .says) tt) (subst wasAccepted (q .answered .says) tt) in
-        (subst (Front (shared short)) (sym short-ends) (g .0), subst (Front (shared short)) (sym long-ends) (g .1))
+        let g = demand3-buffers short long cut b d (subst wasAccepted (p .says) tt) (subst wasAccepted (q .says) tt) in
+        (subst (Front (shared short)) (sym (p .left)) (g .0), subst (Front (shared short)) (sym (q .left)) (g .1))
 
     -- what is shared is the longer's own
-    filled-too : within shared-room (roomIn f) ≡ true
+    filled-too : within shared-room f ≡ true
     unfolding needed shared-room
     filled-too =
         let a : length (shared short) ≤ length (leaves (traceOf long)) = opens-length same-leaves in
@@ -111,31 +95,31 @@ module _ (short long : Call) (cut : CutCall short long) where
         let l = shared short in
         let rest = drop (length (leafRecords 0 0 (leaves (traceOf short)))) (b .leaves) in
         let run = leafRecord (length (pathBytes l)) (length (payloadBytes l)) t in
-        let held : finalLeaves short b ≡ leafRecords 0 0 (leaves (traceOf short)) ++ rest = rw (← (p .answered .says)) in
+        let held : finalLeaves short b ≡ leafRecords 0 0 (leaves (traceOf short)) ++ rest = rw (← (p .says)) in
         let recs : leafRecords 0 0 (leaves (traceOf short)) ≡ leafRecords 0 0 l ++ run
         = ap (leafRecords 0 0) (sym h)
         ∙ records-append 0 0 l (t ∷ [])
         ∙ ap₂ (λ (m n : ℕ). leafRecords 0 0 l ++ leafRecord m n t) (zero-add (length (pathBytes l))) (zero-add (length (payloadBytes l))) in
         let whole : x .leaves ≡ leafRecords 0 0 l ++ (run ++ rest)
-        = p .answered .leaves ∙ held ∙ ap (λ (r : List ℕ). r ++ rest) recs ∙ append-assoc (leafRecords 0 0 l) run rest in
+        = ap (λ (l : Lent). l .leaves) (p .left) ∙ held ∙ ap (λ (r : List ℕ). r ++ rest) recs ∙ append-assoc (leafRecords 0 0 l) run rest in
         ap₂ (λ (r : List ℕ) (n : ℕ). getD r (n + j) 0) whole (sym (records-size 0 0 l)) ∙ getD-behind (leafRecords 0 0 l) (run ++ rest) j
 
-    before-tail : BeforeTail (roomIn e) (x .leaves) shared-room
+    before-tail : BeforeTail e (x .leaves) shared-room
     unfolding needed shared-room
     before-tail = go (tailed (leaves (traceOf short)))
       where
-        go : Tailed (leaves (traceOf short)) → BeforeTail (roomIn e) (x .leaves) shared-room
+        go : Tailed (leaves (traceOf short)) → BeforeTail e (x .leaves) shared-room
         go (no-tail h) =
-            let same : shared-room ≡ roomIn e
+            let same : shared-room ≡ e
             = ap (λ (l : List Leaf). record { leaves = length l; pathBytes = length (pathBytes l); payloadBytes = length (payloadBytes l) }) h ∙ sym (short-tells .1) in
-            subst (BeforeTail (roomIn e) (x .leaves)) (sym same) P.no-tail
+            subst (BeforeTail e (x .leaves)) (sym same) P.all-shared
         go (one-tail t h raw) =
             let n = ap (λ (r : Room). r .leaves) (short-tells .1) in
             let m = length-append (shared short) (t ∷ []) in
             let k = ap length h in
             tail-off {n = shared-room} (omega (arith, n, m, k)) (tail-number t h handleAt ∙ raw) (tail-number t h pathStartAt) (tail-number t h payloadStartAt)
 
-    leaves-begin : Begins short long v w (roomIn e) (roomIn f) x y
+    leaves-begin : Begins form short long v w e f x y
     unfolding shared-room
     leaves-begin =
         let g = fronts in
@@ -147,8 +131,8 @@ module _ (short long : Call) (cut : CutCall short long) where
           paths = same-front _ refl (g .0 .paths) (g .1 .paths);
           payloads = same-front _ refl (g .0 .payloads) (g .1 .payloads);
           not-clean = λ clean fewer also.
-              walks-cut .not-clean (judged-clean _ _ _ _ w (q .judged) (long-tells .0) clean) fewer
-              (subst (λ (k : Walker). verdictOf k (short .bits) (counters (traceOf short)) ≡ F.clean) (cut .how) (judged-clean _ _ _ _ v (p .judged) (short-tells .0) also));
+              walks-cut .not-clean (judged-clean form apart _ _ _ _ w (q .judged) (long-tells .0) clean) fewer
+              (subst (λ (k : Walker). verdictOf k (short .bits) (counters (traceOf short)) ≡ F.clean) (cut .how) (judged-clean form apart _ _ _ _ v (p .judged) (short-tells .0) also));
         }
 
 -- The opening's bits, as a number.
@@ -166,58 +150,83 @@ module _ (longer shorter : List ℕ) (n m : ℕ) (first : FirstBits longer short
         bits = one-opening longer shorter n m first;
       }
 
+  begin : {A : Type 0} (form : F.Verdict → A) → Apart form → (k : Walker) (levels : ℕ) (b d x y : Lent) (st su : Counters) (v w : A) (e f : Room)
+      → Ran form (callOf k levels shorter m) b st v e x → Ran form (callOf k levels longer n) d su w f y
+      → Begins form (callOf k levels shorter m) (callOf k levels longer n) v w e f x y
+  begin form apart k levels = leaves-begin (callOf k levels shorter m) (callOf k levels longer n) (cut-call k levels) form apart
+
   module _ (b d x y : Lent) (st su : ArrayDecodeStats) (v w : Verdict) (e f : Extent) where
     -- DEMAND 3 OF THE STRUCT WALK: neither of two calls with the same tables is refused, and the shorter's bits are the longer's first. The
     -- shorter's records, path bytes and payload bytes, but for a kept tail's, stand unchanged at the front of the longer's buffers; and if the
     -- longer's verdict is clean and the shorter has fewer bits, its verdict is not clean, but where it lacks exactly a zero trailer.
     pub prefix-decode-struct-array : (t : Tables) (levels root : ℕ) → Decodes (structCall shorter m t levels root) b (structs.Decoded st v e) x
         → Decodes (structCall longer n t levels root) d (structs.Decoded su w f) y
-        → Begins (structCall shorter m t levels root) (structCall longer n t levels root) v w (roomIn e) (roomIn f) x y
+        → Begins verdictNamed (structCall shorter m t levels root) (structCall longer n t levels root) v w (roomIn e) (roomIn f) x y
     prefix-decode-struct-array t levels root p q =
-        leaves-begin (structCall shorter m t levels root) (structCall longer n t levels root) (cut-call (struct t root) levels) b d x y st su v w e f p q
+        begin verdictNamed named-apart (struct t root) levels b d x y _ _ v w _ _ (ran-decodes _ b st v e x p) (ran-decodes _ d su w f y q)
 
     -- DEMAND 3 OF THE EXACT WALK: the same.
     pub prefix-decode-struct-array-exact : (declared declaredNames : List ℕ) → Decodes (exactCall shorter m declared declaredNames) b (structs.Decoded st v e) x
         → Decodes (exactCall longer n declared declaredNames) d (structs.Decoded su w f) y
-        → Begins (exactCall shorter m declared declaredNames) (exactCall longer n declared declaredNames) v w (roomIn e) (roomIn f) x y
+        → Begins verdictNamed (exactCall shorter m declared declaredNames) (exactCall longer n declared declaredNames) v w (roomIn e) (roomIn f) x y
     prefix-decode-struct-array-exact declared declaredNames p q =
-        leaves-begin (exactCall shorter m declared declaredNames) (exactCall longer n declared declaredNames) (cut-call (exact declared declaredNames) 0) b d x y st su v w e f p q
+        begin verdictNamed named-apart (exact declared declaredNames) 0 b d x y _ _ v w _ _ (ran-decodes _ b st v e x p) (ran-decodes _ d su w f y q)
+
+  module _ (b d x y : Lent) (r q : VrfWalk) where
+    -- DEMAND 3 OF `vrf_struct_array`: the same of two structs, of which neither is refused.
+    pub prefix-vrf-struct-array : (t : Tables) (levels root : ℕ) → Walks (structCall shorter m t levels root) b r x
+        → Walks (structCall longer n t levels root) d q y → BeginsInC (structCall shorter m t levels root) (structCall longer n t levels root) r q x y
+    prefix-vrf-struct-array t levels root f g h k =
+        begin verdictNumber number-apart (struct t root) levels b d x y _ _ _ _ _ _ (ran-walks _ b r x f h) (ran-walks _ d q y g k)
+
+    -- DEMAND 3 OF `vrf_struct_array_exact`: the same.
+    pub prefix-vrf-struct-array-exact : (declared declaredNames : List ℕ) → Walks (exactCall shorter m declared declaredNames) b r x
+        → Walks (exactCall longer n declared declaredNames) d q y
+        → BeginsInC (exactCall shorter m declared declaredNames) (exactCall longer n declared declaredNames) r q x y
+    prefix-vrf-struct-array-exact declared declaredNames f g h k =
+        begin verdictNumber number-apart (exact declared declaredNames) 0 b d x y _ _ _ _ _ _ (ran-walks _ b r x f h) (ran-walks _ d q y g k)
 
 -- ---- the object walk
 
-module _ (longer shorter : List ℕ) (n m : ℕ) (first : FirstBits longer shorter n m) (b d x y : List ℕ) (st su : ArrayDecodeStats) (v w : Verdict) (e f : ℕ)
-    (p : DecodesPairs shorter m b (objects.Decoded st v e) x) (q : DecodesPairs longer n d (objects.Decoded su w f) y) where
+module _ (longer shorter : List ℕ) (n m : ℕ) (first : FirstBits longer shorter n m) where
   pairs-cut : CutOf object (windowOf longer n) m (pairTrace shorter m) (pairTrace longer n)
   pairs-cut = demand3 object longer shorter n m (first .fewer) (first .inside-long) (first .inside-short) (one-opening longer shorter n m first)
 
-  short-pairs : (countersOf st ≡ counters (pairTrace shorter m)) × (e ≡ length (pairs (pairTrace shorter m)))
-  unfolding pairAnswer
-  short-pairs = accepted-tells _ _ _ _ _ _ (p .answered .says)
-
-  long-pairs : (countersOf su ≡ counters (pairTrace longer n)) × (f ≡ length (pairs (pairTrace longer n)))
-  unfolding pairAnswer
-  long-pairs = accepted-tells _ _ _ _ _ _ (q .answered .says)
+  pairs-begin : {A : Type 0} (form : F.Verdict → A) → Apart form → (b d x y : List ℕ) (st su : Counters) (v w : A) (e f : ℕ)
+      → RanPairs form shorter m b st v e x → RanPairs form longer n d su w f y → PairsBegin form longer n m v w e f x y
+  unfolding finalPairs
+  pairs-begin form apart b d x y st su v w e f p q =
+      let run = pairRecords (pairs (pairTrace shorter m)) in
+      let short = pairs-tell p in
+      let long = pairs-tell q in
+      let size : length run ≡ pairWords * e = pairs-size (pairs (pairTrace shorter m)) ∙ ap (λ (k : ℕ). pairWords * k) (sym (short .1)) in
+      let held : finalPairs shorter m b ≡ filled run b = rw (← (p .says)) in
+      let front : Opens run x = subst (Opens run) (sym (p .left ∙ held)) (opens-filled run b) in
+      let other : Opens run y
+      = subst (Opens run) (sym (q .left))
+      (demand3-pairs longer shorter n m (first .fewer) (first .inside-long) (first .inside-short) (one-opening longer shorter n m first) d (subst wasAccepted (q .says) tt)) in
+      let few : length (pairs (pairTrace shorter m)) ≤ length (pairs (pairTrace longer n)) = opens-length (pairs-cut .same-pairs) in
+      record {
+        filled-too = omega (arith, few, short .1, long .1);
+        pairs = same-front _ size front other;
+        not-clean = λ clean fewer also.
+            pairs-cut .not-clean (judged-clean form apart _ _ _ _ w (q .judged) (long .0) clean) fewer (judged-clean form apart _ _ _ _ v (p .judged) (short .0) also);
+      }
 
   -- DEMAND 3 OF THE OBJECT WALK: neither of two calls is refused, and the shorter's bits are the longer's first. All of the shorter's pairs stand
   -- unchanged at the front of the longer's; and if the longer's verdict is clean and the shorter has fewer bits, its verdict is not clean, but
   -- where it lacks exactly a zero trailer.
-  pub prefix-decode-object-ref-array : PairsBegin longer n m v w e f x y
-  unfolding finalPairs
-  prefix-decode-object-ref-array =
-      let run = pairRecords (pairs (pairTrace shorter m)) in
-      let size : length run ≡ pairWords * e = pairs-size (pairs (pairTrace shorter m)) ∙ ap (λ (k : ℕ). pairWords * k) (sym (short-pairs .1)) in
-      let held : finalPairs shorter m b ≡ filled run b = rw (← (p .answered .says)) in
-      let front : Opens run x = subst (Opens run) (sym (p .answered .pairs ∙ held)) (opens-filled run b) in
-      let other : Opens run y
-      = subst (Opens run) (sym (q .answered .pairs))
-      (demand3-pairs longer shorter n m (first .fewer) (first .inside-long) (first .inside-short) (one-opening longer shorter n m first) d (subst wasAccepted (q .answered .says) tt)) in
-      let few : length (pairs (pairTrace shorter m)) ≤ length (pairs (pairTrace longer n)) = opens-length (pairs-cut .same-pairs) in
-      record {
-        filled-too = omega (arith, few, short-pairs .1, long-pairs .1);
-        pairs = same-front _ size front other;
-        not-clean = λ clean fewer also.
-            pairs-cut .not-clean (judged-clean _ _ _ _ w (q .judged) (long-pairs .0) clean) fewer (judged-clean _ _ _ _ v (p .judged) (short-pairs .0) also);
-      }
+  pub prefix-decode-object-ref-array : (b d x y : List ℕ) (st su : ArrayDecodeStats) (v w : Verdict) (e f : ℕ)
+      → DecodesPairs shorter m b (objects.Decoded st v e) x → DecodesPairs longer n d (objects.Decoded su w f) y
+      → PairsBegin verdictNamed longer n m v w e f x y
+  prefix-decode-object-ref-array b d x y st su v w e f p q =
+      pairs-begin verdictNamed named-apart b d x y _ _ v w e f (ran-pairs shorter m b st v e x p) (ran-pairs longer n d su w f y q)
+
+  -- DEMAND 3 OF `vrf_object_array`: the same of two structs, of which neither is refused.
+  pub prefix-vrf-object-array : (b d x y : List ℕ) (r q : VrfObjects) → WalksPairs shorter m b r x → WalksPairs longer n d q y
+      → PairsBeginInC longer n m r q x y
+  prefix-vrf-object-array b d x y r q f g h k =
+      pairs-begin verdictNumber number-apart b d x y _ _ _ _ _ _ (ran-objects shorter m b r x f h) (ran-objects longer n d q y g k)
 
 -- ---- the exception, by walk
 

@@ -9,10 +9,10 @@ use Rattle.bits.specs.Choice.{if_then_else_}
 use Rattle.bits.specs.Refusals.{Numbered, Rule, firstOf}
 use Rattle.bitio.specs.Copies.{copyAnswer}
 use Rattle.bitio.specs.Numbers.{readIntPacked, readSerializedInt}
-use Rattle.bitio.specs.Order.{readingRules, copyingRules}
+use Rattle.bitio.specs.Order.{readingRules, copyingRules, refusalOfBits, refusalOfCopied}
 use Rattle.bitio.specs.Reads.{readBits}
 use Rattle.bitio.specs.Refusals as bitio
-use Rattle.bitio.proofs.RefusalOrder.{refusalOfBits, refusalOfCopied}
+use Rattle.bitio.proofs.RefusalOrder.{reading-order, copying-order}
 use Rattle.bits.proofs.ChoiceLaws.{by-cases}
 use Rattle.bitio.specs.declared.Refusal as bit
 use Rattle.bitio.specs.declared.Refusal.the-variants.{TooLong, TooFew, GoesOn, Overflows, NoMaximum, TooMany, Past}
@@ -50,9 +50,10 @@ use Rattle.geometry.specs.declared.RotationRead.{RotationRead}
 use Rattle.geometry.specs.declared.RotationRead.the-variants as R
 use Rattle.geometry.specs.declared.MovementRead.{MovementRead}
 use Rattle.geometry.specs.declared.MovementRead.the-variants as M
+use Rattle.exports.specs.Calls.{vrfMerge, FillsForC, vrfReadBits, vrfReadPacked, vrfReadSerialized, CopiesForC, vrfVector, vrfNormal, vrfRotation, vrfMovement}
 use Rattle.exports.specs.MoveResults.{vectorResult, rotationResult, movementResult, rotationKind, locationKind}
 use Rattle.exports.specs.ReadResults.{cursorOf, bitsResult, packedResult, serializedResult, copyResult}
-use Rattle.exports.specs.WalkResults.{Walks, walkResult, WalksPairs, objectsResult, countersIn, mergeResult, schemaResult, modeOf, bodyResult, DecodesBody}
+use Rattle.exports.specs.WalkResults.{Walks, walkResult, WalksPairs, objectsResult, countersIn, schemaResult, modeOf, bodyResult, DecodesBody}
 use Rattle.exports.specs.declared.VrfCounters.{VrfCounters}
 use Rattle.exports.specs.declared.VrfCursor.{VrfCursor}
 use Rattle.exports.specs.declared.VrfFastArray.{VrfFastArray}
@@ -69,11 +70,11 @@ use Rattle.promises.specs.WalkOrders.{walkRules, pairRules, mergeRules, 
 use Rattle.schema.specs.Refusals.{filledNumbered}
 use Rattle.promises.specs.MoveOrders.{ofVector, ofRotation, ofMovement, vectorRules, normalRules, rotationRules, movementRules}
 use Rattle.promises.specs.ExportOrders.{given, inRead, inVector, inRotation, inMovement, inWalk, inObjects, inSchema, inFastArray, inMerge, sumsNumbered, numberedRules}
-use Rattle.promises.proofs.RefusedReads.{refused-read-bits, refused-read-serialized-int, refused-copy-bits-to}
-use Rattle.promises.proofs.RefusedNumbers.{refused-read-int-packed}
-use Rattle.promises.proofs.RefusedWalks.{walk-order, pair-order, refused-fill-schema}
-use Rattle.promises.proofs.RefusedMoves.{refused-read-vector-net-quantize, refused-read-fixed-vector-normal, refused-read-rotation}
-use Rattle.promises.proofs.RefusedMovement.{refused-read-rep-movement}
+use Rattle.promises.proofs.RefusedReads.{serialized-order}
+use Rattle.promises.proofs.RefusedNumbers.{packed-order}
+use Rattle.promises.proofs.RefusedWalks.{walk-order, pair-order, fill-order}
+use Rattle.promises.proofs.RefusedMoves.{vector-order, normal-order, rotation-order}
+use Rattle.promises.proofs.RefusedMovement.{movement-order}
 
 -- ---- numbers of refusals
 
@@ -102,7 +103,7 @@ bit-given NoMaximum = refl
 bit-given TooMany = refl
 bit-given (Past a b) = refl
 
-move-given : (r : Refusal) → let n = geometry.numbered r in given (n .number) (n .first) (n .second) (n .third) ≡ some n
+pub move-given : (r : Refusal) → let n = geometry.numbered r in given (n .number) (n .first) (n .second) (n .third) ≡ some n
 move-given (Unread r) = bit-given r
 move-given NoScale = refl
 move-given (NotFinite p) = refl
@@ -141,66 +142,66 @@ movement-in (M.Refused r) = move-given r
 
 module _ (bytes : List ℕ) (cursor : VrfCursor) where
   -- `vrf_read_bits` gives 14, 13, 7.
-  pub refused-vrf-read-bits : (count : ℕ) (r : VrfRead) → r ≡ bitsResult (cursor .pos) (readBits bytes (cursorOf cursor) count)
+  pub refused-vrf-read-bits : (count : ℕ) (r : VrfRead) → r ≡ vrfReadBits bytes cursor count
       → inRead r ≡ firstOf (numberedRules bitio.numbered (readingRules bytes (cursorOf cursor) count))
   refused-vrf-read-bits count r f =
       ap inRead f ∙ bits-in (cursor .pos) (readBits bytes (cursorOf cursor) count)
-      ∙ ap (mapped bitio.numbered) (refused-read-bits bytes (cursorOf cursor) count) ∙ first-numbered bitio.numbered (readingRules bytes (cursorOf cursor) count)
+      ∙ ap (mapped bitio.numbered) (reading-order bytes (cursorOf cursor) count) ∙ first-numbered bitio.numbered (readingRules bytes (cursorOf cursor) count)
 
   -- `vrf_read_packed` gives 14, 7, 8, 9.
-  pub refused-vrf-read-packed : (r : VrfRead) → r ≡ packedResult (cursor .pos) (readIntPacked bytes (cursorOf cursor))
+  pub refused-vrf-read-packed : (r : VrfRead) → r ≡ vrfReadPacked bytes cursor
       → inRead r ≡ firstOf (numberedRules bitio.numbered (packedRules bytes (cursorOf cursor)))
   refused-vrf-read-packed r f =
       ap inRead f ∙ packed-in (cursor .pos) (readIntPacked bytes (cursorOf cursor))
-      ∙ ap (mapped bitio.numbered) (refused-read-int-packed bytes (cursorOf cursor)) ∙ first-numbered bitio.numbered (packedRules bytes (cursorOf cursor))
+      ∙ ap (mapped bitio.numbered) (packed-order bytes (cursorOf cursor)) ∙ first-numbered bitio.numbered (packedRules bytes (cursorOf cursor))
 
   -- `vrf_read_serialized` gives 14, 10, 7.
-  pub refused-vrf-read-serialized : (maximum : ℕ) (r : VrfRead) → r ≡ serializedResult (cursor .pos) (readSerializedInt bytes (cursorOf cursor) maximum)
+  pub refused-vrf-read-serialized : (maximum : ℕ) (r : VrfRead) → r ≡ vrfReadSerialized bytes cursor maximum
       → inRead r ≡ firstOf (numberedRules bitio.numbered (serializedRules bytes (cursorOf cursor) maximum))
   refused-vrf-read-serialized maximum r f =
       ap inRead f ∙ serialized-in (cursor .pos) (readSerializedInt bytes (cursorOf cursor) maximum)
-      ∙ ap (mapped bitio.numbered) (refused-read-serialized-int bytes (cursorOf cursor) maximum)
+      ∙ ap (mapped bitio.numbered) (serialized-order bytes (cursorOf cursor) maximum)
       ∙ first-numbered bitio.numbered (serializedRules bytes (cursorOf cursor) maximum)
 
   -- `vrf_copy_bits` gives 14 for the cursor, 14 for the target, 7.
-  pub refused-vrf-copy-bits : (count : ℕ) (target : List ℕ) (r : VrfRead) → r ≡ copyResult (cursor .pos) (copyAnswer bytes (cursorOf cursor) count target)
+  pub refused-vrf-copy-bits : (count : ℕ) (target : List ℕ) (r : VrfRead) (end : List ℕ) → CopiesForC bytes cursor count target r end
       → inRead r ≡ firstOf (numberedRules bitio.numbered (copyingRules bytes (cursorOf cursor) count target))
-  refused-vrf-copy-bits count target r f =
-      ap inRead f ∙ copy-in (cursor .pos) (copyAnswer bytes (cursorOf cursor) count target)
-      ∙ ap (mapped bitio.numbered) (refused-copy-bits-to bytes (cursorOf cursor) count target)
+  refused-vrf-copy-bits count target r end f =
+      ap inRead (f .0) ∙ copy-in (cursor .pos) (copyAnswer bytes (cursorOf cursor) count target)
+      ∙ ap (mapped bitio.numbered) (copying-order bytes (cursorOf cursor) count target)
       ∙ first-numbered bitio.numbered (copyingRules bytes (cursorOf cursor) count target)
 
   -- `vrf_vector` gives 14, 11, 7, 12.
-  pub refused-vrf-vector : (scale : ℕ) (r : VrfVector) → r ≡ vectorResult (cursor .pos) (readVector bytes (cursorOf cursor) scale)
+  pub refused-vrf-vector : (scale : ℕ) (r : VrfVector) → r ≡ vrfVector bytes cursor scale
       → inVector r ≡ firstOf (numberedRules geometry.numbered (vectorRules bytes (cursorOf cursor) scale))
   refused-vrf-vector scale r f =
       ap inVector f ∙ vector-in (cursor .pos) (readVector bytes (cursorOf cursor) scale)
-      ∙ ap (mapped geometry.numbered) (refused-read-vector-net-quantize bytes (cursorOf cursor) scale)
+      ∙ ap (mapped geometry.numbered) (vector-order bytes (cursorOf cursor) scale)
       ∙ first-numbered geometry.numbered (vectorRules bytes (cursorOf cursor) scale)
 
   -- `vrf_normal` gives 14, 7.
-  pub refused-vrf-normal : (r : VrfVector) → r ≡ vectorResult (cursor .pos) (readNormal bytes (cursorOf cursor))
+  pub refused-vrf-normal : (r : VrfVector) → r ≡ vrfNormal bytes cursor
       → inVector r ≡ firstOf (numberedRules geometry.numbered (normalRules bytes (cursorOf cursor)))
   refused-vrf-normal r f =
       ap inVector f ∙ vector-in (cursor .pos) (readNormal bytes (cursorOf cursor))
-      ∙ ap (mapped geometry.numbered) (refused-read-fixed-vector-normal bytes (cursorOf cursor))
+      ∙ ap (mapped geometry.numbered) (normal-order bytes (cursorOf cursor))
       ∙ first-numbered geometry.numbered (normalRules bytes (cursorOf cursor))
 
   -- `vrf_rotation` gives 14, 13, 7.
-  pub refused-vrf-rotation : (width : ℕ) (r : VrfRotation) → r ≡ rotationResult (cursor .pos) (readRotation bytes (cursorOf cursor) width)
+  pub refused-vrf-rotation : (width : ℕ) (r : VrfRotation) → r ≡ vrfRotation bytes cursor width
       → inRotation r ≡ firstOf (numberedRules geometry.numbered (rotationRules bytes (cursorOf cursor) width))
   refused-vrf-rotation width r f =
       ap inRotation f ∙ rotation-in (cursor .pos) (readRotation bytes (cursorOf cursor) width)
-      ∙ ap (mapped geometry.numbered) (refused-read-rotation bytes (cursorOf cursor) width)
+      ∙ ap (mapped geometry.numbered) (rotation-order bytes (cursorOf cursor) width)
       ∙ first-numbered geometry.numbered (rotationRules bytes (cursorOf cursor) width)
 
 -- `vrf_movement` gives 1, 14, then what its parts give.
 pub refused-vrf-movement : (bytes : List ℕ) (count rotation location : ℕ) (r : VrfMovement)
-    → r ≡ movementResult (readMovement bytes count (rotationKind rotation) (locationKind location))
+    → r ≡ vrfMovement bytes count rotation location
     → inMovement r ≡ firstOf (numberedRules geometry.numbered (movementRules bytes count (rotationKind rotation) (locationKind location)))
 refused-vrf-movement bytes count rotation location r f =
     ap inMovement f ∙ movement-in (readMovement bytes count (rotationKind rotation) (locationKind location))
-    ∙ ap (mapped geometry.numbered) (refused-read-rep-movement bytes count (rotationKind rotation) (locationKind location))
+    ∙ ap (mapped geometry.numbered) (movement-order bytes count (rotationKind rotation) (locationKind location))
     ∙ first-numbered geometry.numbered (movementRules bytes count (rotationKind rotation) (locationKind location))
 
 -- ---- walks
@@ -227,7 +228,7 @@ refused-vrf-object-array bytes bits b r x f =
 -- ---- a merge, the schema, the fast array
 
 -- `vrf_merge` gives 4.
-pub refused-vrf-merge : (left right : VrfCounters) (r : VrfMerge) → r ≡ mergeResult (merge (countersIn left) (countersIn right))
+pub refused-vrf-merge : (left right : VrfCounters) (r : VrfMerge) → r ≡ vrfMerge left right
     → inMerge r ≡ firstOf (numberedRules sumsNumbered (mergeRules (countersIn left) (countersIn right)))
 unfolding merge firstOf
 refused-vrf-merge left right r f =
@@ -238,8 +239,9 @@ schema-in Fill.Done = refl
 schema-in (Fill.Short a b) = refl
 
 -- `vrf_schema` gives 3.
-pub refused-vrf-schema : (rows names : List ℕ) (r : VrfSchema) → r ≡ schemaResult (fillAnswer rows names) → inSchema r ≡ firstOf (fillRules rows names)
-refused-vrf-schema rows names r f = ap inSchema f ∙ sym (schema-in (fillAnswer rows names)) ∙ refused-fill-schema rows names
+pub refused-vrf-schema : (rows names : List ℕ) (r : VrfSchema) (end : List ℕ × List ℕ) → FillsForC rows names r (end .0) (end .1)
+    → inSchema r ≡ firstOf (fillRules rows names)
+refused-vrf-schema rows names r end f = ap inSchema (f .0) ∙ sym (schema-in (fillAnswer rows names)) ∙ fill-order rows names
 
 body-in : (a : FastArray) → inFastArray (bodyResult a) ≡ fast.numbered a
 body-in (body.Decoded d) = refl

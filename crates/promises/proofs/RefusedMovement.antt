@@ -285,11 +285,10 @@ movement-refusal : (m : MovementRead) → ofMovement m ≡ refusalIn (seenMoveme
 movement-refusal (M.Value m p) = refl
 movement-refusal (M.Refused r) = refl
 
--- A movement gives 1, 14, then what its parts give.
-pub refused-read-rep-movement : (s : List ℕ) (n : ℕ) (rotation : RotatorQuantization) (location : VectorQuantization)
+pub movement-order : (s : List ℕ) (n : ℕ) (rotation : RotatorQuantization) (location : VectorQuantization)
     → ofMovement (readMovement s n rotation location) ≡ firstOf (movementRules s n rotation location)
 unfolding opened inReader firstOf
-refused-read-rep-movement s n rotation location =
+movement-order s n rotation location =
     by-cases (ltb longestWindow n)
     (λ long. simp long)
     (λ long. by-cases (ltb (bitsOf s) n)
@@ -298,3 +297,8 @@ refused-read-rep-movement s n rotation location =
     (movement-refusal (movementAt s rotation location (front n))
     ∙ ap refusalIn (record-seen s n (let h = ltb-false (bitsOf s) n past in omega (arith, h)) rotation location)
     ∙ first-or (movementParts (window s (front n)) n (widthOf rotation) (scaleOf location)) _)))
+
+-- A movement gives 1, 14, then what its parts give.
+pub refused-read-rep-movement : (s : List ℕ) (n : ℕ) (rotation : RotatorQuantization) (location : VectorQuantization) (r : MovementRead)
+    → r ≡ readMovement s n rotation location → ofMovement r ≡ firstOf (movementRules s n rotation location)
+refused-read-rep-movement s n rotation location r f = ap ofMovement f ∙ movement-order s n rotation location

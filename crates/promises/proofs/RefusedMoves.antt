@@ -146,13 +146,12 @@ module _ (s : List ℕ) (c : Cursor) (fits : c .start + c .len ≤ bitsOf s) whe
       then-axis view T.Refused (λ r. refl) s c fits w small 1 q₁ _ h₁ (λ y q₂ h₂.
       then-axis view T.Refused (λ r. refl) s c fits w small 0 q₂ _ h₂ (λ z q₃ h₃. refl)))
 
--- ---- the calls
+-- ---- the definitions of the calls
 
 module _ (s : List ℕ) (c : Cursor) where
-  -- A vector gives 14, 11, 7, 12.
-  pub refused-read-vector-net-quantize : (scale : ℕ) → ofVector (readVector s c scale) ≡ firstOf (vectorRules s c scale)
+  pub vector-order : (scale : ℕ) → ofVector (readVector s c scale) ≡ firstOf (vectorRules s c scale)
   unfolding atCursor firstOf
-  refused-read-vector-net-quantize scale =
+  vector-order scale =
       by-cases (good s c)
       (λ g. by-cases (eqb scale 0)
       (λ e. simp (g, e))
@@ -161,19 +160,17 @@ module _ (s : List ℕ) (c : Cursor) where
       ∙ first-or (vectorParts (window s c) (c .len) scale (c .pos)) _)))
       (λ g. simp g)
 
-  -- A normal gives 14, 7.
-  pub refused-read-fixed-vector-normal : ofVector (readNormal s c) ≡ firstOf (normalRules s c)
+  pub normal-order : ofVector (readNormal s c) ≡ firstOf (normalRules s c)
   unfolding atCursor firstOf normalOf threeAt partAt asBits afterRead
-  refused-read-fixed-vector-normal =
+  normal-order =
       by-cases (good s c)
       (λ g. vector-refusal (readNormal s c) ∙ ap refusalIn (normal-seen s c (good-le s c g .1) (c .pos) (good-le s c g .0))
       ∙ first-or (lacking (c .len) (c .pos) (normalAxisBits ∷ normalAxisBits ∷ normalAxisBits ∷ [])) _ ∙ simp g)
       (λ g. simp g)
 
-  -- A rotation gives 14, 13, 7.
-  pub refused-read-rotation : (w : ℕ) → ofRotation (readRotation s c w) ≡ firstOf (rotationRules s c w)
+  pub rotation-order : (w : ℕ) → ofRotation (readRotation s c w) ≡ firstOf (rotationRules s c w)
   unfolding atCursor firstOf
-  refused-read-rotation w =
+  rotation-order w =
       by-cases (good s c)
       (λ g. by-cases (eqb w 8 || eqb w 16)
       (λ e. simp (g, e)
@@ -184,3 +181,18 @@ module _ (s : List ℕ) (c : Cursor) where
     where
       narrow : (w : ℕ) → eqb w 8 || eqb w 16 ≡ true → w ≤ 64
       narrow w e = by-cases (eqb w 8) (λ k. let i = eqb-true w 8 k in omega arith) (λ k. by-cases (eqb w 16) (λ l. let i = eqb-true w 16 l in omega arith) (λ l. let f : false ≡ true = simp (k, l) at e in let z : _≡_ {A = ℕ} 0 1 = cc in never z))
+
+-- ---- the calls
+
+module _ (s : List ℕ) (c : Cursor) where
+  -- A vector gives 14, 11, 7, 12.
+  pub refused-read-vector-net-quantize : (scale : ℕ) (r : VectorRead) → r ≡ readVector s c scale → ofVector r ≡ firstOf (vectorRules s c scale)
+  refused-read-vector-net-quantize scale r f = ap ofVector f ∙ vector-order s c scale
+
+  -- A normal gives 14, 7.
+  pub refused-read-fixed-vector-normal : (r : VectorRead) → r ≡ readNormal s c → ofVector r ≡ firstOf (normalRules s c)
+  refused-read-fixed-vector-normal r f = ap ofVector f ∙ normal-order s c
+
+  -- A rotation gives 14, 13, 7.
+  pub refused-read-rotation : (w : ℕ) (r : RotationRead) → r ≡ readRotation s c w → ofRotation r ≡ firstOf (rotationRules s c w)
+  refused-read-rotation w r f = ap ofRotation f ∙ rotation-order s c w

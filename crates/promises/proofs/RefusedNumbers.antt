@@ -1,6 +1,6 @@
 -- A packed number is refused exactly when, and in the order that, document 01 says: 14, 7, 8, 9. By how many whole bytes say that another follows.
 use Prim.Native.Nat.{ℕ, zero, suc, _+_, _*_, _/_, _%_, _≤_, _<_}
-use mathlib.Core.Path.{_≡_, refl, subst}
+use mathlib.Core.Path.{_≡_, refl, ap, _∙_, subst}
 use mathlib.Core.Bool.{Bool, true, false, _&&_}
 use mathlib.Core.List.{List}
 use native.Mathlib.Omega.{arith}
@@ -16,6 +16,7 @@ use Rattle.bitio.specs.Cursors.{good, window, atCursor}
 use Rattle.bitio.specs.Numbers.{packedAnswer, readIntPacked}
 use Rattle.bits.proofs.ChoiceLaws.{by-cases}
 use Rattle.bitio.specs.declared.Cursor.{Cursor}
+use Rattle.bitio.specs.declared.PackedRead.{PackedRead}
 use Rattle.promises.specs.ReadOrders.{ofPacked, following, packedParts, packedRules}
 
 -- what a number comes to behind whose first n bytes another follows, where `left` may follow the first
@@ -119,10 +120,14 @@ parts-order W len p n x (lacks e f) = simp (e, f)
 parts-order W len p n x (sixth f g) = simp (f, g)
 parts-order W len p n x (large f g k) = simp (f, g, k)
 
--- A packed number gives 14, 7, 8, 9.
-pub refused-read-int-packed : (s : List ℕ) (c : Cursor) → ofPacked (readIntPacked s c) ≡ firstOf (packedRules s c)
+-- Behind a good cursor its parts decide.
+pub packed-order : (s : List ℕ) (c : Cursor) → ofPacked (readIntPacked s c) ≡ firstOf (packedRules s c)
 unfolding atCursor firstOf
-refused-read-int-packed s c =
+packed-order s c =
     by-cases (good s c)
     (λ g. simp g (parts-order (window s c) (c .len) (c .pos) (following mostBytes (window s c) (c .len) (c .pos)) (packed (window s c) (c .len) (c .pos)) (packed-tested (window s c) (c .len) (c .pos))))
     (λ g. simp g)
+
+-- A packed number gives 14, 7, 8, 9.
+pub refused-read-int-packed : (s : List ℕ) (c : Cursor) (r : PackedRead) → r ≡ readIntPacked s c → ofPacked r ≡ firstOf (packedRules s c)
+refused-read-int-packed s c r f = ap ofPacked f ∙ packed-order s c

@@ -2,7 +2,7 @@
 -- definitions decide by the same tests in the same order. The theorem on a call is `refused-` and the call's name, with `-` for `_`.
 use Prim.Native.Nat.{ℕ, _/_}
 use mathlib.Core.Path.{_≡_, refl, ap, _∙_}
-use mathlib.Core.Bool.{false}
+use mathlib.Core.Bool.{Bool, false}
 use mathlib.Core.List.{List}
 use mathlib.Core.Option.{Option, none, some}
 use lib.Dec.{leb, ltb, eqb}
@@ -12,7 +12,8 @@ use Rattle.bits.proofs.ChoiceLaws.{by-cases}
 use Rattle.bits.specs.Sizes.{longestWindow}
 use Rattle.schema.specs.Layout.{laidOut}
 use Rattle.schema.specs.Tables.{Tables, tables}
-use Rattle.schema.specs.TwelveLevels.{enough, fillAnswer}
+use Rattle.schema.specs.TwelveLevels.{enough, fillAnswer, FillsSchema}
+use Rattle.schema.specs.declared.Filled.{Filled}
 use Rattle.framing.specs.Counters.{Counters, counters, sums}
 use Rattle.framing.specs.Events.{pairs}
 use Rattle.framing.specs.Records.{pairWords}
@@ -90,7 +91,7 @@ unfolding merge firstOf
 merge-order a b = by-cases (bounded (sums a b)) (λ e. simp e) (λ e. simp e)
 
 -- A merge gives 4 with the left counters.
-pub refused-merge-from : (left right : ArrayDecodeStats) (r : Merged) → Adds (countersOf left) (countersOf right) r
+pub refused-merge-from : (left right : ArrayDecodeStats) (r : Merged) → Adds left right r
     → ofSums (sumsOf r) ≡ firstOf (mergeRules (countersOf left) (countersOf right))
 refused-merge-from left right r f = ap ofSums f ∙ merge-order (countersOf left) (countersOf right)
 
@@ -98,15 +99,20 @@ refused-merge-from left right r f = ap ofSums f ∙ merge-order (countersOf left
 
 -- Tables that break their layout give 2.
 pub refused-check-tables : (rows : List ℕ) (levels root : ℕ) (names declared declaredNames : List ℕ)
-    → let t = tables rows names declared declaredNames in tablesNumbered (laidOut t levels root) ≡ firstOf (tableRules t levels root)
+    → let t = tables rows names declared declaredNames in (r : Bool) → r ≡ laidOut t levels root → tablesNumbered r ≡ firstOf (tableRules t levels root)
 unfolding firstOf
-refused-check-tables rows levels root names declared declaredNames =
-    by-cases (laidOut (tables rows names declared declaredNames) levels root) (λ e. simp e) (λ e. simp e)
+refused-check-tables rows levels root names declared declaredNames r f =
+    ap tablesNumbered f ∙ by-cases (laidOut (tables rows names declared declaredNames) levels root) (λ e. simp e) (λ e. simp e)
+
+-- Buffers that are too short give 3.
+pub fill-order : (rows names : List ℕ) → filledNumbered (fillAnswer rows names) ≡ firstOf (fillRules rows names)
+unfolding fillAnswer firstOf
+fill-order rows names = by-cases (enough rows names) (λ e. simp e) (λ e. simp e)
 
 -- Filling the schema gives 3.
-pub refused-fill-schema : (rows names : List ℕ) → filledNumbered (fillAnswer rows names) ≡ firstOf (fillRules rows names)
-unfolding fillAnswer firstOf
-refused-fill-schema rows names = by-cases (enough rows names) (λ e. simp e) (λ e. simp e)
+pub refused-fill-schema : (rows names : List ℕ) (r : Filled) (end : List ℕ × List ℕ) → FillsSchema rows names r (end .0) (end .1)
+    → filledNumbered r ≡ firstOf (fillRules rows names)
+refused-fill-schema rows names r end f = ap filledNumbered (f .0) ∙ fill-order rows names
 
 -- ---- the fast array: 1, 6, 3
 

@@ -4,7 +4,6 @@
 use mathlib.Core.Path.{_≡_, refl, sym, ap, _∙_, subst}
 use mathlib.Core.List.{List}
 use Prim.Native.Nat.{ℕ}
-use Rattle.bits.proofs.Never.{never}
 use Rattle.schema.specs.Tables.{Tables}
 use Rattle.framing.specs.Counters.{Counters, counters, isClean}
 use Rattle.framing.specs.Sinks.{Walker, struct, exact, object, walk}
@@ -14,43 +13,23 @@ use Rattle.framing.specs.Refusing.{Room, Answer, refused, accepted}
 use Rattle.framing.proofs.VerdictLaws.{set-clean, set-partial, clean-set, partial-set, set-not-empty, silent-empty, silent-none, none-silent, object-loud, says-clean, some-clean, says-empty}
 use Rattle.framing.proofs.WalkVerdicts.{silent-walk, error-walk, counted-partial, partial-counted}
 use Rattle.outputs.specs.Answers.{Call, Lent, answer, pairAnswer}
-use Rattle.array.proofs.OneAnswer.{verdict-back}
-use Rattle.array.specs.Calls.{structCall, exactCall, verdictIs, verdictNamed, Judges, Decodes, DecodesPairs}
+use Rattle.array.specs.Calls.{structCall, exactCall, verdictNamed, Judges, Decodes, DecodesPairs}
 use Rattle.array.specs.Refusals.{countersOf}
 use Rattle.array.specs.declared.ArrayDecodeStats.{ArrayDecodeStats}
 use Rattle.array.specs.declared.Extent.{Extent}
 use Rattle.array.specs.declared.Verdict.{Verdict}
 use Rattle.array.specs.declared.StructArray.the-variants as structs
 use Rattle.array.specs.declared.ObjectArray.the-variants as objects
+use Rattle.exports.specs.Calls.{vrfVerdict}
 use Rattle.exports.specs.WalkResults.{countersIn, verdictNumber, Walks, walkResult, WalksPairs, objectsResult}
 use Rattle.exports.specs.declared.VrfCounters.{VrfCounters}
 use Rattle.exports.specs.declared.VrfWalk.{VrfWalk}
 use Rattle.exports.specs.declared.VrfObjects.{VrfObjects}
 use Rattle.promises.specs.Verdicts.{OnWindow, InC, OnSet}
-use Rattle.promises.proofs.Accepted.{accepted-tells, refused-numbered}
+use Rattle.promises.proofs.VerdictForms.{Apart, named-apart, number-apart}
+use Rattle.promises.proofs.Ran.{by-name, Ran, ran-tells, ran-decodes, ran-walks, RanPairs, pairs-tell, ran-pairs, ran-objects}
 
--- ---- both forms tell the verdicts apart
-
-named-apart : (v w : F.Verdict) → verdictNamed v ≡ verdictNamed w → v ≡ w
-named-apart v w e = sym (back v) ∙ ap verdictIs e ∙ back w
-  where
-    back : (v : F.Verdict) → verdictIs (verdictNamed v) ≡ v
-    back F.clean = refl
-    back F.partial = refl
-    back F.empty = refl
-
-number-apart : (v w : F.Verdict) → verdictNumber v ≡ verdictNumber w → v ≡ w
-number-apart F.clean F.clean e = refl
-number-apart F.clean F.partial e = never e
-number-apart F.clean F.empty e = let z : _≡_ {A = ℕ} 0 1 = cc in never z
-number-apart F.partial F.clean e = never (sym e)
-number-apart F.partial F.partial e = refl
-number-apart F.partial F.empty e = let z : _≡_ {A = ℕ} 0 1 = cc in never z
-number-apart F.empty F.clean e = let z : _≡_ {A = ℕ} 0 1 = cc in never z
-number-apart F.empty F.partial e = let z : _≡_ {A = ℕ} 0 1 = cc in never z
-number-apart F.empty F.empty e = refl
-
-module _ {A : Type 0} (form : F.Verdict → A) (apart : (v w : F.Verdict) → form v ≡ form w → v ≡ w) where
+module _ {A : Type 0} (form : F.Verdict → A) (apart : Apart form) where
   -- of a walk's own counters
   on-window : (k : Walker) (bytes : List ℕ) (bits : ℕ) (c : Counters) (v : A) → c ≡ counters (walk k bytes bits) → v ≡ form (verdictOf k bits c)
       → OnWindow form k bits c v
@@ -83,64 +62,56 @@ module _ {A : Type 0} (form : F.Verdict → A) (apart : (v w : F.Verdict) → fo
 
 -- ---- the walks
 
--- A struct or exact walk that was not refused.
-leaves-judged : (c : Call) (b : Lent) (st : ArrayDecodeStats) (v : Verdict) (e : Extent) (x : Lent) → Decodes c b (structs.Decoded st v e) x
-    → OnWindow verdictNamed (c .how) (c .bits) (countersOf st) v
-unfolding answer
-leaves-judged c b st v e x f =
-    on-window verdictNamed named-apart (c .how) (c .bytes) (c .bits) (countersOf st) v (accepted-tells _ _ _ _ _ _ (f .answered .says) .0)
-    (sym (verdict-back v) ∙ ap verdictNamed (f .judged))
+-- A struct or exact walk that was not refused, and an object walk.
+leaves-judged : {A : Type 0} (form : F.Verdict → A) → Apart form → (k : Call) (b : Lent) (c : Counters) (v : A) (need : Room) (x : Lent)
+    → Ran form k b c v need x → OnWindow form (k .how) (k .bits) c v
+leaves-judged form apart k b c v need x f = on-window form apart (k .how) (k .bytes) (k .bits) c v (ran-tells f .0) (f .judged)
+
+pairs-judged : {A : Type 0} (form : F.Verdict → A) → Apart form → (bytes : List ℕ) (bits : ℕ) (b : List ℕ) (c : Counters) (v : A) (n : ℕ) (x : List ℕ)
+    → RanPairs form bytes bits b c v n x → OnWindow form object bits c v
+pairs-judged form apart bytes bits b c v n x f = on-window form apart object bytes bits c v (pairs-tell f .0) (f .judged)
 
 -- The verdict of an accepted struct walk: empty of no bits, clean of some with nothing counted against it, else partial.
 pub judged-decode-struct-array : (bytes : List ℕ) (bits : ℕ) (t : Tables) (levels root : ℕ) (b : Lent) (st : ArrayDecodeStats) (v : Verdict) (e : Extent) (x : Lent)
     → Decodes (structCall bytes bits t levels root) b (structs.Decoded st v e) x → OnWindow verdictNamed (struct t root) bits (countersOf st) v
-judged-decode-struct-array bytes bits t levels root = leaves-judged (structCall bytes bits t levels root)
+judged-decode-struct-array bytes bits t levels root b st v e x f =
+    let k = structCall bytes bits t levels root in leaves-judged verdictNamed named-apart k b _ v _ x (ran-decodes k b st v e x f)
 
 -- That of an accepted exact walk: the same.
 pub judged-decode-struct-array-exact : (bytes : List ℕ) (bits : ℕ) (declared declaredNames : List ℕ) (b : Lent) (st : ArrayDecodeStats) (v : Verdict) (e : Extent) (x : Lent)
     → Decodes (exactCall bytes bits declared declaredNames) b (structs.Decoded st v e) x
     → OnWindow verdictNamed (exact declared declaredNames) bits (countersOf st) v
-judged-decode-struct-array-exact bytes bits declared declaredNames = leaves-judged (exactCall bytes bits declared declaredNames)
+judged-decode-struct-array-exact bytes bits declared declaredNames b st v e x f =
+    let k = exactCall bytes bits declared declaredNames in leaves-judged verdictNamed named-apart k b _ v _ x (ran-decodes k b st v e x f)
 
 -- That of an accepted object walk: never empty; of no bits partial, since an error is counted.
 pub judged-decode-object-ref-array : (bytes : List ℕ) (bits : ℕ) (b : List ℕ) (st : ArrayDecodeStats) (v : Verdict) (n : ℕ) (x : List ℕ)
     → DecodesPairs bytes bits b (objects.Decoded st v n) x → OnWindow verdictNamed object bits (countersOf st) v
-unfolding pairAnswer
-judged-decode-object-ref-array bytes bits b st v n x f =
-    on-window verdictNamed named-apart object bytes bits (countersOf st) v (accepted-tells _ _ _ _ _ _ (f .answered .says) .0)
-    (sym (verdict-back v) ∙ ap verdictNamed (f .judged))
+judged-decode-object-ref-array bytes bits b st v n x f = pairs-judged verdictNamed named-apart bytes bits b _ v n x (ran-pairs bytes bits b st v n x f)
 
 -- ---- counters alone
 
 -- The verdict on a set of counters is clean or partial, never empty.
-pub judged-verdict : (stats : ArrayDecodeStats) (r : Verdict) → Judges (countersOf stats) r → OnSet verdictNamed (countersOf stats) r
-judged-verdict stats r j = on-set verdictNamed named-apart (countersOf stats) r (sym (verdict-back r) ∙ ap verdictNamed j)
+pub judged-verdict : (stats : ArrayDecodeStats) (r : Verdict) → Judges stats r → OnSet verdictNamed (countersOf stats) r
+judged-verdict stats r j = on-set verdictNamed named-apart (countersOf stats) r (by-name r j)
 
 -- So is the number of it for C: 0 or 1.
-pub judged-vrf-verdict : (counters : VrfCounters) (r : ℕ) → r ≡ verdictNumber (countersVerdict (countersIn counters))
-    → OnSet verdictNumber (countersIn counters) r
+pub judged-vrf-verdict : (counters : VrfCounters) (r : ℕ) → r ≡ vrfVerdict counters → OnSet verdictNumber (countersIn counters) r
 judged-vrf-verdict counters r j = on-set verdictNumber number-apart (countersIn counters) r j
 
 -- ---- the walks for C
 
-module _ (k : Walker) (bits : ℕ) where
-  in-accepted : (bytes : List ℕ) (c : Counters) → c ≡ counters (walk k bytes bits) → InC k bits 0 c (verdictNumber (verdictOf k bits c))
-  in-accepted bytes c e = record { refused = λ z. absurd (z refl); accepted = λ z. on-window verdictNumber number-apart k bytes bits c _ e refl }
-
-  in-refused : (refusal : ℕ) (c : Counters) → (refusal ≡ 0 → ⊥) → InC k bits refusal c 0
-  in-refused refusal c h = record { refused = λ z. refl; accepted = λ z. absurd (h z) }
-
 walk-in-c : (c : Call) (b : Lent) (r : VrfWalk) (x : Lent) → Walks c b r x
     → InC (c .how) (c .bits) (r .refusal) (countersIn (r .counters)) (r .verdict)
-unfolding answer
-walk-in-c c b r x f = subst Told (sym (f .says)) (go (answer c b) refl)
+walk-in-c c b r x f =
+    record {
+      refused = λ z. subst (λ (w : VrfWalk). (w .refusal ≡ 0 → ⊥) → w .verdict ≡ 0) (sym (f .says)) (go (answer c b)) z;
+      accepted = λ z. leaves-judged verdictNumber number-apart c b _ _ _ x (ran-walks c b r x f z);
+    }
   where
-    Told : VrfWalk → Type 0
-    Told w = InC (c .how) (c .bits) (w .refusal) (countersIn (w .counters)) (w .verdict)
-
-    go : (a : Answer Room) → a ≡ answer c b → Told (walkResult (c .how) (c .bits) a)
-    go (accepted k n) h = in-accepted (c .how) (c .bits) (c .bytes) k (accepted-tells _ _ _ _ _ _ h .0)
-    go (refused k n) h = in-refused (c .how) (c .bits) k _ (refused-numbered _ _ _ _ _ _ h)
+    go : (a : Answer Room) → ((walkResult (c .how) (c .bits) a) .refusal ≡ 0 → ⊥) → (walkResult (c .how) (c .bits) a) .verdict ≡ 0
+    go (accepted k n) h = absurd (h refl)
+    go (refused k n) h = refl
 
 -- The verdict of `vrf_struct_array`: 0 where the walk is refused; else empty of no bits, clean of some with nothing counted against it, or partial.
 pub judged-vrf-struct-array : (bytes : List ℕ) (bits : ℕ) (t : Tables) (levels root : ℕ) (b : Lent) (r : VrfWalk) (x : Lent)
@@ -155,12 +126,12 @@ judged-vrf-struct-array-exact bytes bits declared declaredNames = walk-in-c (exa
 -- That of `vrf_object_array`: the same, but never empty.
 pub judged-vrf-object-array : (bytes : List ℕ) (bits : ℕ) (b : List ℕ) (r : VrfObjects) (x : List ℕ)
     → WalksPairs bytes bits b r x → InC object bits (r .refusal) (countersIn (r .counters)) (r .verdict)
-unfolding pairAnswer
-judged-vrf-object-array bytes bits b r x f = subst Told (sym (f .says)) (go (pairAnswer bytes bits b) refl)
+judged-vrf-object-array bytes bits b r x f =
+    record {
+      refused = λ z. subst (λ (w : VrfObjects). (w .refusal ≡ 0 → ⊥) → w .verdict ≡ 0) (sym (f .says)) (go (pairAnswer bytes bits b)) z;
+      accepted = λ z. pairs-judged verdictNumber number-apart bytes bits b _ _ _ x (ran-objects bytes bits b r x f z);
+    }
   where
-    Told : VrfObjects → Type 0
-    Told o = InC object bits (o .refusal) (countersIn (o .counters)) (o .verdict)
-
-    go : (a : Answer ℕ) → a ≡ pairAnswer bytes bits b → Told (objectsResult bits a)
-    go (accepted k n) h = in-accepted object bits bytes k (accepted-tells _ _ _ _ _ _ h .0)
-    go (refused k n) h = in-refused object bits k _ (refused-numbered _ _ _ _ _ _ h)
+    go : (a : Answer ℕ) → ((objectsResult bits a) .refusal ≡ 0 → ⊥) → (objectsResult bits a) .verdict ≡ 0
+    go (accepted k n) h = absurd (h refl)
+    go (refused k n) h = refl

@@ -1,4 +1,4 @@
--- What it means that a contract determines a call: two answers that meet it are the same.
+-- What it means that a contract determines a call: two answers that meet it are the same. That one meets it is the proof of the call.
 use mathlib.Core.Path.{_≡_}
 
 -- a call that lends nothing

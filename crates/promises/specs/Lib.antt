@@ -8,4 +8,8 @@ pub mod MoveOrders
 pub mod ExportOrders
 pub mod ByteAngles
 pub mod Verdicts
+pub mod Clean
 pub mod Paths
+pub mod Stays
+pub mod Finite
+pub mod PairsBehind

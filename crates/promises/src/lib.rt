@@ -1,4 +1,4 @@
-// What the public calls promise (the demands: docs/RULES.md; 01, How tight the contracts are): definitions and theorems, no code.
+// What the public calls promise (the demands: docs/RULES.md; 01, What a contract fixes): definitions and theorems, no code.
 //
 // Each contract determines its call, refusals come exactly when and in the order that 01 says, bits outside a window alter nothing,
 // a cut window's answer is the front of the whole one's, and the fourteen proved cases hold. A theorem here cites contracts and laws

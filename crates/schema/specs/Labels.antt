@@ -6,7 +6,8 @@ use lib.Dec.{leb}
 use Rattle.bits.specs.Choice.{if_then_else_}
 use Rattle.bits.specs.Sizes.{maxName}
 unfoldable pub use Rattle.bits.specs.Decimals.{decimal}
-use Rattle.schema.specs.Tables.{Tables, schemaName, declaredName}
+use Rattle.schema.specs.Tables.{Tables, lookUps, schemaName, declaredName}
+use Rattle.schema.specs.declared.Entry.{Entry}
 use Rattle.schema.specs.declared.Name.{Name}
 use Rattle.schema.specs.declared.Name.the-variants.{At, Unnamed}
 use Rattle.schema.specs.declared.Label.{Label}
@@ -31,6 +32,20 @@ byDeclaration Unnamed other = other
 
 unfoldable pub leafLabel : Tables → (level handle : ℕ) → Label
 leafLabel t level handle = byDeclaration (declaredName (t .declared) handle) (containerLabel t level handle)
+
+-- both by their parts: a container's by the schema's rows alone
+abbrev pub containerLabelOf : (rows : List ℕ) (level handle : ℕ) → Label
+containerLabelOf rows level handle = containerLabel (lookUps rows []) level handle
+
+abbrev pub leafLabelOf : (rows declared : List ℕ) (level handle : ℕ) → Label
+leafLabelOf rows declared level handle = leafLabel (lookUps rows declared) level handle
+
+-- and where the schema's entry is known
+abbrev pub containerLabelFrom : Entry → Label
+containerLabelFrom entry = bySchema (entry .name)
+
+abbrev pub leafLabelFrom : Entry → (declared : List ℕ) (handle : ℕ) → Label
+leafLabelFrom entry declared handle = byDeclaration (declaredName declared handle) (containerLabelFrom entry)
 
 -- a label's bytes, from the one pool or the other if it has a name
 unfoldable pub labelBytes : Tables → (handle : ℕ) → Label → List ℕ
@@ -63,7 +78,8 @@ pub record LabelsLie (t : Tables) : Type 0 where
 unfoldable pub nameIn : (pool : List ℕ) (start len : ℕ) → List ℕ
 nameIn pool start len = if leb (start + len) (length pool) then take len (drop start pool) else []
 
--- the part of the one pool or the other that a label names; a plain one names none
+-- the part of the one pool or the other that a label names, which are the bytes of `labelBytes` where the name lies in its pool; a plain one names
+-- none
 unfoldable pub labelPart : (declaredPool schemaPool : List ℕ) → Label → List ℕ
 labelPart declaredPool schemaPool (Declared start len) = nameIn declaredPool start len
 labelPart declaredPool schemaPool (Named start len) = nameIn schemaPool start len

@@ -1,5 +1,5 @@
--- Document 01's refusal numbers: for each refusing answer of this crate the number, and the values that 01's table names; a value that it
--- doesn't name is 0. An answer that refuses nothing has none.
+-- Document 01's refusal numbers: for each refusing answer of this crate the number and its values. 01's table doesn't list those of filling the
+-- schema; they are its needs, as the other 3s have theirs. An answer that refuses nothing has none.
 use Prim.Native.Nat.{ℕ}
 use mathlib.Core.Bool.{Bool, true, false}
 use mathlib.Core.Option.{Option, none, some}
@@ -27,3 +27,9 @@ refusalNumber (some n) = n .number
 abbrev pub sayingOf : Option Numbered → Saying
 sayingOf none = record { number = 0; rows = 0; names = 0 }
 sayingOf (some n) = record { number = n .number; rows = n .first; names = n .second }
+
+abbrev pub said : Filled → Saying
+said answer = sayingOf (filledNumbered answer)
+
+abbrev pub tablesNumber : (kept : Bool) → ℕ
+tablesNumber kept = refusalNumber (tablesNumbered kept)

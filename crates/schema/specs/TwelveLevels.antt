@@ -1,5 +1,6 @@
 -- The twelve levels of schema.rs as one table, and those of them that schema.rs makes public, by number.
 use Prim.Native.Nat.{ℕ}
+use mathlib.Core.Path.{_≡_}
 use mathlib.Core.List.{List, [], _∷_}
 use Prim.Native.Char.{code}
 use Prim.Native.String.{String}
@@ -127,3 +128,8 @@ filledRows rows names = if enough rows names then put rows 0 schemaRows else row
 
 unfoldable pub filledNames : (rows names : List ℕ) → List ℕ
 filledNames rows names = if enough rows names then put names 0 schemaNames else names
+
+-- the contract: what is answered, and what the two buffers hold at the exit
+abbrev pub FillsSchema : (rows names : List ℕ) → Filled → (endRows endNames : List ℕ) → Type 0
+FillsSchema rows names r endRows endNames =
+    (r ≡ fillAnswer rows names) × (endRows ≡ filledRows rows names) × (endNames ≡ filledNames rows names)

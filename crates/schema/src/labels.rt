@@ -1,9 +1,7 @@
 // Labels: a leaf is called by its declaration, by the schema where there is none, and by `_h` and its number where there is
 // neither; a declaration says nothing of a container.
 ghost use mathlib.Core.Path.{_≡_};
-ghost use mathlib.Core.List.{[]};
-ghost use Rattle.schema.specs.Tables.{lookUps, declaredName};
-ghost use Rattle.schema.specs.Labels.{bySchema, byDeclaration, containerLabel, leafLabel, labelLength, nameIn, labelPart};
+ghost use Rattle.schema.specs.Labels.{bySchema, byDeclaration, containerLabelFrom, leafLabelFrom, containerLabelOf, leafLabelOf, labelLength, nameIn, labelPart};
 use crate::Entry;
 use crate::Label;
 use crate::Name;
@@ -33,7 +31,7 @@ fn by_declaration(name: Name, other: Label) -> Label
 
 // The label of a container whose entry is known.
 pub fn container_label_from(entry: Entry) -> Label
-    ensures { λ r. ⌜ r ≡ bySchema (entry .name) ⌝ }
+    ensures { λ r. ⌜ r ≡ containerLabelFrom entry ⌝ }
 {
     let name = entry.name;
     by_schema(name)
@@ -41,7 +39,7 @@ pub fn container_label_from(entry: Entry) -> Label
 
 // The label of a leaf whose entry is known. A declared row that starts at 4294967295 (ABSENT) declares no name.
 pub fn leaf_label_from(entry: Entry, declared: &[u32], handle: u32) -> Label
-    ensures { λ r. ⌜ r ≡ byDeclaration (declaredName (now (declared .entry)) handle) (bySchema (entry .name)) ⌝ }
+    ensures { λ r. ⌜ r ≡ leafLabelFrom entry (now (declared .entry)) handle ⌝ }
 {
     let name = entry.name;
     let other = by_schema(name);
@@ -51,7 +49,7 @@ pub fn leaf_label_from(entry: Entry, declared: &[u32], handle: u32) -> Label
 
 // A container's label. Level 4294967295 (ABSENT), where no schema is lent, has no row.
 pub fn container_label(rows: &[u32], level: u32, handle: u32) -> Label
-    ensures { λ r. ⌜ r ≡ containerLabel (lookUps (now (rows .entry)) []) level handle ⌝ }
+    ensures { λ r. ⌜ r ≡ containerLabelOf (now (rows .entry)) level handle ⌝ }
 {
     let name = name_of(rows, level, handle);
     by_schema(name)
@@ -59,7 +57,7 @@ pub fn container_label(rows: &[u32], level: u32, handle: u32) -> Label
 
 // A leaf's label. A declared row that starts at 4294967295 (ABSENT) declares no name.
 pub fn label_of(rows: &[u32], declared: &[u32], level: u32, handle: u32) -> Label
-    ensures { λ r. ⌜ r ≡ leafLabel (lookUps (now (rows .entry)) (now (declared .entry))) level handle ⌝ }
+    ensures { λ r. ⌜ r ≡ leafLabelOf (now (rows .entry)) (now (declared .entry)) level handle ⌝ }
 {
     let other = container_label(rows, level, handle);
     let own = declared_name(declared, handle);

@@ -1,7 +1,7 @@
 // Schema and declared tables (array/schema.rs): the layout that they keep, what they say of a handle, and labels.
 //
-// A schema row is five u32: level, kind, handle, a, b. Kind 0 says that the handle is an array whose elements have level
-// a; kind 1 that its name stands at a in the name pool, b bytes long. A declared row is a handle's start and length in the
+// A schema row is five u32: its level, its kind, a handle, and two more, a and b. Kind 0 says that the handle is an array
+// whose elements have level a; kind 1 that its name stands at a in the name pool, b bytes long. A declared row is a handle's start and length in the
 // declared name pool. Every public call takes any tables.
 
 pub mod labels;
@@ -40,7 +40,7 @@ pub enum Name {
     Unnamed,
 }
 
-// A label: a part of the declared pool, a part of the schema's pool, or `_h` and the handle.
+// A label: a name of the declared pool, a name of the schema's pool, or `_h` and the handle.
 pub enum Label {
     Declared(u32, u32),
     Named(u32, u32),

@@ -1,6 +1,6 @@
 // What an answer says of document 01's refusals: the number, 0 where nothing is refused, and the values of its table.
 ghost use mathlib.Core.Path.{_≡_};
-ghost use Rattle.schema.specs.Refusals.{refusalNumber, filledNumbered, tablesNumbered, sayingOf};
+ghost use Rattle.schema.specs.Refusals.{said, tablesNumber};
 use crate::Filled;
 
 // The number, and what the buffers need: u32 of rows, bytes of names.
@@ -12,7 +12,7 @@ pub struct Saying {
 
 // Of buffers that were to be filled.
 pub fn said(answer: Filled) -> Saying
-    ensures { λ r. ⌜ r ≡ sayingOf (filledNumbered answer) ⌝ }
+    ensures { λ r. ⌜ r ≡ said answer ⌝ }
 {
     match answer {
         Filled::Done => Saying {
@@ -30,7 +30,7 @@ pub fn said(answer: Filled) -> Saying
 
 // Of tables that keep their layout, or break it.
 pub fn tables_number(kept: bool) -> u32
-    ensures { λ r. ⌜ r ≡ refusalNumber (tablesNumbered kept) ⌝ }
+    ensures { λ r. ⌜ r ≡ tablesNumber kept ⌝ }
 {
     if kept { 0 } else { 2 }
 }

@@ -3,7 +3,7 @@ ghost use mathlib.Core.Path.{_≡_};
 ghost use Prim.Native.Nat.{_≤_};
 ghost use lib.ListN.{length};
 ghost use Rattle.bits.specs.Runs.{put};
-ghost use Rattle.schema.specs.TwelveLevels.{publicLevels, fillAnswer, filledRows, filledNames};
+ghost use Rattle.schema.specs.TwelveLevels.{publicLevels, FillsSchema};
 use crate::Filled;
 use crate::table::NAMES;
 use crate::table::ROWS;
@@ -72,9 +72,7 @@ fn copy_bytes(d: &mut [u8], s: &[u8])
 
 // The table to the front of the two buffers; what both need where one is too short.
 pub fn fill_schema(rows: &mut [u32], names: &mut [u8]) -> Filled
-    ensures answer { λ r. ⌜ r ≡ fillAnswer (now (rows .entry)) (now (names .entry)) ⌝ }
-    ensures rows { λ r. ⌜ now (rows .exit) ≡ filledRows (now (rows .entry)) (now (names .entry)) ⌝ }
-    ensures names { λ r. ⌜ now (names .exit) ≡ filledNames (now (rows .entry)) (now (names .entry)) ⌝ }
+    ensures { λ r. ⌜ FillsSchema (now (rows .entry)) (now (names .entry)) r (now (rows .exit)) (now (names .exit)) ⌝ }
 {
     if rows.len() < ROW_NUMBERS {
         return Filled::Short(ROW_NUMBERS, NAME_BYTES);

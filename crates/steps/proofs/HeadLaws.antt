@@ -4,14 +4,14 @@ use mathlib.Core.Bool.{Bool, true, false}
 use mathlib.Core.List.{List}
 use Prim.Native.Nat.{ℕ, zero, suc, _+_, _-_, _*_, _/_, _%_, _^_, _≤_, _<_}
 use native.Mathlib.Omega.{arith}
-use lib.Dec.{ltb, eqb}
-use borrow.Author.Tests.{lt-ltb, le-ltb, le-leb, lt-leb, eq-eqb, ne-eqb, eqb-true, eqb-false}
+use lib.Dec.{ltb}
+use borrow.Author.Tests.{lt-ltb, le-ltb, le-leb, lt-leb, eq-eqb, ne-eqb}
 use Rattle.bits.specs.Bits.{num, field}
 use Rattle.bits.specs.Packed.{Number, packed}
 use Rattle.bits.proofs.Never.{never}
 use Rattle.bits.specs.declared.Packed.{Packed}
 use Rattle.bits.specs.declared.Packed.the-variants.{Whole}
-use Rattle.bits.proofs.FieldLaws.{field-low, field-high, bound, joined, inside, placed}
+use Rattle.bits.proofs.FieldLaws.{field-low, field-high}
 use Rattle.bits.proofs.PackedLaws.{packed-one}
 use Rattle.bits.proofs.PackedWindows.{Lies, whole, cut, goes-on, overflows, packed-lies}
 use Rattle.bits.specs.Sizes.{maxElements}
@@ -176,25 +176,6 @@ module _ (w : Window) (p : ℕ) where
           ∙ due-sized (numberAt w p (number-got v q e .bytes) v) (v - 1) q (reading w q)
 
 -- ---- two numbers of one byte each
-
--- the two bytes from bit p: the bytes that hold them, shifted; the third is not looked at where p is a byte's first bit
-pub pair-bits : (N p x y : ℕ) → x ≡ field N (8 * (p / 8)) 16 → y ≡ field N (8 * ((p + 15) / 8)) 8 → (x + 65536 * y) / 2 ^ (p % 8) % 65536 ≡ field N p 16
-pair-bits N p x y ex ey = go (eqb (p % 8) 0) refl
-  where
-    go : (t : Bool) → eqb (p % 8) 0 ≡ t → (x + 65536 * y) / 2 ^ (p % 8) % 65536 ≡ field N p 16
-    go true t =
-        let z : p % 8 ≡ 0 = eqb-true (p % 8) 0 t in
-        let b : x < 65536 = bound x N (8 * (p / 8)) 16 ex in
-        let l : (x + 65536 * y) / 1 % 65536 ≡ x = omega arith in
-        let o : 8 * (p / 8) ≡ p = omega arith in
-        ap (λ (k : ℕ). (x + 65536 * y) / 2 ^ k % 65536) z ∙ l ∙ placed N (8 * (p / 8)) p 16 x o ex
-    go false t =
-        let n = eqb-false (p % 8) 0 t in
-        let z : 8 * ((p + 15) / 8) ≡ 8 * (p / 8 + 2) = omega (arith, n) in
-        let o : 8 * (p / 8) + p % 8 ≡ p = omega arith in
-        let r : p % 8 + 16 ≤ 24 = omega arith in
-        inside N (8 * (p / 8)) 24 (p % 8) 16 p (x + 65536 * y) o r
-        (joined N (p / 8) 2 16 8 x y refl ex (placed N (8 * ((p + 15) / 8)) (8 * (p / 8 + 2)) 8 y z ey))
 
 -- a number of one byte
 one-byte : (bytes : List ℕ) (end p b : ℕ) → p + 8 ≤ end → b ≡ field (num bytes) p 8 → b % 2 ≡ 0

@@ -1,9 +1,5 @@
 // What stands at a position: the heads of a level, of an element and of a field.
 ghost use mathlib.Core.Path.{_≡_};
-ghost use Prim.Native.Nat.{_+_, _*_, _≤_};
-ghost use lib.ListN.{length};
-ghost use Rattle.bits.specs.Bits.{num, field};
-ghost use Rattle.bits.specs.Sizes.{longestWindow};
 ghost use Rattle.framing.specs.Windows.{reading};
 ghost use Rattle.steps.specs.Steps.{Lies};
 ghost use Rattle.steps.specs.Views.{upTo};
@@ -103,20 +99,6 @@ fn width_head(bytes: &[u8], end: u64, handle: u32, at: u64) -> Head
     }
 }
 
-// The two bytes from bit at.
-fn two_bytes_at(s: &[u8], at: u64) -> u64
-    requires { ⌜ (at + 16 ≤ 8 * length (now s)) × (at ≤ longestWindow) ⌝ }
-    ensures { λ r. ⌜ r ≡ field (num (now (s .entry))) at 16 ⌝ }
-{
-    let i = (at / 8) as usize;
-    let last = ((at + 15) / 8) as usize;
-    let low = bits::load::load16(s, i);
-    let high = bits::load::load8(s, last);
-    let three = low + 0x1_0000 * high;
-    let off = at % 8;
-    (three >> off) % 65536
-}
-
 // A field, its numbers of any length.
 fn long_field_head(bytes: &[u8], end: u64, left: u32, at: u64) -> Head
     requires { ⌜ Lies (now bytes) 0 end ⌝ }
@@ -151,7 +133,7 @@ pub fn field_head(bytes: &[u8], end: u64, left: u32, at: u64) -> Head
     if end - at < 16 {
         return long_field_head(bytes, end, left, at);
     }
-    let two = two_bytes_at(bytes, at);
+    let two = bits::field::two_bytes_at(bytes, at);
     let first = two % 256;
     let next = at + 8;
     if first == 0 {

@@ -27,7 +27,7 @@ pub enum NumberRead {
 pub enum Head {
     // The window's end.
     Ended,
-    // A number that can't be read, an index that isn't below the count, or a payload past the window.
+    // A number that can't be read, an index that isn't below the count, or a payload that passes the window.
     Failed,
     // Zero, and the bit behind it.
     Closed(u64),

@@ -15,7 +15,7 @@ fn meaning(number: u32) {
     match number {
         1 => error::text(b"a bit count over 524,288"),
         2 => error::text(
-            b"a schema or declared table breaks its layout or a size, or the root isn't one of its levels",
+            b"a schema or the declared names aren't laid out as they have to be, or pass a size, or the root isn't one of the levels",
         ),
         3 => error::text(b"a lent buffer is too short"),
         4 => error::text(b"a sum of two counters is over 2^64 - 1"),
@@ -32,7 +32,7 @@ fn meaning(number: u32) {
             b"more than 64 bits are asked in one read, or a rotation's width is neither 8 nor 16",
         ),
         14 => error::text(
-            b"a window reaches past its bytes, a cursor past its window or bytes, or a copy's target is too short",
+            b"a reader or a movement has more bits than its bytes hold, a cursor passes its window or bytes, or a copy's target is too short",
         ),
         _ => error::text(b"a number that no refusal has"),
     }

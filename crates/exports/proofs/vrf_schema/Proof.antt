@@ -20,7 +20,7 @@ same-length-2 c = search needs
 returns : tie.Need-returns
 returns c =
     let f = c .before .before .before .before .before .fill-schema .ensures in
-    (c .schema-of .ensures ∙ ap schemaResult (f .0), f .1)
+    (c .schema-of .ensures ∙ ap schemaResult (f .0), f .1, f .2)
 
 pub vrf-schema-spec : {M : Type 1} → statement M
 vrf-schema-spec =

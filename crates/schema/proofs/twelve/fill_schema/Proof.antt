@@ -6,10 +6,10 @@ use Rattle.schema.proofs.twelve.fill_schema.Statement.{statement}
 use Rattle.schema.proofs.twelve.fill_schema.Tie as tie
 
 returns : tie.Need-returns
-returns c = let f = short-rows _ _ (c .if1 .taken) in (f .answer, (f .rows-are, f .names-are))
+returns c = let f = short-rows _ _ (c .if1 .taken) in (f .answer, f .rows-are, f .names-are)
 
 returns-2 : tie.Need-returns-2
-returns-2 c = let f = short-names _ _ (c .before .if1 .left) (c .if2 .taken) in (f .answer, (f .rows-are, f .names-are))
+returns-2 c = let f = short-names _ _ (c .before .if1 .left) (c .if2 .taken) in (f .answer, f .rows-are, f .names-are)
 
 slice-aggregate-copy-numbers : tie.Need-slice-aggregate-copy-numbers
 slice-aggregate-copy-numbers c = search needs
@@ -37,7 +37,7 @@ returns-3 c =
     let at-if2 = at-copy-numbers .before .before .before in
     let at-if1 = at-if2 .before in
     let f = both-fit _ _ _ _ (at-if1 .if1 .left) (at-if2 .if2 .left) (at-copy-numbers .copy-numbers .ensures) (c .before .before .copy-bytes .ensures) in
-    (f .answer, (f .rows-are, f .names-are))
+    (f .answer, f .rows-are, f .names-are)
 
 pub fill-schema-spec : {M : Type 1} → statement M
 fill-schema-spec =

@@ -7,9 +7,8 @@ use Rattle.bits.specs.Bits.{field}
 use Rattle.bitio.specs.Cursors.{window, atCursor, positionOf, lengthOf, remainingOf, endOf, skipped, skippedAll, asWindow, subReader}
 use Rattle.bitio.specs.Reads.{seen, taken, asBit, asU8, asU16, asU32, asI32, readBit, readBits, readU8, readU16, readU32, readI32, readU64}
 use Rattle.bitio.specs.Numbers.{readIntPacked, readSerializedInt}
-use Rattle.bitio.specs.Copies.{pasted, copyAnswer, copyTarget}
-use Rattle.bitio.proofs.CursorLaws.{at-good}
-use Rattle.bitio.proofs.Outside.{same-window}
+use Rattle.bitio.specs.Copies.{pasted, copyAnswer, copyTarget, CopiesBits}
+use Rattle.bitio.proofs.Outside.{same-window, longer-alters-nothing}
 use Rattle.bitio.specs.declared.Cursor.{Cursor}
 use Rattle.bitio.specs.declared.Refusal.{Refusal}
 use Rattle.bitio.specs.declared.Measured.the-variants as Measure
@@ -18,6 +17,7 @@ use Rattle.bitio.specs.declared.Skipped.the-variants as Skip
 use Rattle.bitio.specs.declared.BitsRead.the-variants as Bits
 use Rattle.bitio.specs.declared.PackedRead.the-variants as Packed
 use Rattle.bitio.specs.declared.SerializedRead.the-variants as Serialized
+use Rattle.bitio.specs.declared.Copied.{Copied}
 use Rattle.bitio.specs.declared.Copied.the-variants as Copy
 use Rattle.promises.specs.Outside.{Inside}
 
@@ -28,7 +28,7 @@ module _ (s t : List ℕ) (c : Cursor) (same : Inside s t c) where
   -- What a call at the cursor makes of the window is the same.
   pub longer : {A : Type 0} (refused : Refusal → A) (inside : ℕ → A) → atCursor s c refused inside ≡ atCursor t c refused inside
   longer refused inside =
-      at-good s c refused inside (same .first) ∙ ap inside one-window ∙ sym (at-good t c refused inside (same .second))
+      longer-alters-nothing s t c (same .first) (same .second) one-window refused inside
 
   pub longer-position : positionOf s c ≡ positionOf t c
   longer-position = longer Measure.Refused _
@@ -83,7 +83,8 @@ module _ (s t : List ℕ) (c : Cursor) (same : Inside s t c) where
   pub longer-read-serialized-int : (m : ℕ) → readSerializedInt s c m ≡ readSerializedInt t c m
   longer-read-serialized-int m = longer Serialized.Refused _
 
-  pub longer-copy-bits-to : (n : ℕ) (d : List ℕ) → (copyAnswer s c n d ≡ copyAnswer t c n d) × (copyTarget s c n d ≡ copyTarget t c n d)
-  longer-copy-bits-to n d =
+  pub longer-copy-bits-to : (n : ℕ) (d : List ℕ) (r q : Copied) (x y : List ℕ) → CopiesBits s c n d r x → CopiesBits t c n d q y → (r ≡ q) × (x ≡ y)
+  longer-copy-bits-to n d r q x y f g =
       let a : copyAnswer s c n d ≡ copyAnswer t c n d = longer Copy.Refused _ in
-      (a, λ i. pasted d n (field (one-window i) (c .pos) n) (a i))
+      let b : copyTarget s c n d ≡ copyTarget t c n d = λ i. pasted d n (field (one-window i) (c .pos) n) (a i) in
+      (f .0 ∙ a ∙ sym (g .0), f .1 ∙ b ∙ sym (g .1))

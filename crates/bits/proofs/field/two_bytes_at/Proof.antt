@@ -1,10 +1,9 @@
--- `steps::two_bytes_at` meets its contract: the bits lie in the bytes that are loaded.
+-- `bits::field::two_bytes_at` meets its contract: the bits lie in the bytes that are loaded.
 use borrow.Author.Needs.{needs}
 use native.Mathlib.Omega.{arith}
-use Rattle.bits.proofs.FieldLaws.{bound}
-use Rattle.steps.proofs.HeadLaws.{pair-bits}
-use Rattle.steps.proofs.heads.two_bytes_at.Statement.{statement}
-use Rattle.steps.proofs.heads.two_bytes_at.Tie as tie
+use Rattle.bits.proofs.FieldLaws.{bound, two-bytes}
+use Rattle.bits.proofs.field.two_bytes_at.Statement.{statement}
+use Rattle.bits.proofs.field.two_bytes_at.Tie as tie
 
 add-last : tie.Need-add-last
 add-last c = search needs
@@ -25,7 +24,7 @@ shr-result : tie.Need-shr-result
 shr-result c = search needs
 
 returns : tie.Need-returns
-returns c = pair-bits _ _ _ _ (c .before .load16 .ensures) (c .load8 .ensures)
+returns c = two-bytes _ _ _ _ (c .before .load16 .ensures) (c .load8 .ensures)
 
 pub two-bytes-at-spec : {M : Type 1} → statement M
 two-bytes-at-spec = tie.close (tie.spec add-last load16-requires load8-requires mul-three add-three shr-result returns)
