@@ -1,20 +1,24 @@
-"""The contract of a public call, held to a shape. It has no `requires`, and each of its `ensures { λ r. ⌜ .. ⌝ }` is one of these:
+"""The contract of a public call, held to a shape. It has no `requires` and one `ensures { λ r. ⌜ .. ⌝ }`, which is one of these:
 
-  r ≡ E                    the answer; `now r ≡ E` where the answer is a slice. Nothing stands in front of r.
-  now (B .exit) ≡ E        the final contents of the lent buffer B, whole and alone
-  R A .. r X ..            a relation of RELATIONS; r is an argument of its own, and so are final contents, or several of them side by
-                           side in a record made by one of MAKERS
+  r ≡ D A ..               the answer; `now r ≡ D A ..` where the answer is a slice. Nothing stands in front of r.
+  R A .. r X ..            a relation of RELATIONS; r is an argument of its own, and so are the final contents X of the lent buffers,
+                           `now (B .exit)`, or several of them side by side in a record made by one of MAKERS
 
-E is made of what is known at the entry: the parameters and `now (P .entry)`, and cites a definition of some crate's specs. One clause
-says the answer, and one says the final contents of each `&mut` parameter.
+D is one definition of some crate's specs. Each A is what is known at the entry, as it is: a parameter, `now (P .entry)`, or several lists
+side by side (MAKERS); of a relation also how a walk or a body is asked for, by parameters alone (ASKED). So a contract is one definition
+applied to what is handed in, and what comes of it: a theorem that cites the definition says what the contract says, and neither can be
+altered without the other. The clause says what is answered and what each `&mut` parameter holds in the end.
 """
 from dataclasses import dataclass
 
 from . import terms
-from .terms import arguments, head, names, put, sides, variables
+from .terms import arguments, head, put, sides, variables
 
 # relations between what is handed in and what comes out; that none is empty is what the `one-` theorems of their calls say
 RELATIONS = {
+    ("bits", "specs/Decimals", "WritesDecimal"),
+    ("bitio", "specs/Copies", "CopiesBits"),
+    ("schema", "specs/TwelveLevels", "FillsSchema"),
     ("array", "specs/Calls", "Decodes"),
     ("array", "specs/Calls", "DecodesPairs"),
     ("array", "specs/Calls", "Judges"),
@@ -23,9 +27,14 @@ RELATIONS = {
     ("exports", "specs/WalkResults", "Walks"),
     ("exports", "specs/WalkResults", "WalksPairs"),
     ("exports", "specs/WalkResults", "DecodesBody"),
+    ("exports", "specs/Calls", "FillsForC"),
+    ("exports", "specs/Calls", "CopiesForC"),
 }
 # records of several lists side by side: nothing but a name for all of them
 MAKERS = {("schema", "specs/Tables", "tables"), ("array", "specs/Calls", "lent"), ("fastarray", "specs/Answers", "lent")}
+# how a walk or a body is asked for: a record of the call's parameters, in which a number may stand for a mode (MODES)
+ASKED = {("array", "specs/Calls", "structCall"), ("array", "specs/Calls", "exactCall"), ("fastarray", "specs/Answers", "call")}
+MODES = {("exports", "specs/WalkResults", "modeOf")}
 ANSWER = ("var", "the answer")
 # what `≡` has to mean
 EQUAL = ("library", "mathlib.Core.Path", "_≡_")
@@ -46,16 +55,12 @@ class Clause:
 @dataclass
 class Contract:
     call: object
-    clauses: list
+    clause: Clause = None
     told: list = None  # the definitions by which the `refused-` theorem tells a refusal
 
     @property
     def lent(self):
         return [p.name for p in self.call.parameters if p.lent]
-
-    def answer(self):
-        """The clause that says the answer."""
-        return next((c for c in self.clauses if "the answer" in c.says), None)
 
 
 def plain(tree):
@@ -91,6 +96,30 @@ def is_maker(tree, of):
     return name is not None and name[1] in MAKERS and all(a[0] == "var" and a[1] in of for a in arguments(tree))
 
 
+def is_handed(tree, of):
+    """Something of `of`, as it is."""
+    return tree[0] == "var" and tree[1] in of or is_maker(tree, of)
+
+
+def is_asked(tree, of):
+    """How a walk or a body is asked for, by things of `of`."""
+    name = head(tree)
+    if name is None or name[1] not in ASKED:
+        return False
+    held = [arguments(a)[0] if head(a) is not None and head(a)[1] in MODES and len(arguments(a)) == 1 else a for a in arguments(tree)]
+    return all(is_handed(a, of) for a in held)
+
+
+def is_single(clause, handed, exits):
+    """Whether a clause is one definition applied to what is handed in, and to what comes out."""
+    name = head(clause.right)
+    if name is None or name[1][0] == "library" or not name[1][1].startswith("specs/"):
+        return False
+    if clause.left is not None:
+        return all(is_handed(a, handed) for a in arguments(clause.right))
+    return all(a == ANSWER or is_handed(a, handed) or is_handed(a, exits) or is_asked(a, handed) for a in arguments(clause.right))
+
+
 def contract_of(call, definitions, reach, report):
     """The contract of a call; a fault for each part of it that is not of the shape."""
     crate, module, _ = call.node
@@ -99,8 +128,9 @@ def contract_of(call, definitions, reach, report):
     left_over = call.behind.split("requires")[0].strip()
     report.hold(not left_over, f"{call.name}: this part of its head is no clause of a known form: {left_over[:60]}")
     report.hold(call.clauses, f"{call.name} has no contract")
+    report.hold(len(call.clauses) < 2, f"{call.name} has more than one `ensures`")
     exits = {at_exit(p.name): p.name for p in call.parameters if p.lent}
-    found = Contract(call, [])
+    found = Contract(call)
     for answer, text in call.clauses:
         try:
             bound = [p.name for p in call.parameters] + [answer]
@@ -111,16 +141,13 @@ def contract_of(call, definitions, reach, report):
         report.hold("≡" not in text or definitions.meaning(crate, None, "_≡_", scope) == EQUAL, f"{call.name}: `≡` is not the equation of paths")
         tree = plain(put(tree, {answer: ANSWER}) if answer != "_" else tree)
         clause = shaped(call, tree, exits)
-        if report.hold(clause is not None, f"{call.name}: this clause is no equation `r ≡ ..`, no `now (buffer .exit) ≡ ..` and no relation: {text[:60]}"):
-            found.clauses.append(clause)
-    said = [subject for clause in found.clauses for subject in clause.says]
+        if report.hold(clause is not None, f"{call.name}: this clause is no equation `r ≡ ..` and no relation: {text[:60]}"):
+            single = is_single(clause, {p.name for p in call.parameters}, exits)
+            report.hold(single, f"{call.name}: the contract is no single definition applied to what is handed in: {text[:60]}")
+            found.clause = clause if len(call.clauses) == 1 else None
+    said = found.clause.says if found.clause else ()
     for subject in (["the answer"] if call.returns else []) + list(exits.values()):
-        count = said.count(subject)
-        report.hold(count, f"{call.name}: no clause says what is left in `{subject}`" if subject in exits.values() else f"{call.name}: no clause says what it answers")
-        report.hold(count < 2, f"{call.name}: two clauses speak of {subject}")
-    for clause in found.clauses:
-        cited = [n for n in names(clause.right) if n[1][0] != "library" and n[1][1].startswith("specs/")]
-        report.hold(cited, f"{call.name}: a clause cites no definition")
+        report.hold(subject in said, f"{call.name}: no clause says what is left in `{subject}`" if subject in exits.values() else f"{call.name}: no clause says what it answers")
     return found
 
 
@@ -131,11 +158,7 @@ def shaped(call, tree, exits):
         left, right = pair
         if variables(right) & (set(exits) | {ANSWER[1]}):
             return None
-        if left == ANSWER:
-            return Clause(frozenset(["the answer"]), left, right, tree)
-        if left[0] == "var" and left[1] in exits:
-            return Clause(frozenset([exits[left[1]]]), left, right, tree)
-        return None
+        return Clause(frozenset(["the answer"]), left, right, tree) if left == ANSWER else None
     if not is_relation(tree):
         return None
     held = arguments(tree)
@@ -162,12 +185,6 @@ def relations_exist(definitions, report):
 
 
 def cited(contract):
-    """The definitions that a contract names first: the relation, or what is outermost right of ≡."""
-    found = []
-    for clause in contract.clauses:
-        for name in names(clause.right):
-            if name[1][0] != "library" and name[1][1].startswith("specs/"):
-                if name[1] not in found:
-                    found.append(name[1])
-                break
-    return found
+    """The definition that a contract is: the relation, or what stands right of ≡; in a list, which is empty where the contract is none."""
+    name = head(contract.clause.right) if contract.clause else None
+    return [name[1]] if name is not None and name[1][0] != "library" and name[1][1].startswith("specs/") else []

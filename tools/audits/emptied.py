@@ -5,9 +5,9 @@ from . import terms
 from .contracts import contract_of
 from .owed import KINDS
 from .repository import Report
-from .shapes import Shapes
+from .shapes import AGREEMENTS, Shapes, length
 from .statement import Wrong, statement_of
-from .terms import arguments, parts, sides
+from .terms import arguments, head, parts, sides
 from .theorems import theorems_of
 
 NOTHING = ("op", "≡", ("var", "0"), ("var", "0"))
@@ -24,10 +24,12 @@ def weaker_contracts(call):
             ("it is behind a premise", f"0 ≡ 1 → {text}"),
             ("it is one of two", f"({text}) × (0 ≡ 0)"),
             ("a part of it is told", f"part ({left}) ≡ part ({right})" if sign else text.replace(f" {answer}", f" (part {answer})", 1)),
+            ("it is composed", f"{left} ≡ part ({right})" if sign else f"Part ({text})"),
         ]:
             held = list(call.clauses)
             held[k : k + 1] = [] if clause is None else [(answer, clause)]
             yield what, replace(call, clauses=tuple(held))
+        yield "it is said twice", replace(call, clauses=call.clauses + call.clauses[k : k + 1])
 
 
 def weaker_statements(statement):
@@ -35,6 +37,10 @@ def weaker_statements(statement):
     yield "its conclusion is empty", replace(statement, conclusion=NOTHING)
     yield "a premise can't hold", replace(statement, premises=statement.premises + [NEVER])
     yield "a variable has no value", replace(statement, variables=statement.variables + ["never"])
+    for k, premise in enumerate(statement.premises):
+        if head(premise) is not None and head(premise)[1] in AGREEMENTS and head(premise)[2] != "Agree":
+            as_many = ("op", "≡", *(length(list_) for list_ in arguments(premise)[:2]))
+            yield "as many bytes are asked for", replace(statement, premises=statement.premises[:k] + [as_many] + statement.premises[k + 1 :])
     said = parts(statement.conclusion)
     for k, part in enumerate(said):
         pair = sides(part)

@@ -14,13 +14,33 @@ NEVER_REFUSE = {
 NEVER_REFUSING = ("bits::decimal::", "bits::digits::", "schema::labels::", "schema::lookup::", "schema::spans::")
 # the module of a crate that says what a refusal is: it is asked of an answer, and refuses nothing itself
 SAYING = "said"
-# walks: a cut window is the front of the whole one
-CUT = {"array::decode_struct_array", "array::decode_struct_array_exact", "array::decode_object_ref_array"}
-# calls that give paths
-PATHS = {"array::decode_struct_array", "array::decode_struct_array_exact", "exports::vrf_struct_array", "exports::vrf_struct_array_exact"}
+# walks
+LEAFY = {"array::decode_struct_array", "array::decode_struct_array_exact", "exports::vrf_struct_array", "exports::vrf_struct_array_exact"}
+OBJECTS = {"array::decode_object_ref_array", "exports::vrf_object_array"}
+WALKS = LEAFY | OBJECTS
 # calls that answer a verdict, on a window or on counters
-JUDGE = CUT | {
-    "exports::vrf_struct_array", "exports::vrf_struct_array_exact", "exports::vrf_object_array", "array::stats::verdict", "exports::vrf_verdict",
+JUDGE = WALKS | {"array::stats::verdict", "exports::vrf_verdict"}
+FAST = {"fastarray::decode_fast_array_delta", "exports::vrf_fast_array"}
+# its window is all bits: none stands outside it
+WHOLE = {"bitio::new"}
+# calls at a cursor that step past nothing, and those that are read in parts: every other one that refuses leaves its cursor where it stood
+STILL = {"bitio::position", "bitio::len_bits", "bitio::bits_remaining", "bitio::at_end"}
+IN_PARTS = {
+    "bitio::read_int_packed", "bitio::read_serialized_int", "exports::vrf_read_packed", "exports::vrf_read_serialized",
+    "geometry::read_vector_net_quantize", "geometry::read_fixed_vector_normal", "geometry::read_rotation",
+    "exports::vrf_vector", "exports::vrf_normal", "exports::vrf_rotation",
+}
+# answers that hold floats: the word of promises/specs/Finite that is said of one, and how many bits it says that an angle has: the definitions
+# that tell it, outermost first, of a parameter
+WIDTH_OF = ("geometry", "specs/Movements", "widthOf")
+ROTATION_KIND = ("exports", "specs/MoveResults", "rotationKind")
+FINITE = {
+    "VectorRead": ("FiniteAnswer", None),
+    "RotationRead": ("SoundRotationAnswer", ("width",)),
+    "MovementRead": ("SoundMovementAnswer", (WIDTH_OF, "rotation")),
+    "VrfVector": ("FiniteInC", None),
+    "VrfRotation": ("SoundRotationInC", ("width",)),
+    "VrfMovement": ("SoundMovementInC", (WIDTH_OF, ROTATION_KIND, "rotation")),
 }
 
 
@@ -37,8 +57,11 @@ def cursor_of(call):
     return next((p.name for p in call.parameters if p.type in CURSORS), None)
 
 
-def owes_longer(call):
-    return call.name.startswith("bitio::") and cursor_of(call) is not None
+def agreement_of(call):
+    """What two lists have to agree in, however many bytes follow, that the call answers the same (promises/specs/Outside)."""
+    if cursor_of(call) is not None:
+        return "Inside"
+    return "Alike" if call.name in WALKS else "AlikeBodies" if call.name in FAST else "Hold"
 
 
 # each kind of theorem, and which calls owe one; shapes.py has what it is held to, under the same name
@@ -47,8 +70,12 @@ KINDS = {
     "refused": refuses,
     "kept": lambda call: any(p.lent for p in call.parameters),
     "outside": lambda call: window_of(call) is not None,
-    "longer": owes_longer,
-    "prefix": lambda call: call.name in CUT,
+    "longer": lambda call: window_of(call) is not None and call.name not in WHOLE,
+    "stays": lambda call: cursor_of(call) is not None and refuses(call) and call.name not in STILL | IN_PARTS,
+    "finite": lambda call: call.returns in FINITE,
+    "prefix": lambda call: call.name in WALKS,
+    "clean": lambda call: call.name in WALKS,
     "judged": lambda call: call.name in JUDGE,
-    "paths": lambda call: call.name in PATHS,
+    "paths": lambda call: call.name in LEAFY,
+    "behind": lambda call: call.name in OBJECTS,
 }

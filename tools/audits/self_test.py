@@ -75,7 +75,7 @@ def self_test(root):
         good = [noticed(what, copy.changed(path, old, new), words) for what, path, old, new, words in TRIALS]
         edits = [seen.edits[name].path for name in seen.tried["bitio::new"]]
         good.append(noticed("all edits but one that bitio::new rests on left out", copy.without(edits[1:]), ["bitio::new", "fewer than two"]))
-        good.append(all_noticed("every clause of every contract weakened in five ways", *contracts_weakened(seen)))
+        good.append(all_noticed("every contract weakened in seven ways", *contracts_weakened(seen)))
         good.append(all_noticed("every theorem on a public call weakened in some ways", *theorems_weakened(seen)))
         good.append(all_noticed("every two neighbours in a struct or a list of parameters of the C interface swapped", *neighbours_swapped(copy.root)))
     print(f"{sum(good)} of {len(good)} noticed")

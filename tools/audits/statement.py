@@ -52,7 +52,7 @@ class Spoken:
     """A call's contract, and what the statements on it share."""
 
     def __init__(self, call, contract, definitions, reach, code):
-        if len(contract.clauses) != len(call.clauses) or contract.answer() is None:
+        if contract.clause is None:
             raise Wrong("the contract is not of its own shape")
         self.call, self.contract = call, contract
         self.definitions, self.reach, self.code = definitions, reach, code
@@ -91,17 +91,23 @@ class Spoken:
         """The parameters, final contents and answer that trees stand for."""
         return set().union(*(variables(t) for t in trees)) if trees else set()
 
-    def clauses_in(self, premises, found):
-        """Takes the premises that are clauses of the contract; the others are given back."""
-        rest, taken = [], set()
-        for premise in premises:
-            for clause in self.contract.clauses:
-                if clause.whole not in taken and self.fits(premise, clause.whole, found):
-                    taken.add(clause.whole)
-                    break
-            else:
-                rest.append(premise)
-        return rest, taken
+    def besides(self, premises, found):
+        """The premises besides the one that is the contract."""
+        for k, premise in enumerate(premises):
+            if self.fits(premise, self.contract.clause.whole, found):
+                return premises[:k] + premises[k + 1 :]
+        raise Wrong("no premise of it is the contract")
+
+    def said_by_relation(self):
+        """The equations that a relation is a product of, over the contract's own arguments; none where it is no product."""
+        whole = self.contract.clause.whole
+        crate, file, name = head(whole)[1]
+        m = re.search(rf"^{name} (?P<held>[^=]*) =(?=\s)(?P<body>.*)", self.definitions.declaration((crate, file, name)).text, re.S | re.M)
+        if m is None:
+            return []
+        held = m["held"].split()
+        said = terms.read(m["body"], lambda word: self.definitions.meaning(crate, file, word), held)
+        return [part for part in terms.parts(terms.put(said, dict(zip(held, terms.arguments(whole))))) if terms.sides(part)]
 
     def is_view(self, name):
         """A definition that gives an Option, and some of it."""

@@ -249,28 +249,6 @@ def variables(tree):
     return found | (variables(tree[2]) - bound)
 
 
-def names(tree):
-    """What the tree names, in the order of its text."""
-    kind = tree[0]
-    if kind == "name":
-        yield tree
-    elif kind == "app":
-        yield from names(tree[1])
-        for t in tree[2]:
-            yield from names(t)
-    elif kind == "get":
-        yield from names(tree[1])
-    elif kind == "op":
-        yield from names(tree[2])
-        yield from names(tree[3])
-    elif kind == "fun":
-        yield from names(tree[2])
-    elif kind == "all":
-        for _, of in tree[1]:
-            yield from names(of)
-        yield from names(tree[2])
-
-
 def head(tree):
     """The name that is applied, or none."""
     if tree[0] == "app":
