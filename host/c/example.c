@@ -22,7 +22,7 @@ static uint8_t file[VRF_LONGEST_WINDOW / 8 + 1];
 static const char *refusal_in_words(uint32_t number) {
   switch (number) {
   case VRF_REFUSED_TOO_LONG: return "a bit count over 524,288";
-  case VRF_REFUSED_BROKEN_TABLES: return "a schema or declared table breaks its layout or a size, or the root isn't one of its levels";
+  case VRF_REFUSED_BROKEN_TABLES: return "a schema or the declared names aren't laid out as they have to be, or pass a size, or the root isn't one of the levels";
   case VRF_REFUSED_SHORT_BUFFER: return "a lent buffer is too short";
   default: return "a number that this call doesn't give";
   }

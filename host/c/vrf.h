@@ -31,13 +31,13 @@
  * What a sheet does with a walk's verdict
  *   VRF_CLEAN    its row stands: all of the window was read, as one whole array.
  *   VRF_PARTIAL  its row stands with what there is, and is marked: something is broken, cut off, over a limit or left unread.
- *   VRF_EMPTY    it gets no row: nothing was sent, which is something else than a round with nothing to report. That one has bits, an
+ *   VRF_EMPTY    it gets no row: nothing was sent, which is something else than a round in which nothing happened. That one has bits, an
  *                array of no elements, and is clean. What the sheet had before stays, and is not taken for this round's.
  *
  * Refusals, and the values that come with them; below, VRF_REFUSED_TOO_LONG and so on are the numbers by name
  *    1  a bit count over 524,288                                               none
- *    2  a schema or declared table breaks its layout or a size, or the root
- *       isn't one of its levels                                                none
+ *    2  a schema or the declared names aren't laid out as they have to be, or
+ *       pass a size, or the root isn't one of the levels                       none
  *    3  a lent buffer is too short                                             what each of them needs: fields of the same name
  *    4  a sum of two counters is over 2^64 - 1                                 the left counters
  *    5  retired: no call gives it                                              none
@@ -51,9 +51,10 @@
  *   12  a vector's component is a NaN or infinite                              none
  *   13  more than 64 bits are asked in one read, or a rotation's width is
  *       neither 8 nor 16                                                       none
- *   14  a window reaches past its bytes, a cursor past its window or bytes, or
- *       a copy's target is too short                                           first: bits asked, second: bits available
+ *   14  a reader or a movement has more bits than its bytes hold, a cursor
+ *       passes its window or bytes, or a copy's target is too short            first: bits asked, second: bits there are
  *   docs/REFUSALS.md says what a person at a box does about each.
+ *   A walk is refused with 1, 2 or 3 alone. One whose bits pass its bytes is accepted: it gives nothing, counts one error and is partial.
  */
 #ifndef VRF_H
 #define VRF_H
@@ -230,7 +231,7 @@ typedef struct VrfFastArray {
 
 /* The fast-array body that the first `bits` bits are; payload_len has to be (bits + 7) / 8. checksum: 0 if no flag bit stands behind
  * an item's id, any other number if one does. The bits can't tell which it is: the caller has to know.
- * A deleted id is one int32_t. An item is its id's bits and its number of fields; its fields follow those of the items before it. A
+ * A deleted id is one int32_t. An item is two numbers, the bits of its id and how many fields it has; its fields follow those of the items before it. A
  * field is its handle, the first bit of its payload and its width. How large to lend: call once with lengths 0, then lend deletes,
  * VRF_ITEM_WORDS * items and VRF_FIELD_WORDS * fields numbers. */
 VrfFastArray vrf_fast_array(const uint8_t *payload, size_t payload_len, uint32_t bits, uint32_t checksum,

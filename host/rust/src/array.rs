@@ -43,7 +43,8 @@ pub struct Decoded<T> {
 /// The leaves of the array of structs in the first `bit_count` bits of `data`; what was counted is added to `stats`.
 ///
 /// `schema` says which handles are arrays; without one every field is a leaf. `declared[h]` is a name for handle `h`, at any depth. A leaf
-/// is called by its declared name, else the schema's, else `_h` and its handle; an array never by a declared name.
+/// is called by its declared name; where it has none by the schema's, and where it has neither by `_h` and its handle. An array is never
+/// called by a declared name.
 ///
 /// A call that is refused (a window of over 524,288 bits, tables beyond the sizes) gives no leaves and counts one error.
 ///

@@ -26,7 +26,7 @@ pub enum BitError {
         /// Where the number begins.
         position: u64,
     },
-    /// The window reaches past its bytes (14).
+    /// A reader or a movement has more bits than its bytes hold (14).
     InvalidBitLength {
         /// The window's bits.
         requested: u64,

@@ -59,7 +59,7 @@ pub struct Refusal {
 impl Refusal {
     /// A bit count over 524,288.
     pub const TOO_LONG: u32 = 1;
-    /// A schema or declared table breaks its layout or a size, or the root isn't one of its levels.
+    /// A schema or the declared names aren't laid out as they have to be, or pass a size, or the root isn't one of the levels.
     pub const BROKEN_TABLES: u32 = 2;
     /// A lent buffer is too short.
     pub const SHORT_BUFFER: u32 = 3;
@@ -81,7 +81,7 @@ impl Refusal {
     pub const NOT_FINITE: u32 = 12;
     /// More than 64 bits are asked in one read, or a rotation's width is neither 8 nor 16.
     pub const NO_SUCH_WIDTH: u32 = 13;
-    /// A window reaches past its bytes, a cursor past its window or bytes, or a copy's target is too short.
+    /// A reader or a movement has more bits than its bytes hold, a cursor passes its window or bytes, or a copy's target is too short.
     pub const PAST_THE_END: u32 = 14;
 
     fn of(number: u32, values: [u64; 3]) -> Self {
@@ -93,7 +93,7 @@ impl Refusal {
     pub fn meaning(&self) -> &'static str {
         match self.number {
             Self::TOO_LONG => "a bit count over 524,288",
-            Self::BROKEN_TABLES => "a schema or declared table breaks its layout or a size, or the root isn't one of its levels",
+            Self::BROKEN_TABLES => "a schema or the declared names aren't laid out as they have to be, or pass a size, or the root isn't one of the levels",
             Self::SHORT_BUFFER => "a lent buffer is too short",
             Self::COUNTER_OVERFLOW => "a sum of two counters is over 2^64 - 1",
             Self::NOT_FAST_ARRAY => "the bits aren't a fast-array body, or the bytes aren't as many as the bits take",
@@ -104,7 +104,7 @@ impl Refusal {
             Self::NO_SCALE => "a vector is asked with scale 0",
             Self::NOT_FINITE => "a vector's component is a NaN or infinite",
             Self::NO_SUCH_WIDTH => "more than 64 bits are asked in one read, or a rotation's width is neither 8 nor 16",
-            Self::PAST_THE_END => "a window reaches past its bytes, a cursor past its window or bytes, or a copy's target is too short",
+            Self::PAST_THE_END => "a reader or a movement has more bits than its bytes hold, a cursor passes its window or bytes, or a copy's target is too short",
             _ => "a number that no refusal has",
         }
     }
@@ -134,7 +134,7 @@ pub enum Verdict {
     Clean,
     /// Something is broken, cut off, over a limit or left unread; the last five counters say which.
     Partial,
-    /// Nothing was sent: a struct or exact walk of no bits. A round with nothing to report is another thing: an array of no elements,
+    /// Nothing was sent: a struct or exact walk of no bits. A round in which nothing happened is another thing: an array of no elements,
     /// which has bits and is clean.
     Empty,
 }
