@@ -26,7 +26,7 @@ use Rattle.array.specs.declared.Merged.the-variants as merged
 
 -- ---- an answer is known by what it says
 
-statsWith : Counters → ArrayDecodeStats
+abbrev pub statsWith : Counters → ArrayDecodeStats
 statsWith c =
     record {
       «elements_decoded» = c .elements;
@@ -61,7 +61,7 @@ structWith k bits (refused number n) =
     (if eqb number 2 then structs.BrokenTables else structs.Short (extentWith n))
 
 struct-back : (k : Walker) (bits : ℕ) (r : StructArray) → Judged k bits r → structWith k bits (answerOf r) ≡ r
-unfolding structWith statsWith extentWith
+unfolding structWith extentWith
 struct-back k bits (structs.Decoded s v e) j = ap (λ (x : Verdict). structs.Decoded s x e) (judged-back k bits (countersOf s) v j)
 struct-back k bits structs.TooLong j = refl
 struct-back k bits structs.BrokenTables j = refl
@@ -72,7 +72,7 @@ objectWith bits (accepted c n) = objects.Decoded (statsWith c) (judged object bi
 objectWith bits (refused number n) = if eqb number 1 then objects.TooLong else objects.Short n
 
 object-back : (bits : ℕ) (r : ObjectArray) → PairsJudged bits r → objectWith bits (pairsOf r) ≡ r
-unfolding objectWith statsWith
+unfolding objectWith
 object-back bits (objects.Decoded s v n) j = ap (λ (x : Verdict). objects.Decoded s x n) (judged-back object bits (countersOf s) v j)
 object-back bits objects.TooLong j = refl
 object-back bits (objects.Short n) j = refl
@@ -82,7 +82,7 @@ mergedWith (summed c) = merged.Sum (statsWith c)
 mergedWith (overflowing number c) = merged.Overflow (statsWith c)
 
 merged-back : (r : Merged) → mergedWith (sumsOf r) ≡ r
-unfolding mergedWith statsWith
+unfolding mergedWith
 merged-back (merged.Sum s) = refl
 merged-back (merged.Overflow s) = refl
 

@@ -5,7 +5,7 @@ use Prim.Native.Nat.{ℕ, _+_, _-_, _<_}
 use native.Mathlib.Omega.{arith}
 use lib.Dec.{leb, ltb, eqb}
 use borrow.Author.Tests.{ltb-true, leb-true, leb-false, lt-ltb, le-ltb, ne-eqb}
-use Rattle.framing.specs.Counters.{Counters, sums, faults, isClean}
+use Rattle.framing.specs.Counters.{Counters, counted, sums, faults, isClean}
 use Rattle.framing.specs.declared.Walk.{Walk}
 use Rattle.framing.specs.Sinks.{walker, givesLeaves}
 use Rattle.framing.specs.Verdicts.{countersVerdict}
@@ -137,6 +137,44 @@ each-below c h =
       rootBits = ltb-true _ _ (h₆ .0);
       implicits = ltb-true _ _ (h₆ .1);
     }
+
+pub all-below : (c : Counters) → Below c → bounded c ≡ true
+unfolding bounded
+all-below c b =
+    simp (
+      lt-ltb _ _ (b .elements),
+      lt-ltb _ _ (b .fields),
+      lt-ltb _ _ (b .truncations),
+      lt-ltb _ _ (b .errors),
+      lt-ltb _ _ (b .nestedBits),
+      lt-ltb _ _ (b .rootBits),
+      lt-ltb _ _ (b .implicits),
+    )
+
+pub zero-bounded : bounded (counted 0 0 0 0 0 0 0) ≡ true
+unfolding bounded
+zero-bounded = refl
+
+-- no part of a sum is larger than it
+pub part-bounded : (a b : Counters) → bounded (sums a b) ≡ true → bounded a ≡ true
+part-bounded a b h =
+    let s = each-below (sums a b) h in
+    let e₁ = s .elements in
+    let e₂ = s .fields in
+    let e₃ = s .truncations in
+    let e₄ = s .errors in
+    let e₅ = s .nestedBits in
+    let e₆ = s .rootBits in
+    let e₇ = s .implicits in
+    all-below a (record {
+      elements = omega (arith, e₁);
+      fields = omega (arith, e₂);
+      truncations = omega (arith, e₃);
+      errors = omega (arith, e₄);
+      nestedBits = omega (arith, e₅);
+      rootBits = omega (arith, e₆);
+      implicits = omega (arith, e₇);
+    })
 
 pub merge-sums : (a b : Counters) → bounded (sums a b) ≡ true → summed (sums a b) ≡ merge a b
 unfolding merge

@@ -7,3 +7,4 @@ pub mod PackedWindows
 pub mod TwosLaws
 pub mod Never
 pub mod ChoiceLaws
+pub mod MemberLaws

@@ -6,3 +6,4 @@ pub mod Decimals
 pub mod Packed
 pub mod TwosComplement
 pub mod Refusals
+pub mod Members

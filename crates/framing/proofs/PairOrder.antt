@@ -1,22 +1,21 @@
 -- Rule 8 of document 01 gives an element's pair behind its fields (specs/PairsBehind). In `walk` the pair stands at the field that gives it. No
 -- answer shows the difference: moving the pairs of a trace behind its other events changes no leaf, no pair, no counter, since these are lists of one
 -- kind of event, and sums; and so it is for the traces of an element's fields, one by one.
-use Prim.Native.Nat.{ℕ, zero, suc, _+_, _*_}
+use Prim.Native.Nat.{ℕ, zero, suc, _*_}
 use mathlib.Core.Path.{_≡_, refl, sym, ap, ap₂, _∙_}
 use mathlib.Core.Bool.{true}
 use mathlib.Core.List.{List, [], _∷_, _++_, append-nil}
-use native.Mathlib.Omega.{arith}
 use lib.ListN.{length}
 use lib.Dec.{ltb}
 use Rattle.bits.specs.Sizes.{maxElements, maxFields}
 use Rattle.bits.proofs.ChoiceLaws.{by-cases}
 use Rattle.framing.specs.Windows.{Window, windowOf, Reading, got, failed, reading}
 use Rattle.framing.specs.Events.{Pair, number, element, array, leaf, pair, truncation, error, implicit, nested, root, leaves, pairs, Trace}
-use Rattle.framing.specs.Counters.{Counters, counted, counters, sums, countOf}
+use Rattle.framing.specs.Counters.{counted, counters, sums, countOf}
 use Rattle.framing.specs.Walk.{numberAt, Lead, ends, fails, closes, opens, lead, tail, Run, done, stopped, fields, closing, inItem, behind, beyond, onIndex, onLastIndex, elements, tooMany, onCount, level}
 use Rattle.framing.specs.Sinks.{objectSink, object, sinkOf, walkWindow, walk}
 use Rattle.framing.specs.PairsBehind.{others, asEvents, late, lateRun, onIndexBehind, elementsBehind, onCountBehind, walkBehind, NotToldApart}
-use Rattle.framing.proofs.TraceLaws.{counters-append, leaves-append, pairs-append, sums-assoc}
+use Rattle.framing.proofs.TraceLaws.{counters-append, leaves-append, pairs-append, sums-assoc, sums-swap}
 
 others-leaves : (t : Trace) → leaves (others t) ≡ leaves t
 others-leaves [] = refl
@@ -62,18 +61,10 @@ pub late-pairs : (t : Trace) → pairs (late t) ≡ pairs t
 late-pairs t = pairs-append (others t) (asEvents (pairs t)) ∙ ap₂ (λ a b. a ++ b) (others-pairs t) (events-pairs (pairs t))
 
 -- counters: the events that are no pairs, and one field for each pair
-one-field : (c : Counters) (d : Counters) → sums c (sums (counted 0 1 0 0 0 0 0) d) ≡ sums (counted 0 1 0 0 0 0 0) (sums c d)
-one-field c d =
-    λ i. counted (swap (c .elements) 0 (d .elements) i) (swap (c .fields) 1 (d .fields) i) (swap (c .truncations) 0 (d .truncations) i)
-    (swap (c .errors) 0 (d .errors) i) (swap (c .nestedBits) 0 (d .nestedBits) i) (swap (c .rootBits) 0 (d .rootBits) i) (swap (c .implicits) 0 (d .implicits) i)
-  where
-    swap : (a k b : ℕ) → a + (k + b) ≡ k + (a + b)
-    swap a k b = omega arith
-
 late-split : (t : Trace) → counters t ≡ sums (counters (others t)) (counters (asEvents (pairs t)))
 late-split [] = refl
 late-split (pair x ∷ t) =
-    ap (λ c. sums (counted 0 1 0 0 0 0 0) c) (late-split t) ∙ sym (one-field (counters (others t)) (counters (asEvents (pairs t))))
+    ap (λ c. sums (counted 0 1 0 0 0 0 0) c) (late-split t) ∙ sums-swap (counted 0 1 0 0 0 0 0) (counters (others t)) (counters (asEvents (pairs t)))
 late-split (number x ∷ t) = ap (λ c. sums (countOf (number x)) c) (late-split t) ∙ sym (sums-assoc (countOf (number x)) (counters (others t)) (counters (asEvents (pairs t))))
 late-split (element p ∷ t) = ap (λ c. sums (countOf (element p)) c) (late-split t) ∙ sym (sums-assoc (countOf (element p)) (counters (others t)) (counters (asEvents (pairs t))))
 late-split (array p ∷ t) = ap (λ c. sums (countOf (array p)) c) (late-split t) ∙ sym (sums-assoc (countOf (array p)) (counters (others t)) (counters (asEvents (pairs t))))

@@ -1,9 +1,9 @@
--- The laws of traces: counters, leaves and pairs of two traces one behind the other. By induction over the first trace, since each event adds its
--- own.
+-- The laws of sums of counters, which are those of adding numbers; and of traces: counters, leaves and pairs of two traces one behind the other. By
+-- induction over the first trace, since each event adds its own.
 use mathlib.Core.Path.{_≡_, refl, sym, ap, _∙_}
 use mathlib.Core.List.{[], _∷_, _++_}
 use Prim.Native.Nat.{_+_}
-use native.Mathlib.Nat.{zero-add, add-assoc}
+use native.Mathlib.Nat.{zero-add, add-comm, add-assoc}
 use native.Mathlib.Omega.{arith}
 use lib.ListN.{length}
 use Rattle.framing.specs.Events.{number, element, array, leaf, pair, truncation, error, implicit, nested, root, leaves, pairs, Trace}
@@ -32,6 +32,25 @@ sums-assoc a b c =
       rootBits = add-assoc (a .rootBits) (b .rootBits) (c .rootBits) i;
       implicits = add-assoc (a .implicits) (b .implicits) (c .implicits) i;
     }
+
+pub sums-comm : (a b : Counters) → sums a b ≡ sums b a
+sums-comm a b =
+    λ i. record {
+      elements = add-comm (a .elements) (b .elements) i;
+      fields = add-comm (a .fields) (b .fields) i;
+      truncations = add-comm (a .truncations) (b .truncations) i;
+      errors = add-comm (a .errors) (b .errors) i;
+      nestedBits = add-comm (a .nestedBits) (b .nestedBits) i;
+      rootBits = add-comm (a .rootBits) (b .rootBits) i;
+      implicits = add-comm (a .implicits) (b .implicits) i;
+    }
+
+pub sums-none : (c : Counters) → sums c (counted 0 0 0 0 0 0 0) ≡ c
+sums-none c = sums-comm c (counted 0 0 0 0 0 0 0) ∙ sums-zero c
+
+-- of two that are added to a third, either may be added first
+pub sums-swap : (a b c : Counters) → sums a (sums b c) ≡ sums b (sums a c)
+sums-swap a b c = sym (sums-assoc a b c) ∙ ap (λ s. sums s c) (sums-comm a b) ∙ sums-assoc b a c
 
 pub counters-append : (t u : Trace) → counters (t ++ u) ≡ sums (counters t) (counters u)
 counters-append [] u = sym (sums-zero (counters u))

@@ -12,7 +12,7 @@ use Rattle.bits.specs.Packed.{Number}
 use Rattle.framing.specs.Events.{numbers, Event, number, element, array, leaf, pair, truncation, error, implicit, nested, root, leaves, Trace}
 use Rattle.framing.specs.Counters.{Counters, counted, counters, sums, countOf}
 use Rattle.framing.specs.Records.{leafRecord, pairRecord, payloadOf, pathBytes, payloadBytes}
-use Rattle.framing.proofs.TraceLaws.{sums-assoc}
+use Rattle.framing.proofs.TraceLaws.{sums-assoc, sums-none}
 use Rattle.outputs.specs.World.{Adding, plain, World, count, onEvent, apply, traceRecords, Totals, totalsOf, tallied}
 
 -- ---- a trace
@@ -50,9 +50,6 @@ count-adds (root n) c = λ i. counted (same (c .elements) i) (same (c .fields) i
 -- counters of an event and of a trace behind it
 count-then : (e : Event) (c : Counters) (t : Trace) → sums (count plain e c) (counters t) ≡ sums c (counters (e ∷ t))
 count-then e c t = ap (λ (x : Counters). sums x (counters t)) (count-adds e c) ∙ sums-assoc c (countOf e) (counters t)
-
-sums-none : (c : Counters) → sums c (counted 0 0 0 0 0 0 0) ≡ c
-sums-none c = sym (count-adds (number (record { start = 0; bytes = 0; value = 0 })) c)
 
 passes : (n : ℕ) (xs ys : List ℕ) → n + length xs + length ys ≡ n + length (xs ++ ys)
 passes n xs ys = let e = length-append xs ys in omega arith

@@ -36,3 +36,6 @@ pub mod Clean
 pub mod Paths
 pub mod Stays
 pub mod PairsBehind
+pub mod TotalLaws
+pub mod CleanTotals
+pub mod Totals

@@ -13,3 +13,4 @@ pub mod Paths
 pub mod Stays
 pub mod Finite
 pub mod PairsBehind
+pub mod Totals
