@@ -50,11 +50,12 @@ def weaker_statements(statement):
         if len(said) > 1:
             yield f"its equation {k + 1} is left out", replace(statement, conclusion=product(said[:k] + said[k + 1 :]))
     inner = arguments(statement.conclusion)
-    if len(inner) == 1 and inner[0][0] == "fun":
+    if inner and inner[0][0] == "fun":
         for k in range(len(parts(inner[0][2]))):
             held = parts(inner[0][2])
             held[k] = ("op", "≡", ("var", inner[0][1][0]), ("var", inner[0][1][0]))
-            yield f"its clause {k + 1} says nothing", replace(statement, conclusion=("app", statement.conclusion[1], (("fun", inner[0][1], product(held)),)))
+            said = ("fun", inner[0][1], product(held))
+            yield f"its clause {k + 1} says nothing", replace(statement, conclusion=("app", statement.conclusion[1], (said, *inner[1:])))
     if len(inner) > 1:
         yield "its last argument is the one before", replace(statement, conclusion=("app", statement.conclusion[1], (*inner[:-1], inner[-2])))
 

@@ -8,6 +8,7 @@ from .definitions import Definitions
 from .documents import names_exist, no_machine, sections_exist, tried_exist
 from .edits import edits_of, touched
 from .interface import interface_is_one
+from .merge_shapes import judged_by
 from .reach import Reach
 from .refusals import refusals_agree
 from .repository import Report, Repository
@@ -52,6 +53,7 @@ def look(root):
         report.hold(len(tried) >= LEAST, f"{call.name}: fewer than two edits touch something that it rests on")
         file = theorems.get("one", "proofs/none").split("/")[1]
         seen.rows[call.name] = row_of(call, named, f"{file}.one-{call.short}", tried)
+    judged_by(seen.contracts, report)
     for name in sorted(set(seen.edits) - set().union(*seen.tried.values())):
         stated = stated_of(seen.edits[name], changed[name], definitions, reach)
         report.hold(stated, f"the edit {seen.edits[name].path} touches nothing that a call or a theorem rests on")

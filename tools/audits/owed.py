@@ -18,9 +18,12 @@ SAYING = "said"
 LEAFY = {"array::decode_struct_array", "array::decode_struct_array_exact", "exports::vrf_struct_array", "exports::vrf_struct_array_exact"}
 OBJECTS = {"array::decode_object_ref_array", "exports::vrf_object_array"}
 WALKS = LEAFY | OBJECTS
-# calls that answer a verdict, on a window or on counters
-JUDGE = WALKS | {"array::stats::verdict", "exports::vrf_verdict"}
 FAST = {"fastarray::decode_fast_array_delta", "exports::vrf_fast_array"}
+# calls that add two sets of counters, and those that judge a set, in the same order: by an enum, and for C
+MERGES = ("array::stats::merge_from", "exports::vrf_merge")
+JUDGED_BY = ("array::stats::verdict", "exports::vrf_verdict")
+# calls that answer a verdict, on a window or on counters
+JUDGE = WALKS | set(JUDGED_BY)
 # its window is all bits: none stands outside it
 WHOLE = {"bitio::new"}
 # calls at a cursor that step past nothing, and those that are read in parts: every other one that refuses leaves its cursor where it stood
@@ -78,4 +81,5 @@ KINDS = {
     "judged": lambda call: call.name in JUDGE,
     "paths": lambda call: call.name in LEAFY,
     "behind": lambda call: call.name in OBJECTS,
+    **{law: lambda call: call.name in MERGES for law in ("commutes", "associates", "zero", "totals", "parts")},
 }

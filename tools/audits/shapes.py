@@ -25,15 +25,17 @@ for several lists side by side (MAKERS of contracts.py). In all kinds:
              and bits; OnSet of an answer on counters alone
   paths-     under the contract: PathsFit of the answer, or PathsFitInC of the struct for C
   behind-    under the contract: GivenBehind of the answer and its buffer, or GivenBehindInC of the struct for C
+  commutes-, associates-, zero-, totals-, parts-   of a merge: Commutes, Associates, ZeroKeeps, Totals, CleanParts of the contract
 """
 import re
 
 from . import terms
 from .contracts import ANSWER, at_exit
+from .merge_shapes import MergeShapes
 from .owed import COUNTS, FINITE, agreement_of, cursor_of, refuses, window_of
 from .statement import Wrong, signature
 from .terms import arguments, head, parts, parts_as_variables, sides, variables
-from .walk_shapes import WalkShapes, applied
+from .walk_shapes import applied
 
 OF_DETERMINING = ("promises", "specs/Determining")
 OF_OUTSIDE = ("promises", "specs/Outside")
@@ -52,7 +54,7 @@ def length(tree):
     return ("app", ("name", LENGTH, "length"), (tree,))
 
 
-class Shapes(WalkShapes):
+class Shapes(MergeShapes):
     """What a statement of each kind is held to; `Wrong` says why one is not of its shape."""
 
     def one(self, statement):

@@ -1,7 +1,13 @@
-"""The words that the promises are stated with, as they have to stand: an emptied one would empty every theorem that uses it."""
+"""The words that the promises are stated with, as they have to stand, and where the words in them come from: an emptied one would empty every
+theorem that uses it, and so would another one under its name. A file's `use` lines stand here as far as they bring such words."""
+from textwrap import dedent
+
+from .definitions import file_of, module_named, tokens_of
 
 STATED = {
     ("promises", "specs/Determining"): """
+        use mathlib.Core.Path.{_≡_}
+
         abbrev pub Determines : {A : Type 0} → (contract : A → Type 0) → Type 0
         Determines {A} contract = (r s : A) → contract r → contract s → r ≡ s
 
@@ -9,6 +15,16 @@ STATED = {
         DeterminesAll {A} {B} contract = (r s : A) (x y : B) → contract r x → contract s y → (r ≡ s) × (x ≡ y)
         """,
     ("promises", "specs/Outside"): """
+        use Prim.Native.Nat.{ℕ, _+_, _*_, _≤_, _<_}
+        use mathlib.Core.Path.{_≡_}
+        use mathlib.Core.Bool.{true}
+        use mathlib.Core.List.{List}
+        use lib.ListN.{length}
+        use Rattle.bits.specs.Bits.{num, field}
+        use Rattle.bits.specs.Runs.{bytesFor}
+        use Rattle.bitio.specs.Cursors.{good}
+        use Rattle.bitio.specs.declared.Cursor.{Cursor}
+
         abbrev pub SameBits : (s t : List ℕ) (start len : ℕ) → Type 0
         SameBits s t start len = (k : ℕ) → k < len → field (num s) (start + k) 1 ≡ field (num t) (start + k) 1
 
@@ -35,6 +51,25 @@ STATED = {
           neither-whole : (length s ≡ bytesFor len → ⊥) → (length t ≡ bytesFor len → ⊥) → AlikeBodies s t len
         """,
     ("promises", "specs/Prefix"): """
+        use Prim.Native.Nat.{ℕ, suc, _*_, _≤_, _<_}
+        use mathlib.Core.Path.{_≡_}
+        use mathlib.Core.Bool.{true}
+        use mathlib.Core.List.{List}
+        use lib.ListN.{length, take}
+        use Rattle.framing.specs.Windows.{windowOf}
+        use Rattle.framing.specs.Events.{rawHandle}
+        use Rattle.framing.specs.Sinks.{Walker, object, sinkOf}
+        use Rattle.framing.specs.Verdicts as F
+        use Rattle.framing.specs.Records.{leafWords, pathStartAt, handleAt, payloadStartAt, pairWords}
+        use Rattle.framing.specs.Refusing.{Room, within}
+        use Rattle.framing.specs.Demand.{LacksTrailer}
+        use Rattle.outputs.specs.Records.{leafNumber}
+        use Rattle.outputs.specs.Answers.{Call, Lent}
+        use Rattle.exports.specs.WalkResults.{filledIn, verdictNumber}
+        use Rattle.exports.specs.declared.VrfWalk.{VrfWalk}
+        use Rattle.exports.specs.declared.VrfObjects.{VrfObjects}
+        use Rattle.promises.specs.Outside.{SameBits}
+
         pub record FirstBits (longer shorter : List ℕ) (n m : ℕ) : Type 0 where
           pub fewer : m ≤ n
           pub inside-long : n ≤ 8 * length longer
@@ -73,6 +108,25 @@ STATED = {
             r .refusal ≡ 0 → q .refusal ≡ 0 → PairsBegin verdictNumber longer n m (r .verdict) (q .verdict) (r .pairs) (q .pairs) x y
         """,
     ("promises", "specs/Clean"): """
+        use Prim.Native.Nat.{ℕ, _*_, _≤_}
+        use mathlib.Core.Path.{_≡_}
+        use mathlib.Core.List.{List}
+        use lib.ListN.{length}
+        use Rattle.framing.specs.Windows.{windowOf}
+        use Rattle.framing.specs.Events.{Leaf}
+        use Rattle.framing.specs.Counters.{Counters, counted}
+        use Rattle.framing.specs.Sinks.{Walker, object}
+        use Rattle.framing.specs.Verdicts as F
+        use Rattle.framing.specs.Records.{pathBytes, payloadBytes, pairRecords}
+        use Rattle.framing.specs.Refusing.{Room}
+        use Rattle.framing.specs.Demand.{Opens}
+        use Rattle.framing.specs.InGrammar.{InGrammar, treeLeaves, treePairs, treeElements}
+        use Rattle.outputs.specs.Answers.{Call, Lent, Front}
+        use Rattle.exports.specs.WalkResults.{filledIn, countersIn, verdictNumber}
+        use Rattle.exports.specs.declared.VrfWalk.{VrfWalk}
+        use Rattle.exports.specs.declared.VrfObjects.{VrfObjects}
+        use Rattle.promises.specs.Verdicts.{Exactly}
+
         pub record ArrayIn (k : Walker) (bytes : List ℕ) (bits : ℕ) : Type 0 where
           pub inside : bits ≤ 8 * length bytes
           pub array : InGrammar k (windowOf bytes bits)
@@ -105,6 +159,16 @@ STATED = {
         CleanPairsInC bytes bits r x = r .refusal ≡ 0 → CleanPairs verdictNumber bytes bits (countersIn (r .counters)) (r .verdict) (r .pairs) x
         """,
     ("outputs", "specs/Answers"): """
+        use Prim.Native.Nat.{ℕ}
+        use mathlib.Core.Bool.{true}
+        use mathlib.Core.List.{List}
+        use lib.ListN.{length}
+        use lib.Dec.{leb}
+        use Rattle.framing.specs.Events.{Leaf, leaves, pairs, Trace}
+        use Rattle.framing.specs.Records.{pairWords, wholeRecords, pathBytes, payloadBytes, leafRecords, pairRecords}
+        use Rattle.framing.specs.Refusing.{Answer, decided}
+        use Rattle.framing.specs.Demand.{Opens}
+
         abbrev pub pairAnswerOf : Trace → (bits : ℕ) (lent : List ℕ) → Answer ℕ
         pairAnswerOf t bits lent = decided bits true t 0 (length (pairs t)) (leb (length (pairs t)) (wholeRecords pairWords (length lent)))
 
@@ -117,15 +181,37 @@ STATED = {
           pub payloads : Opens (payloadBytes l) (end .payloads)
         """,
     ("promises", "specs/Stays"): """
+        use Prim.Native.Nat.{ℕ, _^_, _<_}
+        use mathlib.Core.Path.{_≡_}
+        use mathlib.Core.Option.{Option, none, some}
+        use Rattle.bitio.specs.Refusals.{standsAfter}
+        use Rattle.bitio.specs.declared.Refusal.{Refusal}
+        use Rattle.exports.specs.declared.VrfRead.{VrfRead}
+
         abbrev pub Stays : (at : ℕ) → Option Refusal → Type 0
         Stays at none = Unit
         Stays at (some r) = standsAfter at r ≡ at
 
         abbrev pub StaysInC : (at : ℕ) → VrfRead → Type 0
         StaysInC at r = at < 2 ^ 64 → (r .refusal ≡ 0 → ⊥) → r .position ≡ at
-
         """,
     ("promises", "specs/Finite"): """
+        use Prim.Native.Nat.{ℕ}
+        use mathlib.Core.Path.{_≡_}
+        use mathlib.Core.Bool.{true}
+        use Rattle.geometry.specs.Finite.{AllFinite, FiniteVector, AllExact, ExactRotation, SoundMovement}
+        use Rattle.geometry.specs.declared.VectorRead.{VectorRead}
+        use Rattle.geometry.specs.declared.VectorRead.the-variants as Vec
+        use Rattle.geometry.specs.declared.RotationRead.{RotationRead}
+        use Rattle.geometry.specs.declared.RotationRead.the-variants as R
+        use Rattle.geometry.specs.declared.MovementRead.{MovementRead}
+        use Rattle.geometry.specs.declared.MovementRead.the-variants as M
+        use Rattle.exports.specs.declared.VrfXyz.{VrfXyz}
+        use Rattle.exports.specs.declared.VrfAngles.{VrfAngles}
+        use Rattle.exports.specs.declared.VrfVector.{VrfVector}
+        use Rattle.exports.specs.declared.VrfRotation.{VrfRotation}
+        use Rattle.exports.specs.declared.VrfMovement.{VrfMovement}
+
         abbrev pub FiniteAnswer : VectorRead → Type 0
         FiniteAnswer (Vec.Value v p) = FiniteVector v
         FiniteAnswer (Vec.Refused r) = Unit {0}
@@ -160,6 +246,18 @@ STATED = {
         SoundMovementInC w r = r .refusal ≡ 0 → SoundMovementFields w r
         """,
     ("geometry", "specs/Finite"): """
+        use Prim.Native.Nat.{ℕ, _^_, _<_}
+        use mathlib.Core.Path.{_≡_}
+        use mathlib.Core.Bool.{true}
+        use lib.Ieee.{Float}
+        use lib.Ieee.Scale.{finite}
+        use Rattle.floats.specs.Numbers.{Angle}
+        use Rattle.geometry.specs.declared.Vector.{Vector}
+        use Rattle.geometry.specs.declared.Rotation.{Rotation}
+        use Rattle.geometry.specs.declared.Spin.{Spin}
+        use Rattle.geometry.specs.declared.Spin.the-variants as spin
+        use Rattle.geometry.specs.declared.Movement.{Movement}
+
         pub record AllFinite (x y z : Float) : Type 0 where
           pub finite-x : finite x ≡ true
           pub finite-y : finite y ≡ true
@@ -192,6 +290,18 @@ STATED = {
           pub finite-angular : FiniteSpin (m .angular)
         """,
     ("promises", "specs/PairsBehind"): """
+        use Prim.Native.Nat.{ℕ}
+        use mathlib.Core.Path.{_≡_}
+        use mathlib.Core.List.{List}
+        use Rattle.framing.specs.PairsBehind.{walkBehind}
+        use Rattle.framing.specs.Refusing.{Answer}
+        use Rattle.outputs.specs.Answers.{pairAnswerOf, finalPairsOf}
+        use Rattle.array.specs.Calls.{PairsJudged}
+        use Rattle.array.specs.Refusals.{pairsOf}
+        use Rattle.array.specs.declared.ObjectArray.{ObjectArray}
+        use Rattle.exports.specs.WalkResults.{objectsResult}
+        use Rattle.exports.specs.declared.VrfObjects.{VrfObjects}
+
         abbrev pub answerBehind : (bytes : List ℕ) (bits : ℕ) (lent : List ℕ) → Answer ℕ
         answerBehind bytes bits lent = pairAnswerOf (walkBehind bytes bits) bits lent
 
@@ -205,6 +315,20 @@ STATED = {
           pub buffer : end ≡ finalPairsOf (walkBehind bytes bits) (answerBehind bytes bits lent) lent
         """,
     ("framing", "specs/PairsBehind"): """
+        use Prim.Native.Nat.{ℕ, zero, suc, _*_}
+        use mathlib.Core.Path.{_≡_}
+        use mathlib.Core.Bool.{true}
+        use mathlib.Core.List.{List, _∷_, _++_}
+        use lib.ListN.{length}
+        use lib.Dec.{ltb}
+        use Rattle.bits.specs.Choice.{if_then_else_}
+        use Rattle.bits.specs.Sizes.{maxElements, maxFields}
+        use Rattle.framing.specs.Windows.{Window, windowOf, Reading, got, failed, reading}
+        use Rattle.framing.specs.Events.{Pair, number, element, array, leaf, pair, truncation, error, implicit, nested, root, leaves, pairs, Trace}
+        use Rattle.framing.specs.Counters.{counters}
+        use Rattle.framing.specs.Walk.{numberAt, Lead, ends, fails, closes, opens, lead, tail, Run, done, stopped, fields, closing, behind, beyond, onLastIndex, tooMany}
+        use Rattle.framing.specs.Sinks.{objectSink}
+
         abbrev pub others : Trace → Trace
         others [] = []
         others (pair x ∷ t) = others t
@@ -257,11 +381,26 @@ STATED = {
           pub same-counters : counters t ≡ counters u
         """,
     ("floats", "specs/Numbers"): """
+        use mathlib.Core.Path.{_≡_}
+        use Prim.Native.Nat.{ℕ, _-_, _*_, _^_}
+        use mathlib.Core.Bool.{false}
+        use lib.Ieee.{Float}
+        use lib.Ieee.Exact.{HasValue}
+
         pub record Angle (w k : ℕ) (r : Float) : Type 0 where
           pub value : r ≡ angle w k
           pub exact : HasValue r false (45 * k) (2 ^ (w - 3))
         """,
     ("framing", "specs/Demand"): """
+        use Prim.Native.Nat.{ℕ, _+_}
+        use mathlib.Core.Path.{_≡_}
+        use mathlib.Core.Bool.{true}
+        use mathlib.Core.List.{List, _++_}
+        use Rattle.bits.specs.Bits.{field}
+        use Rattle.bits.specs.Sizes.{trailerBits}
+        use Rattle.framing.specs.Windows.{Window}
+        use Rattle.framing.specs.Walk.{Sink}
+
         pub record Opens {A : Type 0} (xs ys : List A) : Type 0 where
           pub rest : List A
           pub whole : xs ++ rest ≡ ys
@@ -272,6 +411,14 @@ STATED = {
           pub zero : field (w .bits) m trailerBits ≡ 0
         """,
     ("promises", "specs/Verdicts"): """
+        use Prim.Native.Nat.{ℕ, _≤_}
+        use mathlib.Core.Path.{_≡_}
+        use mathlib.Core.Bool.{true, false}
+        use Rattle.framing.specs.Counters.{Counters, counted, isClean}
+        use Rattle.framing.specs.Sinks.{Walker, Leafy}
+        use Rattle.framing.specs.Verdicts as F
+        use Rattle.exports.specs.WalkResults.{verdictNumber}
+
         abbrev pub Exactly : (A B : Type 0) → Type 0
         Exactly A B = (A → B) × (B → A)
 
@@ -291,7 +438,172 @@ STATED = {
           pub partial : Exactly (v ≡ form F.partial) (isClean c ≡ false)
           pub not-empty : v ≡ form F.empty → ⊥
         """,
+    ("promises", "specs/Totals"): """
+        use mathlib.Core.Path.{_≡_}
+        use mathlib.Core.Bool.{true, false}
+        use mathlib.Core.List.{List, _∷_, _++_}
+        use mathlib.Core.Option.{Option, none, some}
+        use lib.Dec.{eqb}
+        use Rattle.bits.specs.Choice.{if_then_else_}
+        use Rattle.bits.specs.Members.{All, Reorders}
+        use Rattle.framing.specs.Counters.{Counters, counted, sums, isClean}
+        use Rattle.framing.specs.Verdicts as F
+        use Rattle.array.specs.Merges.{bounded}
+        use Rattle.array.specs.Refusals.{countersOf}
+        use Rattle.array.specs.declared.ArrayDecodeStats.{ArrayDecodeStats}
+        use Rattle.array.specs.declared.Merged.{Merged}
+        use Rattle.array.specs.declared.Merged.the-variants as merged
+        use Rattle.exports.specs.WalkResults.{countersIn, noCounters}
+        use Rattle.exports.specs.declared.VrfCounters.{VrfCounters}
+        use Rattle.exports.specs.declared.VrfMerge.{VrfMerge}
+        use Rattle.promises.specs.Verdicts.{Exactly}
+
+        pub record ReadAs (A R : Type 0) : Type 0 where
+          pub counts : A → Counters
+          pub zero : A
+          pub sumIn : R → Option A
+
+        abbrev pub Held : {A R : Type 0} → ReadAs A R → A → Type 0
+        Held f a = bounded (f .counts a) ≡ true
+
+        abbrev pub AllHeld : {A R : Type 0} → ReadAs A R → List A → Type 0
+        AllHeld f l = All (Held f) l
+
+        pub data Plan (A : Type 0) : Type 0 where
+          fromZero : Plan A
+          one : A → Plan A
+          both : (left right : Plan A) → Plan A
+
+        abbrev pub sets : {A : Type 0} → Plan A → List A
+        sets fromZero = []
+        sets (one a) = a ∷ []
+        sets (both p q) = sets p ++ sets q
+
+        abbrev pub onto : {A : Type 0} → Plan A → List A → Plan A
+        onto p [] = p
+        onto p (a ∷ l) = onto (both p (one a)) l
+
+        abbrev pub inTurn : {A : Type 0} → List A → Plan A
+        inTurn l = onto fromZero l
+
+        pub record Given {A R : Type 0} (adds : A → A → R → Type 0) (f : ReadAs A R) (a b : A) (z : Option A) : Type 0 where
+          pub answer : R
+          pub meets : adds a b answer
+          pub sum : z ≡ f .sumIn answer
+
+        abbrev pub MergesTo : {A R : Type 0} → (adds : A → A → R → Type 0) → ReadAs A R → (x y z : Option A) → Type 0
+        MergesTo adds f (some a) (some b) z = Given adds f a b z
+        MergesTo adds f (some a) none z = z ≡ none
+        MergesTo adds f none y z = z ≡ none
+
+        pub record BothCome {A R : Type 0} (adds : A → A → R → Type 0) (f : ReadAs A R) (left right : Option A → Type 0) (z : Option A) : Type 0 where
+          pub leftTotal : Option A
+          pub rightTotal : Option A
+          pub comesLeft : left leftTotal
+          pub comesRight : right rightTotal
+          pub merges : MergesTo adds f leftTotal rightTotal z
+
+        abbrev pub ComesTo : {A R : Type 0} → (adds : A → A → R → Type 0) → ReadAs A R → Plan A → Option A → Type 0
+        ComesTo adds f fromZero z = z ≡ some (f .zero)
+        ComesTo adds f (one a) z = z ≡ some a
+        ComesTo adds f (both p q) z = BothCome adds f (ComesTo adds f p) (ComesTo adds f q) z
+
+        abbrev pub sumsOver : {A R : Type 0} → ReadAs A R → List A → Counters
+        sumsOver f [] = counted 0 0 0 0 0 0 0
+        sumsOver f (a ∷ l) = sums (f .counts a) (sumsOver f l)
+
+        abbrev pub Commutes : {A R : Type 0} → (adds : A → A → R → Type 0) → ReadAs A R → Type 0
+        Commutes {A} {R} adds f = (a b : A) (r s : R) → adds a b r → adds b a s → f .sumIn r ≡ f .sumIn s
+
+        abbrev pub Associates : {A R : Type 0} → (adds : A → A → R → Type 0) → ReadAs A R → Type 0
+        Associates {A} {R} adds f =
+            (a b c : A) (x y : Option A) → ComesTo adds f (both (both (one a) (one b)) (one c)) x → ComesTo adds f (both (one a) (both (one b) (one c))) y → x ≡ y
+
+        pub record ZeroKeeps {A R : Type 0} (adds : A → A → R → Type 0) (f : ReadAs A R) : Type 0 where
+          pub all-zero : f .counts (f .zero) ≡ counted 0 0 0 0 0 0 0
+          pub on-the-left : (a : A) (r : R) → Held f a → adds (f .zero) a r → f .sumIn r ≡ some a
+          pub on-the-right : (a : A) (r : R) → Held f a → adds a (f .zero) r → f .sumIn r ≡ some a
+
+        pub record Comes {A R : Type 0} (adds : A → A → R → Type 0) (f : ReadAs A R) (p : Plan A) : Type 0 where
+          pub outcome : Option A
+          pub comes : ComesTo adds f p outcome
+
+        pub record Totals {A R : Type 0} (adds : A → A → R → Type 0) (f : ReadAs A R) : Type 0 where
+          pub orders : (l m : List A) → Reorders l m → (x y : Option A) → ComesTo adds f (inTurn l) x → ComesTo adds f (inTurn m) y → x ≡ y
+          pub brackets : (p q : Plan A) → AllHeld f (sets p) → Reorders (sets p) (sets q) → (x y : Option A) → ComesTo adds f p x → ComesTo adds f q y → x ≡ y
+          pub refused : (l : List A) (x : Option A) → ComesTo adds f (inTurn l) x → Exactly (x ≡ none) (bounded (sumsOver f l) ≡ false)
+          pub brackets-refused : (p : Plan A) → AllHeld f (sets p) → (x : Option A) → ComesTo adds f p x → Exactly (x ≡ none) (bounded (sumsOver f (sets p)) ≡ false)
+          pub has-sums : (l : List A) (t : A) → ComesTo adds f (inTurn l) (some t) → f .counts t ≡ sumsOver f l
+          pub brackets-have-sums : (p : Plan A) (t : A) → ComesTo adds f p (some t) → f .counts t ≡ sumsOver f (sets p)
+          pub all-come : (p : Plan A) → Comes adds f p
+
+        pub record Faultless (c : Counters) : Type 0 where
+          pub truncations : c .truncations ≡ 0
+          pub errors : c .errors ≡ 0
+          pub nestedBits : c .nestedBits ≡ 0
+          pub rootBits : c .rootBits ≡ 0
+          pub implicits : c .implicits ≡ 0
+
+        abbrev pub AllFaultless : {A R : Type 0} → ReadAs A R → List A → Type 0
+        AllFaultless f l = All (λ a. Faultless (f .counts a)) l
+
+        pub record OnMerged {U : Type 0} (form : F.Verdict → U) (judged : U → Type 0) (c : Counters) (faultlessParts : Type 0) : Type 0 where
+          pub counters : Exactly (isClean c ≡ true) faultlessParts
+          pub clean : (v : U) → judged v → Exactly (v ≡ form F.clean) faultlessParts
+          pub not-empty : (v : U) → judged v → v ≡ form F.empty → ⊥
+
+        pub record CleanParts {A R U : Type 0} (adds : A → A → R → Type 0) (f : ReadAs A R) (judges : A → U → Type 0) (form : F.Verdict → U) : Type 0 where
+          pub of-two : (a b s : A) (r : R) → adds a b r → f .sumIn r ≡ some s
+              → OnMerged form (judges s) (f .counts s) (Faultless (f .counts a) × Faultless (f .counts b))
+          pub of-list : (l : List A) (t : A) → ComesTo adds f (inTurn l) (some t) → OnMerged form (judges t) (f .counts t) (AllFaultless f l)
+          pub of-brackets : (p : Plan A) (t : A) → ComesTo adds f p (some t) → OnMerged form (judges t) (f .counts t) (AllFaultless f (sets p))
+
+        abbrev pub noStats : ArrayDecodeStats
+        noStats =
+            record {
+              «elements_decoded» = 0;
+              «fields_emitted» = 0;
+              truncations = 0;
+              errors = 0;
+              «unconsumed_nested_bits» = 0;
+              «unconsumed_root_bits» = 0;
+              «implicit_terminations» = 0;
+            }
+
+        abbrev pub sumOf : Merged → Option ArrayDecodeStats
+        sumOf (merged.Sum s) = some s
+        sumOf (merged.Overflow s) = none
+
+        abbrev pub inRattle : ReadAs ArrayDecodeStats Merged
+        inRattle = record { counts = countersOf; zero = noStats; sumIn = sumOf }
+
+        abbrev pub inC : ReadAs VrfCounters VrfMerge
+        inC = record { counts = countersIn; zero = noCounters; sumIn = λ r. if eqb (r .refusal) 0 then some (r .counters) else none }
+        """,
+    ("bits", "specs/Members"): """
+        use mathlib.Core.Path.{_≡_}
+        use mathlib.Core.List.{List, _∷_, _++_}
+
+        abbrev pub All : {A : Type 0} → (A → Type 0) → List A → Type 0
+        All holds [] = Unit {0}
+        All holds (x ∷ l) = holds x × All holds l
+
+        pub record StandsIn {A : Type 0} (x : A) (others : List A → Type 0) (m : List A) : Type 0 where
+          pub before : List A
+          pub after : List A
+          pub whole : m ≡ before ++ (x ∷ after)
+          pub rest : others (before ++ after)
+
+        abbrev pub Reorders : {A : Type 0} → (l m : List A) → Type 0
+        Reorders [] m = m ≡ []
+        Reorders (x ∷ l) m = StandsIn x (Reorders l) m
+        """,
     ("promises", "specs/Paths"): """
+        use Prim.Native.Nat.{_*_, _≤_}
+        use Rattle.bits.specs.Sizes.{longestPath}
+        use Rattle.framing.specs.Refusing.{Room, Answer, refused, accepted}
+        use Rattle.exports.specs.declared.VrfWalk.{VrfWalk}
+
         abbrev pub PathsFit : Answer Room → Type 0
         PathsFit (refused n need) = need .pathBytes ≤ longestPath * need .leaves
         PathsFit (accepted c need) = need .pathBytes ≤ longestPath * need .leaves
@@ -300,6 +612,12 @@ STATED = {
         PathsFitInC r = r .«path_bytes» ≤ longestPath * r .leaves
         """,
     ("framing", "specs/Paths"): """
+        use Prim.Native.Nat.{ℕ, _≤_}
+        use mathlib.Core.List.{List, _∷_}
+        use lib.ListN.{length}
+        use Rattle.bits.specs.Sizes.{longestPath}
+        use Rattle.framing.specs.Events.{number, element, array, leaf, pair, truncation, error, implicit, nested, root, Trace}
+
         abbrev pub PathFits : (path : List ℕ) → Type 0
         PathFits path = length path ≤ longestPath
 
@@ -317,16 +635,27 @@ STATED = {
         workingPaths (root n ∷ t) = workingPaths t
         """,
     ("bits", "specs/Sizes"): """
+        use Prim.Native.Nat.{ℕ}
+
         abbrev pub longestPath : ℕ
         longestPath = 852
         """,
     ("array", "specs/Calls"): """
+        use Rattle.framing.specs.Verdicts as F
+        use Rattle.array.specs.declared.Verdict.{Verdict}
+        use Rattle.array.specs.declared.Verdict.the-variants as verdict
+
         abbrev pub verdictNamed : F.Verdict → Verdict
         verdictNamed F.clean = verdict.Clean
         verdictNamed F.partial = verdict.Partial
         verdictNamed F.empty = verdict.Empty
         """,
     ("exports", "specs/WalkResults"): """
+        use Prim.Native.Nat.{ℕ}
+        use Rattle.framing.specs.Verdicts.{Verdict, clean, partial, empty}
+        use Rattle.framing.specs.Refusing.{Room}
+        use Rattle.exports.specs.declared.VrfWalk.{VrfWalk}
+
         abbrev pub verdictNumber : Verdict → ℕ
         verdictNumber clean = 0
         verdictNumber partial = 1
@@ -336,10 +665,18 @@ STATED = {
         filledIn r = record { leaves = r .leaves; pathBytes = r .«path_bytes»; payloadBytes = r .«payload_bytes» }
         """,
     ("promises", "specs/ExportOrders"): """
+        use mathlib.Core.List.{List, map}
+        use Rattle.bits.specs.Refusals.{Numbered, Rule, when}
+
         abbrev pub numberedRules : {R : Type 0} → (R → Numbered) → List (Rule R) → List (Rule Numbered)
         numberedRules f rules = map (λ r. when (r .holds) (f (r .gives))) rules
         """,
     ("bits", "specs/Refusals"): """
+        use mathlib.Core.Bool.{Bool}
+        use mathlib.Core.List.{List, _∷_}
+        use mathlib.Core.Option.{Option, none, some}
+        use Rattle.bits.specs.Choice.{if_then_else_}
+
         pub record Rule (A : Type 0) : Type 0 where
           pub holds : Bool
           pub gives : A
@@ -354,10 +691,37 @@ STATED = {
 }
 
 
+def words_of(held, block):
+    """The words of a block that `use` lines of its file bring: by name, and as aliases of modules."""
+    tokens = tokens_of(block)
+    names = {t for t in tokens if t in held.brought} | {name for name, pieces in held.operators if name in held.brought and pieces and all(p in tokens for p in pieces)}
+    return names, {t.split(".")[0] for t in tokens if "." in t and t.split(".")[0] in held.aliases}
+
+
+def at_home(definitions, path, name):
+    """Whether a module of this repository declares the name itself, and doesn't pass on another's."""
+    where = module_named(path)
+    if where is None or where[2]:
+        return where is None or definitions.in_module(path, name) is not None
+    found = definitions.in_module(path, name)
+    return found is not None and found[:2] == where[:2]
+
+
 def statements_stand(definitions, report):
+    """Each block stands as it is, and its words come from where the `use` lines above it say."""
     for (crate, file), text in STATED.items():
+        held, meant = definitions.files.get((crate, file)), file_of(dedent(text).lstrip("\n"))
         for block in text.strip().split("\n\n"):
             words = block.split()
+            if words[0] == "use":
+                continue
             name = next(w for w in words if w not in ("abbrev", "pub", "unfoldable", "record", "data"))
             declaration = definitions.declaration((crate, file, name))
-            report.hold(declaration and declaration.text.split() == words, f"{crate}/{file}.{name} doesn't stand as the promises are read with")
+            if not report.hold(declaration and declaration.text.split() == words, f"{crate}/{file}.{name} doesn't stand as the promises are read with"):
+                continue
+            names, aliases = words_of(held, block)
+            for word in sorted(names):
+                same = meant.brought.get(word) == held.brought[word] and at_home(definitions, *held.brought[word])
+                report.hold(same, f"{crate}/{file}.{name}: {word} is brought from elsewhere than the promises are read with")
+            for word in sorted(aliases):
+                report.hold(meant.aliases.get(word) == held.aliases[word], f"{crate}/{file}.{name}: {word} is another module than the promises are read with")
