@@ -169,7 +169,9 @@ typedef struct VrfMerge {
   VrfCounters counters;
 } VrfMerge;
 
-/* The counters of two walks added up, counter by counter. */
+/* The counters of two walks added up, counter by counter. Sets that are merged one after another into zero, or in any brackets, give
+ * the same total in every order, or in every order one of the merges is refused, which is so exactly if some counter's total is over
+ * 2^64 - 1. Which merge it is depends on the order: a total ends there, and the counters beside a refusal are no part of one. */
 VrfMerge vrf_merge(VrfCounters left, VrfCounters right);
 
 /* VRF_CLEAN or VRF_PARTIAL, of a set of counters: of one walk, or of several merged. It refuses nothing. Never VRF_EMPTY: the

@@ -10,6 +10,7 @@ use crate::port::Desk;
 use crate::read::ReadCase;
 use crate::reader::ReaderCase;
 use crate::refusals::RefusalCase;
+use crate::totals::TotalsCase;
 use crate::twelve;
 use crate::walk::{Flat, WalkCase};
 use std::panic::{AssertUnwindSafe, catch_unwind};
@@ -25,6 +26,7 @@ pub enum Case {
     Reader(ReaderCase),
     Refusal(RefusalCase),
     Merge(MergeCase),
+    Totals(TotalsCase),
     Opening(OpeningCase),
     Steps(StepsCase),
     /// The twelve levels' table: one case, without a window.
@@ -52,6 +54,7 @@ impl Case {
             Self::Reader(c) => c.check().map(one),
             Self::Refusal(c) => c.check(desk).map(one),
             Self::Merge(c) => c.check().map(one),
+            Self::Totals(c) => c.check().map(one),
             Self::Opening(c) => c.check(desk),
             Self::Steps(c) => c.check().map(one),
             Self::Schema => twelve::check().map(|calls| (Outcome::Accepted, calls)),
@@ -81,6 +84,7 @@ impl Case {
             Self::Reader(c) => c.line(),
             Self::Refusal(c) => c.line(),
             Self::Merge(c) => c.line(),
+            Self::Totals(c) => c.line(),
             Self::Opening(c) => c.line(),
             Self::Steps(c) => c.line(),
             Self::Schema => "schema".into(),
@@ -96,6 +100,7 @@ impl Case {
             Self::Read(c) => Box::new(c.smaller().map(Self::Read)),
             Self::Reader(c) => Box::new(c.smaller().map(Self::Reader)),
             Self::Opening(c) => Box::new(c.smaller().map(Self::Opening)),
+            Self::Totals(c) => Box::new(c.smaller().map(Self::Totals)),
             Self::Refusal(_) | Self::Merge(_) | Self::Steps(_) | Self::Schema => Box::new(std::iter::empty()),
         }
     }

@@ -2,7 +2,7 @@
 use crate::bits::Bits;
 use crate::case::Case;
 use crate::generate::tables::{Bank, cyclic, random_declared};
-use crate::generate::{arrays, edges, fast, numbers, readers, refusals};
+use crate::generate::{arrays, edges, fast, numbers, readers, refusals, totals};
 use crate::objects::ObjectCase;
 use crate::openings::OpeningCase;
 use crate::rng::Rng;
@@ -50,7 +50,7 @@ const fn kind(name: &'static str, share: usize, what: &'static str, draw: fn(&mu
     Kind { name, share, what, draw }
 }
 
-pub const KINDS: [Kind; 22] = [
+pub const KINDS: [Kind; 23] = [
     kind("none", 40, "struct walks without a schema", |r, s| walk(r, s.none.clone(), false)),
     kind("twelve", 60, "struct walks over the twelve levels, each root", |r, s| {
         let schema = s.twelve[r.below(12)].clone();
@@ -89,6 +89,9 @@ pub const KINDS: [Kind; 22] = [
     }),
     kind("merge", 10, "sums of counters, verdicts", |r, _| Case::Merge(refusals::merge(r))),
     kind("openings", 1, "demand 3: windows against all their openings", opening),
+    kind("totals", 10, "totals of many sets, in two orders and in brackets", |r, _| {
+        Case::Totals(totals::case(r))
+    }),
 ];
 
 fn window(rng: &mut Rng, bits: &Bits) -> Window {

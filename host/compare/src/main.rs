@@ -28,6 +28,7 @@ mod rng;
 mod runner;
 mod selftest;
 mod tables;
+mod totals;
 mod twelve;
 mod verdicts;
 mod walk;

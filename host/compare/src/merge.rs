@@ -14,7 +14,10 @@ pub struct MergeCase {
     pub right: [u64; 7],
 }
 
-fn of_rust(c: [u64; 7]) -> ArrayDecodeStats {
+/// Which of the seven counts errors.
+pub const ERRORS: usize = 3;
+
+pub fn of_rust(c: [u64; 7]) -> ArrayDecodeStats {
     ArrayDecodeStats {
         elements_decoded: c[0],
         fields_emitted: c[1],
@@ -26,7 +29,7 @@ fn of_rust(c: [u64; 7]) -> ArrayDecodeStats {
     }
 }
 
-fn of_port(c: [u64; 7]) -> vrf_proved::ArrayDecodeStats {
+pub fn of_port(c: [u64; 7]) -> vrf_proved::ArrayDecodeStats {
     vrf_proved::ArrayDecodeStats {
         elements_decoded: c[0],
         fields_emitted: c[1],
@@ -71,16 +74,16 @@ impl MergeCase {
         Ok(if fits { Outcome::Accepted } else { Outcome::Refused })
     }
 
-    /// The drop-in's sum: the Rust's where it fits; else every counter stays at its largest at most, and the sum is not clean.
+    /// The drop-in's sum: the Rust's where it fits; else every counter stays at its largest at most, and the errors stand there.
     fn dropin(&self, fits: bool) -> Result<(), Difference> {
         let mut sum = of_port(self.left);
         sum.merge_from(&of_port(self.right));
-        faults::answer(Call::DropInMerge, &mut sum);
+        faults::dropin_merge(&mut sum, &of_port(self.left), &of_port(self.right));
         let mut clean = sum.is_clean();
         faults::answer(Call::DropInClean, &mut clean);
         let mut expected: [u64; 7] = std::array::from_fn(|i| self.left[i].saturating_add(self.right[i]));
         if !fits {
-            expected[3] = expected[3].saturating_add(1);
+            expected[ERRORS] = u64::MAX;
         }
         if port_counters(&sum) != expected || clean != expected[2..].iter().all(|c| *c == 0) {
             let (rust, port) = (format!("{expected:?}"), format!("{sum:?}"));

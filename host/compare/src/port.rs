@@ -127,7 +127,7 @@ pub fn movement(bytes: &[u8], count: u64, rotation: RotationWidth, location: Loc
 
 pub fn merge(left: &ArrayDecodeStats, right: &ArrayDecodeStats) -> Result<ArrayDecodeStats, RefusedMerge> {
     let mut r = lent::merge(left, right);
-    faults::answer(Call::Merge, &mut r);
+    faults::merge(&mut r, right);
     r
 }
 

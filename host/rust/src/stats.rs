@@ -24,8 +24,8 @@ pub struct ArrayDecodeStats {
 }
 
 impl ArrayDecodeStats {
-    /// Adds `other`, counter by counter. A counter that would pass 2^64 - 1 stays there, and one more error is counted, so that
-    /// such a sum is never clean.
+    /// Adds `other`, counter by counter. A counter that would pass 2^64 - 1 stops there, and the errors are put there too. Such a sum is never
+    /// clean, and sets that are added in any order or grouping come to one total.
     ///
     /// ```
     /// use vrf_proved::ArrayDecodeStats;
@@ -36,16 +36,17 @@ impl ArrayDecodeStats {
     ///
     /// let mut full = ArrayDecodeStats { elements_decoded: u64::MAX, ..Default::default() };
     /// full.merge_from(&ArrayDecodeStats { elements_decoded: 1, ..Default::default() });
-    /// assert_eq!((full.elements_decoded, full.errors), (u64::MAX, 1));
+    /// assert_eq!((full.elements_decoded, full.errors), (u64::MAX, u64::MAX));
     /// ```
     pub fn merge_from(&mut self, other: &Self) {
         if self.try_merge_from(other).is_err() {
-            *self = self.saturated(other);
-            self.count_error();
+            *self = self.stopped(other);
         }
     }
 
     /// The same, but a sum that would pass 2^64 - 1 is refused with 4 and `self`, which are the left counters that 4 names, stays as it is.
+    /// Sets that are added one after another to zero give the same total in every order, or in every order one of them is refused; which one
+    /// it is depends on the order, so what the others add up to is no total.
     ///
     /// ```
     /// use vrf_proved::ArrayDecodeStats;
@@ -79,12 +80,13 @@ impl ArrayDecodeStats {
         self.errors = self.errors.saturating_add(1);
     }
 
-    fn saturated(&self, other: &Self) -> Self {
+    /// Counters that stop at 2^64 - 1, where one would pass it.
+    fn stopped(&self, other: &Self) -> Self {
         Self {
             elements_decoded: self.elements_decoded.saturating_add(other.elements_decoded),
             fields_emitted: self.fields_emitted.saturating_add(other.fields_emitted),
             truncations: self.truncations.saturating_add(other.truncations),
-            errors: self.errors.saturating_add(other.errors),
+            errors: u64::MAX,
             unconsumed_nested_bits: self.unconsumed_nested_bits.saturating_add(other.unconsumed_nested_bits),
             unconsumed_root_bits: self.unconsumed_root_bits.saturating_add(other.unconsumed_root_bits),
             implicit_terminations: self.implicit_terminations.saturating_add(other.implicit_terminations),

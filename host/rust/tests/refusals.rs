@@ -110,7 +110,7 @@ fn a_sum_that_is_too_large_stays_not_clean() {
     // a clean walk onto a counter that is full
     let mut counted = stats([u64::MAX, 3, 0, 0, 0, 0, 0]);
     assert_eq!(decode_struct_array(&A, 56, None, &[], &mut counted).len(), 1);
-    assert_eq!(counted, stats([u64::MAX, 4, 0, 1, 0, 0, 0]));
+    assert_eq!(counted, stats([u64::MAX, 4, 0, u64::MAX, 0, 0, 0]));
     assert!(!counted.is_clean());
 
     // errors that are full: the original's release build would wrap to none
@@ -124,12 +124,49 @@ fn a_sum_that_is_too_large_stays_not_clean() {
     for counter in 0..7 {
         let (mut full, mut one, mut sum) = ([7; 7], [1; 7], [8; 7]);
         (full[counter], one[counter], sum[counter]) = (u64::MAX, 2, u64::MAX);
-        sum[3] = sum[3].saturating_add(1);
+        sum[3] = u64::MAX;
         let mut counted = stats(full);
         assert_eq!(counted.try_merge_from(&stats(one)).unwrap_err().number, 4);
         assert_eq!(counted, stats(full), "a refused merge changes nothing");
         counted.merge_from(&stats(one));
         assert_eq!(counted, stats(sum));
+    }
+}
+
+/// Every order of the sets, by exchanges.
+fn orders(sets: &mut Vec<[u64; 7]>, from: usize, each: &mut impl FnMut(&[[u64; 7]])) {
+    if from == sets.len() {
+        return each(sets);
+    }
+    for i in from..sets.len() {
+        sets.swap(from, i);
+        orders(sets, from + 1, each);
+        sets.swap(from, i);
+    }
+}
+
+#[test]
+fn totals_do_not_depend_on_the_order() {
+    let largest = u64::MAX;
+    let (a, b) = ([largest - 3, 0, 0, 0, 0, 0, 0], [1, 9, 0, 0, 0, 0, 0]);
+    for (last, fits) in [([2, 0, 0, 0, 0, 7, 0], true), ([3, 0, 0, 0, 0, 7, 0], false)] {
+        orders(&mut vec![a, b, last], 0, &mut |sets| {
+            let (mut tried, mut added) = (ArrayDecodeStats::default(), ArrayDecodeStats::default());
+            let said = sets.iter().try_for_each(|set| tried.try_merge_from(&stats(*set)));
+            assert_eq!(
+                said.map_err(|refusal| refusal.number),
+                if fits { Ok(()) } else { Err(4) },
+                "{sets:?}"
+            );
+            if fits {
+                assert_eq!(tried, stats([largest, 9, 0, 0, 0, 7, 0]), "{sets:?}");
+            }
+            // the original's name can't refuse: the errors say so, in every order alike
+            for set in sets {
+                added.merge_from(&stats(*set));
+            }
+            assert_eq!(added, stats([largest, 9, 0, if fits { 0 } else { largest }, 0, 7, 0]), "{sets:?}");
+        });
     }
 }
 

@@ -1,7 +1,7 @@
 //! Which faults there are, and the kinds that have to tell of each.
 use super::cells::{Buffer, DELETED, FIELDS, ITEMS, LEAVES, NAMES, PAIRS, PATHS, PAYLOADS, ROWS, TARGET};
 use super::parts::Parts;
-use super::{CLEAN, Call, EMPTY, Fault, GIVEN, LOST, NO_BITS, REFUSED, UNCOUNTED, probed};
+use super::{CLEAN, Call, EMPTY, Fault, GIVEN, LOST, NO_BITS, ONE_ERROR, REFUSED, STOPS, UNCOUNTED, probed};
 use crate::probes::{Probe, ProbeCall};
 use std::sync::OnceLock;
 use vrf_proved::fastarray::FastArrayDelta;
@@ -153,5 +153,11 @@ impl List {
         self.add(Call::Objects, vec![UNCOUNTED.into()], &["windows", "strings"]);
         self.add(Call::Objects, vec![NO_BITS.into()], &["windows"]);
         self.add(Call::Objects, vec![LOST.into()], &["openings"]);
+        self.also(&["totals"], |call, part| {
+            let sums = matches!(call, Call::Merge | Call::Verdict | Call::DropInMerge | Call::TryMergeSum);
+            sums && !part.contains("refused")
+        });
+        self.add(Call::Merge, vec![STOPS.into()], &["merge", "totals"]);
+        self.add(Call::DropInMerge, vec![ONE_ERROR.into()], &["merge", "totals"]);
     }
 }

@@ -12,7 +12,7 @@ use std::cell::Cell;
 use std::fmt;
 use vrf_proved::ArrayDecodeStats;
 use vrf_proved::lent::{
-    Buffers, FIELD_WORDS, FastArray, ITEM_WORDS, LEAF_WORDS, Objects, PAIR_WORDS, Read, Refusal, Schema, Verdict, Walk,
+    self, Buffers, FIELD_WORDS, FastArray, ITEM_WORDS, LEAF_WORDS, Objects, PAIR_WORDS, Read, Refusal, RefusedMerge, Schema, Verdict, Walk,
 };
 
 /// Whose answers are made wrong.
@@ -72,6 +72,9 @@ const EMPTY: &str = "empty passes for clean";
 const UNCOUNTED: &str = "nothing counted passes for empty";
 const NO_BITS: &str = "no bits pass for empty";
 const LOST: &str = "the first record of a cut window is another";
+
+const STOPS: &str = "a sum that passes stops at the largest";
+const ONE_ERROR: &str = "a sum that passes counts one error";
 
 const GIVEN: &str = "given";
 const REFUSED: &str = "refused";
@@ -135,6 +138,27 @@ pub fn objects(r: &mut Result<Objects, Refusal>, bits: u32, pairs: &mut [u32]) {
         _ => r.alter(part),
     }
     PAIRS.alter(part, pairs, filled);
+}
+
+pub fn merge(r: &mut Result<ArrayDecodeStats, RefusedMerge>, right: &ArrayDecodeStats) {
+    match (part(Call::Merge), &mut *r) {
+        (Some(STOPS), Err(refused)) => {
+            let mut sum = refused.left.clone();
+            sum.merge_from(right);
+            sum.errors = refused.left.errors.saturating_add(right.errors);
+            *r = Ok(sum);
+        }
+        (Some(part), _) => r.alter(part),
+        (None, _) => {}
+    }
+}
+
+pub fn dropin_merge(sum: &mut ArrayDecodeStats, left: &ArrayDecodeStats, right: &ArrayDecodeStats) {
+    match part(Call::DropInMerge) {
+        Some(ONE_ERROR) if lent::merge(left, right).is_err() => sum.errors = left.errors.saturating_add(right.errors).saturating_add(1),
+        Some(part) => sum.alter(part),
+        None => {}
+    }
 }
 
 pub fn fast(r: &mut Result<FastArray, Refusal>, deleted: &mut [i32], items: &mut [u32], fields: &mut [u32]) {

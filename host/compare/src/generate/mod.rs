@@ -6,6 +6,7 @@ pub mod numbers;
 pub mod readers;
 pub mod refusals;
 pub mod tables;
+pub mod totals;
 
 use crate::bits::Bits;
 use crate::rng::Rng;
