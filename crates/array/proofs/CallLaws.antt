@@ -1,5 +1,5 @@
 -- One law for each exit of the public calls: what the tests and both passes found is what the contract says.
-use mathlib.Core.Path.{_≡_, refl, sym, ap, ap₂, _∙_, subst}
+use mathlib.Core.Path.{_≡_, refl, sym, ap, _∙_, subst}
 use mathlib.Core.Bool.{Bool, true, false, _&&_}
 use mathlib.Core.List.{List, []}
 use Prim.Native.Nat.{ℕ, _^_, _≤_}
@@ -89,14 +89,14 @@ module _ (s : Walk) (flat : givesLeaves s ≡ true) (t : Tables) (levels root : 
                 (no-room call b small keeps-layout flat (2 ^ 32) wide m measured-by (fits-as e n false h));
             judged = tt;
           }
-      leaves-answered r end (has-room {e = e} {stats = stats} n h held counts judged) =
+      leaves-answered r end (has-room {e = e} {stats = stats} {padded = p} n h held counts judged pads) =
           let u = writing k bytes bits b in
-          let a : Answered call b (accepted (u .counters) (measured m)) (heldBy u) =
+          let a : Answered call b (accepted (u .counters) (u .padded) (measured m)) (heldBy u) =
           wrote call b small keeps-layout flat (2 ^ 32) wide m measured-by (fits-as e n true h) u (walked k bytes bits (b .leaves) (b .paths) (b .payloads) u refl) in
           record {
             answered =
-                subst (λ (x : Lent). Answered call b (accepted (countersOf stats) (roomIn e)) x) (sym held)
-                (subst (λ (x : Answer Room). Answered call b x (heldBy u)) (ap₂ accepted (sym counts) (sym (need-is e n))) a);
+                subst (λ (x : Lent). Answered call b (accepted (countersOf stats) p (roomIn e)) x) (sym held)
+                (subst (λ (x : Answer Room). Answered call b x (heldBy u)) (λ i. accepted (sym counts i) (sym pads i) (sym (need-is e n) i)) a);
             judged = judged;
           }
 
@@ -115,7 +115,7 @@ pairs-fit need lent x ep ey e =
 
 -- how the code answers by what the passes answered
 abbrev pub pairsAnswer : StructArray → ObjectArray
-pairsAnswer (Decoded s v e) = objects.Decoded s v (e .leaves)
+pairsAnswer (Decoded s v e p) = objects.Decoded s v (e .leaves) p
 pairsAnswer (Short e) = objects.Short (e .leaves)
 pairsAnswer TooLong = objects.TooLong
 pairsAnswer BrokenTables = objects.TooLong
@@ -169,16 +169,16 @@ module _ (bytes : List ℕ) (bits : ℕ) (b : List ℕ) where
               (pairs-no-room bytes bits b small-window (2 ^ 32) wide found found-by (omega arith));
           judged = tt;
         }
-    objects-answered r end (has-room {e = e} {stats = stats} n h held counts judged) =
+    objects-answered r end (has-room {e = e} {stats = stats} {padded = p} n h held counts judged pads) =
         let f = pairs-are e n in
         let fits = leb-true (e .leaves) (wholeRecords pairWords (length b)) (pairs-as e n true h) in
         let u = writing object bytes bits buffers in
-        let a : PairsAnswered bytes bits b (accepted (u .counters) (wholeRecords pairWords (found .records .at))) (u .records .held) =
+        let a : PairsAnswered bytes bits b (accepted (u .counters) (u .padded) (wholeRecords pairWords (found .records .at))) (u .records .held) =
         pairs-wrote bytes bits b small-window (2 ^ 32) wide found found-by (omega arith) u (walked object bytes bits b [] [] u refl) in
         record {
           answered =
-              subst (λ (x : List ℕ). PairsAnswered bytes bits b (accepted (countersOf stats) (e .leaves)) x) (sym (ap (λ (x : Lent). x .leaves) held))
-              (subst (λ (x : Answer ℕ). PairsAnswered bytes bits b x (u .records .held)) (ap₂ accepted (sym counts) (sym f)) a);
+              subst (λ (x : List ℕ). PairsAnswered bytes bits b (accepted (countersOf stats) p (e .leaves)) x) (sym (ap (λ (x : Lent). x .leaves) held))
+              (subst (λ (x : Answer ℕ). PairsAnswered bytes bits b x (u .records .held)) (λ i. accepted (sym counts i) (sym pads i) (sym f i)) a);
           judged = judged;
         }
 

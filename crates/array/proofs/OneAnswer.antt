@@ -55,25 +55,25 @@ unfolding judged
 judged-back k bits c v e = sym (ap verdictNamed e) ∙ verdict-back v
 
 structWith : Walker → (bits : ℕ) → Answer Room → StructArray
-structWith k bits (accepted c n) = structs.Decoded (statsWith c) (judged k bits c) (extentWith n)
+structWith k bits (accepted c p n) = structs.Decoded (statsWith c) (judged k bits c) (extentWith n) p
 structWith k bits (refused number n) =
     if eqb number 1 then structs.TooLong else
     (if eqb number 2 then structs.BrokenTables else structs.Short (extentWith n))
 
 struct-back : (k : Walker) (bits : ℕ) (r : StructArray) → Judged k bits r → structWith k bits (answerOf r) ≡ r
 unfolding structWith extentWith
-struct-back k bits (structs.Decoded s v e) j = ap (λ (x : Verdict). structs.Decoded s x e) (judged-back k bits (countersOf s) v j)
+struct-back k bits (structs.Decoded s v e p) j = ap (λ (x : Verdict). structs.Decoded s x e p) (judged-back k bits (countersOf s) v j)
 struct-back k bits structs.TooLong j = refl
 struct-back k bits structs.BrokenTables j = refl
 struct-back k bits (structs.Short e) j = refl
 
 objectWith : (bits : ℕ) → Answer ℕ → ObjectArray
-objectWith bits (accepted c n) = objects.Decoded (statsWith c) (judged object bits c) n
+objectWith bits (accepted c p n) = objects.Decoded (statsWith c) (judged object bits c) n p
 objectWith bits (refused number n) = if eqb number 1 then objects.TooLong else objects.Short n
 
 object-back : (bits : ℕ) (r : ObjectArray) → PairsJudged bits r → objectWith bits (pairsOf r) ≡ r
 unfolding objectWith
-object-back bits (objects.Decoded s v n) j = ap (λ (x : Verdict). objects.Decoded s x n) (judged-back object bits (countersOf s) v j)
+object-back bits (objects.Decoded s v n p) j = ap (λ (x : Verdict). objects.Decoded s x n p) (judged-back object bits (countersOf s) v j)
 object-back bits objects.TooLong j = refl
 object-back bits (objects.Short n) j = refl
 

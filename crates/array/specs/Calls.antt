@@ -62,13 +62,13 @@ JudgesWindow s bits c v = (t : Tables) (root : ℕ) → verdictIs v ≡ verdictO
 
 -- an accepted answer carries the verdict on its window
 abbrev pub Judged : Walker → (bits : ℕ) → StructArray → Type 0
-Judged k bits (structs.Decoded s v e) = verdictIs v ≡ verdictOf k bits (countersOf s)
+Judged k bits (structs.Decoded s v e p) = verdictIs v ≡ verdictOf k bits (countersOf s)
 Judged k bits structs.TooLong = Unit
 Judged k bits structs.BrokenTables = Unit
 Judged k bits (structs.Short e) = Unit
 
 abbrev pub PairsJudged : (bits : ℕ) → ObjectArray → Type 0
-PairsJudged bits (objects.Decoded s v n) = verdictIs v ≡ verdictOf object bits (countersOf s)
+PairsJudged bits (objects.Decoded s v n p) = verdictIs v ≡ verdictOf object bits (countersOf s)
 PairsJudged bits objects.TooLong = Unit
 PairsJudged bits (objects.Short n) = Unit
 

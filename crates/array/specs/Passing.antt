@@ -58,5 +58,6 @@ module _ (k : Walker) (bytes : List ℕ) (bits : ℕ) where
 
     pub data TwoPasses : StructArray → Lent → Type 0 where
       too-short : {e : Extent} → Needs e → enough e ≡ false → TwoPasses (Short e) b
-      has-room : {e : Extent} {stats : ArrayDecodeStats} {v : Verdict} {end : Lent} → Needs e → enough e ≡ true → end ≡ heldBy writing
-          → countersOf stats ≡ writing .counters → verdictIs v ≡ verdictOf k bits (countersOf stats) → TwoPasses (Decoded stats v e) end
+      has-room : {e : Extent} {stats : ArrayDecodeStats} {v : Verdict} {padded : ℕ} {end : Lent} → Needs e → enough e ≡ true → end ≡ heldBy writing
+          → countersOf stats ≡ writing .counters → verdictIs v ≡ verdictOf k bits (countersOf stats) → padded ≡ writing .padded
+          → TwoPasses (Decoded stats v e padded) end

@@ -1,5 +1,5 @@
--- What the crate's answers say: counters, needs, and document 01's refusal numbers. For each case of each answer the number, and the values that
--- 01's table names; a value that it doesn't name is 0.
+-- What the crate's answers say: counters, how many numbers were padded, needs, and document 01's refusal numbers. For each case of each answer
+-- the number, and the values that 01's table names; a value that it doesn't name is 0.
 use Prim.Native.Nat.{ℕ}
 use Rattle.bits.specs.Refusals.{Numbered, refusal}
 use Rattle.framing.specs.Counters.{Counters, counted}
@@ -26,14 +26,14 @@ roomIn e = record { leaves = e .leaves; pathBytes = e .«path_bytes»; payloadBy
 
 -- the struct and the exact walk
 abbrev pub answerOf : StructArray → Answer Room
-answerOf (structs.Decoded s v e) = accepted (countersOf s) (roomIn e)
+answerOf (structs.Decoded s v e p) = accepted (countersOf s) p (roomIn e)
 answerOf structs.TooLong = refused 1 noRoom
 answerOf structs.BrokenTables = refused 2 noRoom
 answerOf (structs.Short e) = refused 3 (roomIn e)
 
 -- the object walk
 abbrev pub pairsOf : ObjectArray → Answer ℕ
-pairsOf (objects.Decoded s v n) = accepted (countersOf s) n
+pairsOf (objects.Decoded s v n p) = accepted (countersOf s) p n
 pairsOf objects.TooLong = refused 1 0
 pairsOf (objects.Short n) = refused 3 n
 
@@ -49,11 +49,11 @@ sayingAs n = record { number = n .number; leaves = n .first; «path_bytes» = n 
 
 abbrev pub refusedRoom : Answer Room → Saying
 refusedRoom (refused n need) = sayingAs (refusal n (need .leaves) (need .pathBytes) (need .payloadBytes))
-refusedRoom (accepted c need) = sayingAs (refusal 0 0 0 0)
+refusedRoom (accepted c p need) = sayingAs (refusal 0 0 0 0)
 
 abbrev pub refusedPairs : Answer ℕ → PairSaying
 refusedPairs (refused n need) = record { number = n; pairs = need }
-refusedPairs (accepted c need) = record { number = 0; pairs = 0 }
+refusedPairs (accepted c p need) = record { number = 0; pairs = 0 }
 
 abbrev pub refusedSum : Sums → ℕ
 refusedSum (summed c) = 0

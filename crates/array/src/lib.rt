@@ -64,7 +64,8 @@ pub struct Extent {
 
 // What a struct or exact walk answers.
 pub enum StructArray {
-    Decoded(ArrayDecodeStats, Verdict, Extent),
+    // The last number: the padded numbers among those that were read.
+    Decoded(ArrayDecodeStats, Verdict, Extent, u32),
     // 1: the window is longer than 524,288 bits.
     TooLong,
     // 2: the schema's rows or the declared names are not laid out as they have to be.
@@ -73,9 +74,9 @@ pub enum StructArray {
     Short(Extent),
 }
 
-// What an object walk answers; the number is of pairs.
+// What an object walk answers: how many pairs, and how many padded numbers.
 pub enum ObjectArray {
-    Decoded(ArrayDecodeStats, Verdict, u32),
+    Decoded(ArrayDecodeStats, Verdict, u32, u32),
     // 1: the window is longer than 524,288 bits.
     TooLong,
     // 3: the output has too little room. How many pairs it needs to hold.
@@ -211,8 +212,8 @@ pub fn decode_object_ref_array(bytes: &[u8], bits: u32, pairs: &mut [u32]) -> Ob
         &mut payloads,
     );
     match passed {
-        StructArray::Decoded(stats, judged, filled) => {
-            ObjectArray::Decoded(stats, judged, filled.leaves)
+        StructArray::Decoded(stats, judged, filled, padded) => {
+            ObjectArray::Decoded(stats, judged, filled.leaves, padded)
         }
         StructArray::Short(need) => ObjectArray::Short(need.leaves),
         // Never taken: the passes test neither a length nor tables.

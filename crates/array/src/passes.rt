@@ -27,6 +27,7 @@ use steps::tally::ERRORS;
 use steps::tally::FIELDS;
 use steps::tally::IMPLICIT;
 use steps::tally::NESTED;
+use steps::tally::PADDED;
 use steps::tally::PATHS;
 use steps::tally::PAYLOADS;
 use steps::tally::RECORDS;
@@ -165,6 +166,13 @@ pub fn stats_of(tally: &Tally) -> ArrayDecodeStats
         unconsumed_root_bits: wide(tally[ROOT]),
         implicit_terminations: wide(tally[IMPLICIT]),
     }
+}
+
+// The padded numbers that a pass took.
+pub fn padded_of(tally: &Tally) -> u32
+    ensures { λ r. ⌜ r ≡ worldOf (now (tally .entry)) [] [] [] .padded ⌝ }
+{
+    tally[PADDED]
 }
 
 // The records that so many numbers are, of leaves or of pairs.

@@ -35,7 +35,7 @@ pub fn said(answer: StructArray) -> Saying
     ensures { λ r. ⌜ r ≡ said answer ⌝ }
 {
     match answer {
-        StructArray::Decoded(_, _, _) => numbers(0, 0, 0, 0),
+        StructArray::Decoded(_, _, _, _) => numbers(0, 0, 0, 0),
         StructArray::TooLong => numbers(1, 0, 0, 0),
         StructArray::BrokenTables => numbers(2, 0, 0, 0),
         StructArray::Short(need) => numbers(3, need.leaves, need.path_bytes, need.payload_bytes),
@@ -46,7 +46,7 @@ pub fn pairs_said(answer: ObjectArray) -> PairSaying
     ensures { λ r. ⌜ r ≡ pairsSaid answer ⌝ }
 {
     match answer {
-        ObjectArray::Decoded(_, _, _) => PairSaying {
+        ObjectArray::Decoded(_, _, _, _) => PairSaying {
             number: 0,
             pairs: 0,
         },

@@ -21,6 +21,7 @@ use Rattle.bitio.specs.declared.BitRead.{BitRead}
 use Rattle.bitio.specs.declared.BitRead.the-variants as B1
 use Rattle.bitio.specs.declared.BitsRead.{BitsRead}
 use Rattle.bitio.specs.declared.BitsRead.the-variants as B
+use Rattle.bitio.specs.declared.PackedNumber.{PackedNumber}
 use Rattle.bitio.specs.declared.PackedRead.{PackedRead}
 use Rattle.bitio.specs.declared.PackedRead.the-variants as P
 use Rattle.bitio.specs.declared.SerializedRead.{SerializedRead}
@@ -93,7 +94,7 @@ module _ (s : List ℕ) (c : Cursor) where
   pub bits-ends : (n x p : ℕ) → readBits s c n ≡ B.Value x p → p ≤ c .len
   bits-ends n x p e = subst (BitsWithin (c .len)) e (bits-within n)
 
-  pub packed-ends : (x p : ℕ) → readIntPacked s c ≡ P.Value x p → p ≤ c .len
+  pub packed-ends : (x : PackedNumber) (p : ℕ) → readIntPacked s c ≡ P.Value x p → p ≤ c .len
   packed-ends x p e =
       subst (PackedWithin (c .len)) e
       (at-holds s c P.Refused _ (PackedWithin (c .len)) (λ r. tt) (λ g.

@@ -5,19 +5,25 @@ use lib.Dec.{leb, eqb}
 use Rattle.bits.specs.Choice.{if_then_else_}
 use Rattle.bits.specs.Bits.{field}
 use Rattle.bits.specs.Packed.{packed}
+use Rattle.bits.specs.Padded.{padded}
 use Rattle.bits.specs.declared.Packed.{Packed}
 use Rattle.bits.specs.declared.Packed.the-variants as Num
 use Rattle.bitio.specs.Cursors.{atCursor, asking}
 use Rattle.bitio.specs.declared.Cursor.{Cursor}
 use Rattle.bitio.specs.declared.Refusal.the-variants.{TooFew, GoesOn, Overflows, NoMaximum}
+use Rattle.bitio.specs.declared.PackedNumber.{PackedNumber}
 use Rattle.bitio.specs.declared.PackedRead.{PackedRead}
 use Rattle.bitio.specs.declared.PackedRead.the-variants as P
 use Rattle.bitio.specs.declared.SerializedRead.{SerializedRead}
 use Rattle.bitio.specs.declared.SerializedRead.the-variants as Ser
 
+-- a packed number that was read: its value in so many bytes, and whether these are more than it needs
+abbrev pub packedNumber : (v n : ℕ) → PackedNumber
+packedNumber v n = record { value = v; bytes = n; padded = padded v n }
+
 -- A packed number that starts at bit pos of len. Cut short, it asks 8 bits after its whole bytes; 8 and 9 give its start.
 unfoldable pub packedAnswer : (len pos : ℕ) → Packed → PackedRead
-packedAnswer len pos (Num.Whole v n) = P.Value v (pos + 8 * n)
+packedAnswer len pos (Num.Whole v n) = P.Value (packedNumber v n) (pos + 8 * n)
 packedAnswer len pos (Num.Cut n) = P.Refused (TooFew (pos + 8 * n) len 8)
 packedAnswer len pos Num.GoesOn = P.Refused (GoesOn pos)
 packedAnswer len pos Num.Overflows = P.Refused (Overflows pos)

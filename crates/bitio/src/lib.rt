@@ -11,7 +11,7 @@ ghost use Rattle.bitio.specs.Cursors.{bitsOf, good, badCursor, opened, w
 ghost use Rattle.bitio.specs.Reads.{taken, readBit, readBits, readU8, readU16, readU32, readI32, readU64};
 ghost use Rattle.bitio.specs.Numbers.{log2, readIntPacked, readSerializedInt};
 ghost use Rattle.bitio.specs.Copies.{CopiesBits};
-use bits::Packed;
+use bits::Found;
 use bits::sizes::LONGEST_WINDOW;
 
 // ---- a cursor, and what the calls answer
@@ -106,8 +106,15 @@ pub enum U64Read {
     Refused(Refusal),
 }
 
+// A packed number: its value, the bytes that it took (1 to 5), and whether it is padded: fewer bytes hold the value too.
+pub struct PackedNumber {
+    pub value: u32,
+    pub bytes: u32,
+    pub padded: bool,
+}
+
 pub enum PackedRead {
-    Value(u32, u64),
+    Value(PackedNumber, u64),
     Refused(Refusal),
 }
 
@@ -396,16 +403,22 @@ pub fn read_int_packed(bytes: &[u8], c: Cursor) -> PackedRead
     let end = start + len;
     let found = bits::number::packed_at(bytes, at, end);
     match found {
-        Packed::Whole(value, n) => {
+        Found::Whole(value, n, padded) => {
             let next = pos + 8 * n;
-            PackedRead::Value(value, next)
+            let taken = n as u32;
+            let number = PackedNumber {
+                value,
+                bytes: taken,
+                padded,
+            };
+            PackedRead::Value(number, next)
         }
-        Packed::Cut(n) => {
+        Found::Cut(n) => {
             let stop = pos + 8 * n;
             PackedRead::Refused(Refusal::TooFew(stop, len, 8))
         }
-        Packed::GoesOn => PackedRead::Refused(Refusal::GoesOn(pos)),
-        Packed::Overflows => PackedRead::Refused(Refusal::Overflows(pos)),
+        Found::GoesOn => PackedRead::Refused(Refusal::GoesOn(pos)),
+        Found::Overflows => PackedRead::Refused(Refusal::Overflows(pos)),
     }
 }
 

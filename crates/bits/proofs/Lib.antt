@@ -4,6 +4,8 @@ pub mod RunLaws
 pub mod DecimalLaws
 pub mod PackedLaws
 pub mod PackedWindows
+pub mod PaddedLaws
+pub mod PaddedTakes
 pub mod TwosLaws
 pub mod Never
 pub mod ChoiceLaws

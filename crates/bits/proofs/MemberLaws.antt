@@ -1,7 +1,12 @@
--- The laws of orders of a list.
+-- The laws of lists by their members, and of orders of a list.
 use mathlib.Core.Path.{_≡_, refl, sym, ap, _∙_, subst}
 use mathlib.Core.List.{List, [], _∷_, _++_}
 use Rattle.bits.specs.Members.{All, Reorders}
+
+-- What holds of all members of two lists holds of all of both.
+pub all-append : {A : Type 0} (holds : A → Type 0) (a b : List A) → All holds a → All holds b → All holds (a ++ b)
+all-append holds [] b h k = k
+all-append holds (x ∷ a) b h k = (h .0, all-append holds a b (h .1) k)
 
 -- A list is an order of itself: its first stands in front of the rest.
 pub same-order : {A : Type 0} (l : List A) → Reorders l l

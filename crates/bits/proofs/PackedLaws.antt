@@ -8,7 +8,7 @@ use lib.Dec.{leb, eqb}
 use lib.Pow.{pow-add}
 use borrow.Author.Tests.{le-leb, lt-leb, leb-true, leb-false, eq-eqb, ne-eqb}
 use Rattle.bits.specs.Bits.{field}
-use Rattle.bits.specs.Packed.{after, earlierByte, fifthByte, packedFrom, packed}
+use Rattle.bits.specs.Packed.{after, earlierByte, fifthByte, packedFrom, packed, mostBytes}
 use Rattle.bits.proofs.ChoiceLaws.{by-cases}
 use Rattle.bits.proofs.FieldLaws.{field-field}
 use Rattle.bits.specs.declared.Packed.{Packed}
@@ -172,6 +172,25 @@ read-within (suc left) W len p h =
     (λ e. simp (k, e)
     (omega (arith, read-after left (field W p 8 / 2) (packedFrom left W len (p + 8)), read-within left W len (p + 8) l))))
     (λ k. simp k (omega arith))
+
+-- they are no more than may follow, and that one
+read-few : (left W len p : ℕ) → bytesRead left (packedFrom left W len p) ≤ left + 1
+unfolding packedFrom earlierByte
+read-few zero W len p =
+    by-cases (leb (p + 8) len)
+    (λ k. simp k (omega (arith, read-fifth (field W p 8))))
+    (λ k. simp k (omega arith))
+read-few (suc left) W len p =
+    by-cases (leb (p + 8) len)
+    (λ k. by-cases (eqb (field W p 8 % 2) 0)
+    (λ e. simp (k, e) (omega arith))
+    (λ e. simp (k, e)
+    (omega (arith, read-after left (field W p 8 / 2) (packedFrom left W len (p + 8)), read-few left W len (p + 8)))))
+    (λ k. simp k (omega arith))
+
+pub whole-bytes : (W len p v n : ℕ) → packed W len p ≡ Whole v n → n ≤ mostBytes
+unfolding packed
+whole-bytes W len p v n e = subst (λ (x : Packed). bytesRead 4 x ≤ mostBytes) e (read-few 4 W len p)
 
 module _ (W len p : ℕ) (h : p ≤ len) where
   within : (r : Packed) → packed W len p ≡ r → p + 8 * bytesRead 4 r ≤ len

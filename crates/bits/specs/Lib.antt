@@ -4,6 +4,7 @@ pub mod Bits
 pub mod Runs
 pub mod Decimals
 pub mod Packed
+pub mod Padded
 pub mod TwosComplement
 pub mod Refusals
 pub mod Members

@@ -40,7 +40,7 @@ packedFrom (suc left) W len p =
 unfoldable pub packed : (W len p : ℕ) → Packed
 packed W len p = packedFrom (mostBytes - 1) W len p
 
--- a packed number that was taken: its first bit, the bytes that it took, its value
+-- a packed number that was read: its first bit, the bytes that it takes, its value
 pub record Number : Type 0 where
   pub start : ℕ
   pub bytes : ℕ

@@ -14,7 +14,7 @@ pub mod load;
 pub mod number;
 pub mod sizes;
 
-// What stands where a packed number is due.
+// What stands where a packed number is due, as the definitions have it; the code has `Found`.
 pub enum Packed {
     // The number, and how many bytes it takes.
     Whole(u32, u64),
@@ -23,5 +23,13 @@ pub enum Packed {
     // The fifth byte says that another follows.
     GoesOn,
     // The fifth byte holds more than 15.
+    Overflows,
+}
+
+// The same as the code finds it: with a whole number, whether it is padded.
+pub enum Found {
+    Whole(u32, u64, bool),
+    Cut(u64),
+    GoesOn,
     Overflows,
 }

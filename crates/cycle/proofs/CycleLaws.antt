@@ -17,10 +17,10 @@ use Rattle.framing.specs.Windows.{Window}
 use Rattle.framing.specs.Events.{element, Trace}
 use Rattle.framing.specs.Walk.{Run, done, stopped, prepend, fields, behind, elements, level, inItem}
 use Rattle.outputs.specs.World.{World}
-use Rattle.steps.specs.Tally.{played}
+use Rattle.steps.specs.Tally.{played, padding}
 use Rattle.steps.specs.Steps.{Lies}
 use Rattle.steps.specs.Views.{inner, upTo, sinkFor, exitSink}
-use Rattle.steps.specs.Heads.{levelHead, elementHead, fieldHead}
+use Rattle.steps.specs.Heads.{levelHead, elementHead, fieldHead, numberPads, elementPads, fieldPads}
 use Rattle.steps.specs.Paths.{itemPath}
 use Rattle.steps.specs.Kinds.{kindOf, KindLies}
 use Rattle.steps.specs.Gives.{fieldsStop, levelStop, flatField}
@@ -50,8 +50,8 @@ finished-goes b r r′ x y g = ap (λ (u : Run). finished b u x) (g .is) ∙ go 
     go (done t q) = ap (λ (w : World). ended w (after.Closed (b + q))) (played-append (g .trace) t x)
     go (stopped t) = ap (λ (w : World). ended w after.Open) (played-append (g .trace) t x)
 
-finished-shuts : (b : ℕ) (r : Run) (x : World) (n : ℕ) → Shuts b r x n → ended x (after.Closed n) ≡ finished b r x
-finished-shuts b r x n s = ap₂ (λ (w : World) (k : ℕ). ended w (after.Closed k)) (s .world) (s .at) ∙ ap (λ (u : Run). finished b u x) (sym (s .is))
+finished-shuts : (b : ℕ) (r : Run) (x y : World) (n : ℕ) → Shuts b r x y n → ended y (after.Closed n) ≡ finished b r x
+finished-shuts b r x y n s = ap₂ (λ (w : World) (k : ℕ). ended w (after.Closed k)) (s .world) (s .at) ∙ ap (λ (u : Run). finished b u x) (sym (s .is))
 
 finished-ends : (b : ℕ) (r : Run) (x y : World) → Ends r x y → ended y after.Open ≡ finished b r x
 finished-ends b r x y s = ap (λ (w : World). ended w after.Open) (s .world) ∙ ap (λ (u : Run). finished b u x) (sym (s .is))
@@ -96,13 +96,15 @@ pub record Fielding (q : Place) (index start : ℕ) (x₀ x : World) (path : Lis
 pub fields-begin : (q : Place) (index start : ℕ) (x : World) → Fielding q index start x x (q .path) start maxFields true
 fields-begin q index start x = record { later = omega arith; same = λ b o inside h. refl; kept = refl }
 
-module _ (q : Place) (index start : ℕ) (x₀ x : World) (path : List ℕ) (at left : ℕ) (first : Bool) (fit : start ≤ q .end) (v : Fielding q index start x₀ x path at left first) where
+-- x₁: the world in which the head's padded numbers are counted
+module _ (q : Place) (index start : ℕ) (x₀ x : World) (path : List ℕ) (at left : ℕ) (first : Bool) (fit : start ≤ q .end) (v : Fielding q index start x₀ x path at left first)
+    (x₁ : World) (took : x₁ ≡ padding (fieldPads (upTo (q .bytes) (q .end)) left at) x) where
   private-alike : (inside : Bool) → Alike (sinkAt q inside) (exitSink (q .walk) inside)
   private-alike inside = sink-alike (q .walk) (q .tables) (q .below) inside (q .level)
 
   -- a field was walked
   pub fields-turn : {h body next : ℕ} → fieldHead (upTo (q .bytes) (q .end)) left at ≡ head.Go h body next → (y : World) (path′ : List ℕ) (f : Bool)
-      → FieldWalked (place (q .walk) (q .tables) (q .below) (q .level) (q .bytes) next path) index first h body x y path′
+      → FieldWalked (place (q .walk) (q .tables) (q .below) (q .level) (q .bytes) next path) index first h body x₁ y path′
       → f ≡ (first && eqb (next - body) 0) → Fielding q index start x₀ y path′ next (left - 1) f
   fields-turn {h} {body} {next} e y path′ f r ef =
       let n = field-next (q .bytes) (q .end) left at e in
@@ -112,8 +114,9 @@ module _ (q : Place) (index start : ℕ) (x₀ x : World) (path : List ℕ) (at 
             let le : b ≤ q .end = omega arith in
             let here : b ≤ at = let z = v .later in omega arith in
             let g = fields-walk (sinkAt q inside) (exitSink (q .walk) inside) (private-alike inside) (q .bytes) b (q .end) (q .path) le index left at first here e x o in
-            let w : y ≡ played (sinkAt q inside .field index (q .path) first h (inner (q .bytes) body next (o + (body - b)))) x =
-            r .out (o + (body - b)) inside ∙ ap (λ (p : List ℕ). played (sinkAt q inside .field index p first h (inner (q .bytes) body next (o + (body - b)))) x) (v .kept) in
+            let w : y ≡ played (sinkAt q inside .field index (q .path) first h (inner (q .bytes) body next (o + (body - b)))) (padding (fieldPads (upTo (q .bytes) (q .end)) left at) x) =
+            r .out (o + (body - b)) inside
+            ∙ ap₂ (λ (p : List ℕ) (z : World). played (sinkAt q inside .field index p first h (inner (q .bytes) body next (o + (body - b)))) z) (v .kept) took in
             ap₂ (λ (k : Bool) (u : World). finished b (fields (sinkAt q inside) (windowAt q b o) index (q .path) (left - 1) (next - b) k) u) ef w
             ∙ sym (finished-goes b _ _ x _ g)
             ∙ v .same b o inside hb;
@@ -121,28 +124,28 @@ module _ (q : Place) (index start : ℕ) (x₀ x : World) (path : List ℕ) (at 
       }
 
   -- the fields closed
-  pub fields-shut : {n : ℕ} → fieldHead (upTo (q .bytes) (q .end)) left at ≡ head.Closed n → FieldsWalked q index start x₀ x (after.Closed n) path
+  pub fields-shut : {n : ℕ} → fieldHead (upTo (q .bytes) (q .end)) left at ≡ head.Closed n → FieldsWalked q index start x₀ x₁ (after.Closed n) path
   fields-shut {n} e =
       record {
         out = λ b o inside hb.
             let le : b ≤ q .end = omega arith in
             let here : b ≤ at = let z = v .later in omega arith in
             let s = fields-closed (sinkAt q inside) (exitSink (q .walk) inside) (private-alike inside) (q .bytes) b (q .end) (q .path) le index left at first here e x o in
-            finished-shuts b _ x n s ∙ v .same b o inside hb;
+            ap (λ (z : World). ended z (after.Closed n)) took ∙ finished-shuts b _ x _ n s ∙ v .same b o inside hb;
         kept = v .kept;
       }
 
   -- they did not
   pub fields-end : (h : Head) → fieldHead (upTo (q .bytes) (q .end)) left at ≡ h → NotGo h → NotClosed h → (y : World) (path′ : List ℕ)
-      → ((o : ℕ) (inside : Bool) → y ≡ played (fieldsStop (exitSink (q .walk) inside) (q .bytes) (q .end) o path h) x) → path′ ≡ path
+      → ((o : ℕ) (inside : Bool) → y ≡ played (fieldsStop (exitSink (q .walk) inside) (q .bytes) (q .end) o path h) x₁) → path′ ≡ path
       → FieldsWalked q index start x₀ y after.Open path′
   fields-end h e n c y path′ out same =
       record {
         out = λ b o inside hb.
             let le : b ≤ q .end = omega arith in
             let here : b ≤ at = let z = v .later in omega arith in
-            let all : (k : ℕ) → y ≡ played (fieldsStop (exitSink (q .walk) inside) (q .bytes) (q .end) k (q .path) h) x =
-            λ k. out k inside ∙ ap (λ (p : List ℕ). played (fieldsStop (exitSink (q .walk) inside) (q .bytes) (q .end) k p h) x) (v .kept) in
+            let all : (k : ℕ) → y ≡ played (fieldsStop (exitSink (q .walk) inside) (q .bytes) (q .end) k (q .path) h) (padding (fieldPads (upTo (q .bytes) (q .end)) left at) x) =
+            λ k. out k inside ∙ ap₂ (λ (p : List ℕ) (z : World). played (fieldsStop (exitSink (q .walk) inside) (q .bytes) (q .end) k p h) z) (v .kept) took in
             let s = fields-exit (sinkAt q inside) (exitSink (q .walk) inside) (private-alike inside) (q .bytes) b (q .end) (q .path) le index left at first here h e n c x y all o in
             finished-ends b _ x y s ∙ v .same b o inside hb;
         kept = same ∙ v .kept;
@@ -150,9 +153,16 @@ module _ (q : Place) (index start : ℕ) (x₀ x : World) (path : List ℕ) (at 
 
 -- ---- the loop over a level's elements
 
-pub record Leveling (q : Place) (inside : Bool) (start count : ℕ) (x₀ x : World) (path : List ℕ) (at left : ℕ) : Type 0 where
+-- begin: where the first element is due; x₀: the world then
+pub record Leveling (q : Place) (inside : Bool) (start count begin : ℕ) (x₀ x : World) (path : List ℕ) (at left : ℕ) : Type 0 where
   pub later : start ≤ at
-  pub same : (o : ℕ) → played (elements (sinkAt q inside) (windowAt q start o) (q .path) count left (at - start)) x ≡ played (level (sinkAt q inside) (windowAt q start o) (q .path)) x₀
+  pub same : (o : ℕ) → played (elements (sinkAt q inside) (windowAt q start o) (q .path) count left (at - start)) x
+      ≡ played (elements (sinkAt q inside) (windowAt q start o) (q .path) count maxElements (begin - start)) x₀
+  pub kept : path ≡ q .path
+
+-- all elements were walked
+pub record ElementsWalked (q : Place) (inside : Bool) (start count begin : ℕ) (x₀ y : World) (path : List ℕ) : Type 0 where
+  pub out : (o : ℕ) → y ≡ played (elements (sinkAt q inside) (windowAt q start o) (q .path) count maxElements (begin - start)) x₀
   pub kept : path ≡ q .path
 
 -- the first m of the first n
@@ -164,26 +174,38 @@ module _ (q : Place) (inside : Bool) (start : ℕ) (fit : start ≤ q .end) wher
   alike = sink-alike (q .walk) (q .tables) (q .below) inside (q .level)
 
   -- the count ends the level
-  pub level-end : (h : Head) → levelHead (upTo (q .bytes) (q .end)) start ≡ h → NotGo h → (x y : World) (path : List ℕ)
-      → ((o : ℕ) → y ≡ played (levelStop (exitSink (q .walk) inside) (q .bytes) (q .end) o (q .path) h) x) → path ≡ q .path → LevelWalked q inside start x y path
-  level-end h e n x y path out same =
-      record { out = level-exit (sinkAt q inside) (exitSink (q .walk) inside) alike (q .bytes) start (q .end) (q .path) fit h e n x y out; kept = same }
-
-  pub level-begin : {count first m : ℕ} → levelHead (upTo (q .bytes) (q .end)) start ≡ head.Go count first m → (x : World) → Leveling q inside start count x x (q .path) first maxElements
-  level-begin e x =
+  pub level-end : (h : Head) → levelHead (upTo (q .bytes) (q .end)) start ≡ h → NotGo h → (x x₁ y : World) → x₁ ≡ padding (numberPads (upTo (q .bytes) (q .end)) start) x
+      → (path : List ℕ) → ((o : ℕ) → y ≡ played (levelStop (exitSink (q .walk) inside) (q .bytes) (q .end) o (q .path) h) x₁) → path ≡ q .path → LevelWalked q inside start x y path
+  level-end h e n x x₁ y took path out same =
       record {
-        later = let n = level-next (q .bytes) start (q .end) e in n .0;
-        same = λ o. sym (level-walks (sinkAt q inside) (exitSink (q .walk) inside) alike (q .bytes) start (q .end) (q .path) fit e x o);
-        kept = refl;
+        out = level-exit (sinkAt q inside) (exitSink (q .walk) inside) alike (q .bytes) start (q .end) (q .path) fit h e n x y
+            (λ o. out o ∙ ap (played (levelStop (exitSink (q .walk) inside) (q .bytes) (q .end) o (q .path) h)) took);
+        kept = same;
       }
 
-  module _ (count : ℕ) (x₀ x : World) (path : List ℕ) (at left : ℕ) (v : Leveling q inside start count x₀ x path at left) where
+  pub level-begin : {count begin m : ℕ} → levelHead (upTo (q .bytes) (q .end)) start ≡ head.Go count begin m → (x : World) → Leveling q inside start count begin x x (q .path) begin maxElements
+  level-begin e x = record { later = let n = level-next (q .bytes) start (q .end) e in n .0; same = λ o. refl; kept = refl }
+
+  -- behind the count, whose padding was counted then
+  pub level-whole : {count begin m : ℕ} → levelHead (upTo (q .bytes) (q .end)) start ≡ head.Go count begin m → (x x₁ : World) → x₁ ≡ padding (numberPads (upTo (q .bytes) (q .end)) start) x
+      → (y : World) (path : List ℕ) → ElementsWalked q inside start count begin x₁ y path → LevelWalked q inside start x y path
+  level-whole {count} {begin} e x x₁ took y path r =
+      record {
+        out = λ o.
+            r .out o
+            ∙ ap (played (elements (sinkAt q inside) (windowAt q start o) (q .path) count maxElements (begin - start))) took
+            ∙ sym (level-walks (sinkAt q inside) (exitSink (q .walk) inside) alike (q .bytes) start (q .end) (q .path) fit e x o);
+        kept = r .kept;
+      }
+
+  module _ (count begin : ℕ) (x₀ x : World) (path : List ℕ) (at left : ℕ) (v : Leveling q inside start count begin x₀ x path at left) where
     -- the elements end
-    pub elements-end : (h : Head) → elementHead (upTo (q .bytes) (q .end)) count left at ≡ h → NotGo h → (y : World) (path′ : List ℕ)
-        → ((o : ℕ) → y ≡ played (levelStop (exitSink (q .walk) inside) (q .bytes) (q .end) o path h) x) → path′ ≡ path → LevelWalked q inside start x₀ y path′
-    elements-end h e n y path′ out same =
-        let all : (o : ℕ) → y ≡ played (levelStop (exitSink (q .walk) inside) (q .bytes) (q .end) o (q .path) h) x =
-        λ o. out o ∙ ap (λ (p : List ℕ). played (levelStop (exitSink (q .walk) inside) (q .bytes) (q .end) o p h) x) (v .kept) in
+    pub elements-end : (h : Head) → elementHead (upTo (q .bytes) (q .end)) count left at ≡ h → NotGo h → (x₁ y : World)
+        → x₁ ≡ padding (elementPads (upTo (q .bytes) (q .end)) left at) x → (path′ : List ℕ)
+        → ((o : ℕ) → y ≡ played (levelStop (exitSink (q .walk) inside) (q .bytes) (q .end) o path h) x₁) → path′ ≡ path → ElementsWalked q inside start count begin x₀ y path′
+    elements-end h e n x₁ y took path′ out same =
+        let all : (o : ℕ) → y ≡ played (levelStop (exitSink (q .walk) inside) (q .bytes) (q .end) o (q .path) h) (padding (elementPads (upTo (q .bytes) (q .end)) left at) x) =
+        λ o. out o ∙ ap₂ (λ (p : List ℕ) (z : World). played (levelStop (exitSink (q .walk) inside) (q .bytes) (q .end) o p h) z) (v .kept) took in
         record {
           out = λ o. elements-exit (sinkAt q inside) (exitSink (q .walk) inside) alike (q .bytes) start (q .end) (q .path) fit count left at (v .later) h e n x y all o ∙ v .same o;
           kept = same ∙ v .kept;
@@ -191,7 +213,7 @@ module _ (q : Place) (inside : Bool) (start : ℕ) (fit : start ≤ q .end) wher
 
     -- an element was entered with the world x₁ and the path p₁, and its fields left the world y and r
     module _ (i next m : ℕ) (e : elementHead (upTo (q .bytes) (q .end)) count left at ≡ head.Go i next m) (x₁ y : World) (p₁ path′ : List ℕ)
-        (counts : (p : List ℕ) → x₁ ≡ played (element p ∷ []) x) (is : p₁ ≡ itemPath (q .walk) path i) (r : After) (p₂ : List ℕ)
+        (counts : (p : List ℕ) → x₁ ≡ played (element p ∷ []) (padding (elementPads (upTo (q .bytes) (q .end)) left at) x)) (is : p₁ ≡ itemPath (q .walk) path i) (r : After) (p₂ : List ℕ)
         (f : FieldsWalked (place (q .walk) (q .tables) (q .below) (q .level) (q .bytes) (q .end) p₁) i next x₁ y r p₂) (same : path′ ≡ path) where
       later′ : start ≤ next
       later′ = let n = element-next (q .bytes) (q .end) count left at e in let z = v .later in omega arith
@@ -204,7 +226,7 @@ module _ (q : Place) (inside : Bool) (start : ℕ) (fit : start ≤ q .end) wher
       fieldsOf o = fields (sinkAt q inside) (windowAt q start o) i (inItem (sinkAt q inside) (q .path) i) maxFields (next - start) true
 
       abbrev entered : World
-      entered = played (element (inItem (sinkAt q inside) (q .path) i) ∷ []) x
+      entered = played (element (inItem (sinkAt q inside) (q .path) i) ∷ []) (padding (elementPads (upTo (q .bytes) (q .end)) left at) x)
 
       abbrev more : ℕ → ℕ → Trace
       more o k = elements (sinkAt q inside) (windowAt q start o) (q .path) count (left - 1) k
@@ -217,7 +239,7 @@ module _ (q : Place) (inside : Bool) (start : ℕ) (fit : start ≤ q .end) wher
       walked : (o : ℕ) → played (elements (sinkAt q inside) (windowAt q start o) (q .path) count left (at - start)) x ≡ played (behind (more o) (fieldsOf o)) entered
       walked o = elements-walk (sinkAt q inside) (exitSink (q .walk) inside) alike (q .bytes) start (q .end) (q .path) fit count left at (v .later) e x o
 
-      pub elements-turn : (n : ℕ) → r ≡ after.Closed n → Leveling q inside start count x₀ y path′ n (left - 1)
+      pub elements-turn : (n : ℕ) → r ≡ after.Closed n → Leveling q inside start count begin x₀ y path′ n (left - 1)
       elements-turn n er =
           let played-on : (o : ℕ) → ended y (after.Closed n) ≡ finished start (fieldsOf o) entered = λ o. ap (ended y) (sym er) ∙ runs o in
           record {
@@ -226,7 +248,7 @@ module _ (q : Place) (inside : Bool) (start : ℕ) (fit : start ≤ q .end) wher
             kept = same ∙ v .kept;
           }
 
-      pub elements-open : r ≡ after.Open → LevelWalked q inside start x₀ y path′
+      pub elements-open : r ≡ after.Open → ElementsWalked q inside start count begin x₀ y path′
       elements-open er =
           record {
             out = λ o. behind-open start (more o) (fieldsOf o) entered y (ap (ended y) (sym er) ∙ runs o) ∙ sym (walked o) ∙ v .same o;

@@ -73,7 +73,7 @@ pub fn walk_level<'a>(
         (worldOf (now (tally .exit)) (now (records .exit)) (now (paths .exit)) (now (payloads .exit)))
         (take plen (now (path .exit))) ⌝ }
 {
-    let o = level_head(bytes, from, end);
+    let o = level_head(&mut *tally, bytes, from, end);
     let Head::Go {
         value: total,
         body: first,
@@ -98,7 +98,7 @@ pub fn walk_level<'a>(
     let mut at = first;
     let mut left = MAX_ELEMENTS;
     loop {
-        let h = element_head(bytes, end, total, left, at);
+        let h = element_head(&mut *tally, bytes, end, total, left, at);
         let Head::Go {
             value: index,
             body: next,
@@ -183,7 +183,7 @@ fn walk_fields<'a>(
     let mut at = from;
     let mut left = MAX_FIELDS;
     loop {
-        let h = field_head(bytes, end, left, at);
+        let h = field_head(&mut *tally, bytes, end, left, at);
         if let Head::Closed(n) = h {
             return After::Closed(n);
         }

@@ -28,6 +28,7 @@ use Rattle.bitio.specs.declared.BitRead.{BitRead}
 use Rattle.bitio.specs.declared.BitRead.the-variants as B1
 use Rattle.bitio.specs.declared.BitsRead.{BitsRead}
 use Rattle.bitio.specs.declared.BitsRead.the-variants as B
+use Rattle.bitio.specs.declared.PackedNumber.{PackedNumber}
 use Rattle.bitio.specs.declared.PackedRead.{PackedRead}
 use Rattle.bitio.specs.declared.PackedRead.the-variants as P
 use Rattle.bitio.specs.declared.SerializedRead.{SerializedRead}
@@ -247,7 +248,7 @@ module _ (m : ℕ) where
     then-rotation (R.Value x p) next h k = k x p
     then-rotation (R.Refused r) next h k = stops r h
 
-    then-packed : (v : PackedRead) (next : ℕ → ℕ → A) → OnPacked v → ((x p : ℕ) → Q (next x p)) → Q (afterPacked refused v next)
+    then-packed : (v : PackedRead) (next : PackedNumber → ℕ → A) → OnPacked v → ((x : PackedNumber) (p : ℕ) → Q (next x p)) → Q (afterPacked refused v next)
     unfolding afterPacked
     then-packed (P.Value x p) next h k = k x p
     then-packed (P.Refused r) next h k = stops (G.Unread r) h
@@ -265,7 +266,7 @@ module _ (m : ℕ) where
   OnSpin (S.Refused r) = FitsIn r
 
   abbrev OnNumber : OptionalNumberRead → Type 0
-  OnNumber (N.Value f p) = Unit
+  OnNumber (N.Value f p b) = Unit
   OnNumber (N.Refused r) = FitsIn r
 
   abbrev OnExtras : ExtrasRead → Type 0
@@ -305,9 +306,9 @@ module _ (m : ℕ) where
     then-spin (S.Value x p) next h k = k x p
     then-spin (S.Refused r) next h k = stops r h
 
-    then-number : (v : OptionalNumberRead) (next : OptionalNumber → ℕ → A) → OnNumber v → ((x : OptionalNumber) (p : ℕ) → Q (next x p)) → Q (afterOptional refused v next)
+    then-number : (v : OptionalNumberRead) (next : OptionalNumber → ℕ → Bool → A) → OnNumber v → ((x : OptionalNumber) (p : ℕ) (b : Bool) → Q (next x p b)) → Q (afterOptional refused v next)
     unfolding afterOptional
-    then-number (N.Value x p) next h k = k x p
+    then-number (N.Value x p b) next h k = k x p b
     then-number (N.Refused r) next h k = stops r h
 
     then-flags : (v : FlagsRead) (next : Flags → ℕ → A) → OnFlags v → ((x : Flags) (p : ℕ) → Q (next x p)) → Q (afterFlags refused v next)
@@ -329,8 +330,8 @@ module _ (m : ℕ) where
   unfolding extrasAt
   extras s physics frame handle c l =
       then-spin OnExtras X.Refused (λ r h. h) (spinAt s physics c) _ (spin s physics c) (λ x p.
-      then-number OnExtras X.Refused (λ r h. h) (flaggedAt s frame (at c p)) _ (counted s frame (at c p) l) (λ y q.
-      then-number OnExtras X.Refused (λ r h. h) (flaggedAt s handle (at c q)) _ (counted s handle (at c q) l) (λ z o. tt)))
+      then-number OnExtras X.Refused (λ r h. h) (flaggedAt s frame (at c p)) _ (counted s frame (at c p) l) (λ y q b.
+      then-number OnExtras X.Refused (λ r h. h) (flaggedAt s handle (at c q)) _ (counted s handle (at c q) l) (λ z o d. tt)))
 
   movement : (s : List ℕ) (k : RotatorQuantization) (l : VectorQuantization) (c : Cursor) → c .len ≤ m → OnMovement (movementAt s k l c)
   unfolding movementAt

@@ -58,7 +58,7 @@ pub as-said : (n : Numbered) (q : ℕ) {s : B.Saying} {p : ℕ} {a : VrfRead} �
 as-said n q e f h = h ∙ (λ i. refusedAt (e i .number) (e i .first) (e i .second) (e i .third) (f i))
 
 pub walk-said : (a : Answer Room) {s : W.Saying} {k : VrfCounters} → s ≡ refusedRoom a → k ≡ noCounters
-    → record { refusal = s .number; leaves = s .leaves; «path_bytes» = s .«path_bytes»; «payload_bytes» = s .«payload_bytes»; counters = k; verdict = 0 }
+    → record { refusal = s .number; leaves = s .leaves; «path_bytes» = s .«path_bytes»; «payload_bytes» = s .«payload_bytes»; counters = k; verdict = 0; padded = 0 }
     ≡ notWalked a
 walk-said (refused n need) e f =
     λ i. record {
@@ -68,8 +68,9 @@ walk-said (refused n need) e f =
       «payload_bytes» = e i .«payload_bytes»;
       counters = f i;
       verdict = 0;
+      padded = 0;
     }
-walk-said (accepted c need) e f =
+walk-said (accepted c d need) e f =
     λ i. record {
       refusal = e i .number;
       leaves = e i .leaves;
@@ -77,12 +78,13 @@ walk-said (accepted c need) e f =
       «payload_bytes» = e i .«payload_bytes»;
       counters = f i;
       verdict = 0;
+      padded = 0;
     }
 
 pub pairs-said : (a : Answer ℕ) {s : PairSaying} {k : VrfCounters} → s ≡ refusedPairs a → k ≡ noCounters
-    → record { refusal = s .number; pairs = s .pairs; counters = k; verdict = 0 } ≡ noPairs a
-pairs-said (refused n need) e f = λ i. record { refusal = e i .number; pairs = e i .pairs; counters = f i; verdict = 0 }
-pairs-said (accepted c need) e f = λ i. record { refusal = e i .number; pairs = e i .pairs; counters = f i; verdict = 0 }
+    → record { refusal = s .number; pairs = s .pairs; counters = k; verdict = 0; padded = 0 } ≡ noPairs a
+pairs-said (refused n need) e f = λ i. record { refusal = e i .number; pairs = e i .pairs; counters = f i; verdict = 0; padded = 0 }
+pairs-said (accepted c d need) e f = λ i. record { refusal = e i .number; pairs = e i .pairs; counters = f i; verdict = 0; padded = 0 }
 
 module _ {a : Merged} {s : ArrayDecodeStats} {n : ℕ} {k : VrfCounters} (number : n ≡ refusedSum (sumsOf a)) (counts : k ≡ countersOut (countersOf s)) where
   pub sum-said : a ≡ merged.Sum s → record { refusal = n; counters = k } ≡ mergeResult (sumsOf a)
@@ -113,14 +115,15 @@ read-as f g {c} e h s = s ∙ ap (f (c .pos)) h ∙ ap (λ (x : Cursor). f (x .p
 -- ---- walks
 
 walk-says : (k : Walker) (bits : ℕ) (a : StructArray) → Judged k bits a → walkOf a ≡ walkResult k bits (answerOf a)
-walk-says k bits (structs.Decoded s v e) j =
+walk-says k bits (structs.Decoded s v e d) j =
     λ i. record {
       refusal = 0;
       leaves = e .leaves;
       «path_bytes» = e .«path_bytes»;
       «payload_bytes» = e .«payload_bytes»;
-      counters = walkOf (structs.Decoded s v e) .counters;
+      counters = walkOf (structs.Decoded s v e d) .counters;
       verdict = verdictNumber (j i);
+      padded = d;
     }
 walk-says k bits structs.TooLong j = refl
 walk-says k bits structs.BrokenTables j = refl
@@ -138,8 +141,8 @@ walks-as c b {a} d h =
     }
 
 pairs-say : (bits : ℕ) (a : ObjectArray) → PairsJudged bits a → objectsOf a ≡ objectsResult bits (pairsOf a)
-pairs-say bits (objects.Decoded s v n) j =
-    λ i. record { refusal = 0; pairs = n; counters = objectsOf (objects.Decoded s v n) .counters; verdict = verdictNumber (j i) }
+pairs-say bits (objects.Decoded s v n d) j =
+    λ i. record { refusal = 0; pairs = n; counters = objectsOf (objects.Decoded s v n d) .counters; verdict = verdictNumber (j i); padded = d }
 pairs-say bits objects.TooLong j = refl
 pairs-say bits (objects.Short n) j = refl
 

@@ -19,6 +19,7 @@ use Rattle.exports.specs.declared.VrfCounters.{VrfCounters}
 use Rattle.exports.specs.declared.VrfCursor.{VrfCursor}
 use Rattle.exports.specs.declared.VrfMerge.{VrfMerge}
 use Rattle.exports.specs.declared.VrfMovement.{VrfMovement}
+use Rattle.exports.specs.declared.VrfPacked.{VrfPacked}
 use Rattle.exports.specs.declared.VrfRead.{VrfRead}
 use Rattle.exports.specs.declared.VrfRotation.{VrfRotation}
 use Rattle.exports.specs.declared.VrfSchema.{VrfSchema}
@@ -44,7 +45,7 @@ FillsForC rows names r endRows endNames =
 abbrev pub vrfReadBits : List ℕ → VrfCursor → (count : ℕ) → VrfRead
 vrfReadBits bytes cursor count = bitsResult (cursor .pos) (readBits bytes (cursorOf cursor) count)
 
-abbrev pub vrfReadPacked : List ℕ → VrfCursor → VrfRead
+abbrev pub vrfReadPacked : List ℕ → VrfCursor → VrfPacked
 vrfReadPacked bytes cursor = packedResult (cursor .pos) (readIntPacked bytes (cursorOf cursor))
 
 abbrev pub vrfReadSerialized : List ℕ → VrfCursor → (maximum : ℕ) → VrfRead

@@ -111,6 +111,7 @@ movedResult m used =
       frame = presentOf (m .frame);
       handle = presentOf (m .handle);
       position = used;
+      padded = m .padded;
     }
 
 abbrev pub unmovedResult : VrfRead → VrfMovement
@@ -129,6 +130,7 @@ unmovedResult r =
       frame = absentNumber;
       handle = absentNumber;
       position = r .position;
+      padded = 0;
     }
 
 abbrev pub movementResult : MovementRead → VrfMovement

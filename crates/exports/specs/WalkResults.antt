@@ -67,16 +67,16 @@ verdictNumber empty = 2
 
 abbrev pub refusedWalk : (number leaves pathBytes payloadBytes : ℕ) → VrfWalk
 refusedWalk n l p y =
-    record { refusal = n; leaves = l; «path_bytes» = p; «payload_bytes» = y; counters = noCounters; verdict = 0 }
+    record { refusal = n; leaves = l; «path_bytes» = p; «payload_bytes» = y; counters = noCounters; verdict = 0; padded = 0 }
 
-abbrev pub acceptedWalk : Counters → Verdict → (leaves pathBytes payloadBytes : ℕ) → VrfWalk
-acceptedWalk c v l p y =
-    record { refusal = 0; leaves = l; «path_bytes» = p; «payload_bytes» = y; counters = countersOut c; verdict = verdictNumber v }
+abbrev pub acceptedWalk : Counters → (padded : ℕ) → Verdict → (leaves pathBytes payloadBytes : ℕ) → VrfWalk
+acceptedWalk c d v l p y =
+    record { refusal = 0; leaves = l; «path_bytes» = p; «payload_bytes» = y; counters = countersOut c; verdict = verdictNumber v; padded = d }
 
 -- the struct for an answer of such a walk
 abbrev pub walkResult : Walker → (bits : ℕ) → Answer Room → VrfWalk
 walkResult k bits (refused n need) = refusedWalk n (need .leaves) (need .pathBytes) (need .payloadBytes)
-walkResult k bits (accepted c need) = acceptedWalk c (verdictOf k bits c) (need .leaves) (need .pathBytes) (need .payloadBytes)
+walkResult k bits (accepted c d need) = acceptedWalk c d (verdictOf k bits c) (need .leaves) (need .pathBytes) (need .payloadBytes)
 
 -- what the struct of an accepted walk says that it filled
 abbrev pub filledIn : VrfWalk → Room
@@ -90,11 +90,11 @@ pub record Walks (c : Call) (b : Lent) (r : VrfWalk) (end : Lent) : Type 0 where
 -- the struct of a refusal, whose number and values an answer of `array` stands for; never asked of an accepted one
 abbrev pub notWalked : Answer Room → VrfWalk
 notWalked (refused n need) = refusedWalk n (need .leaves) (need .pathBytes) (need .payloadBytes)
-notWalked (accepted c need) = refusedWalk 0 0 0 0
+notWalked (accepted c d need) = refusedWalk 0 0 0 0
 
 -- the same struct, from the answer of `array`
 abbrev pub walkOf : StructArray → VrfWalk
-walkOf (structs.Decoded s v e) = acceptedWalk (countersOf s) (verdictIs v) (e .leaves) (e .«path_bytes») (e .«payload_bytes»)
+walkOf (structs.Decoded s v e d) = acceptedWalk (countersOf s) d (verdictIs v) (e .leaves) (e .«path_bytes») (e .«payload_bytes»)
 walkOf structs.TooLong = notWalked (answerOf structs.TooLong)
 walkOf structs.BrokenTables = notWalked (answerOf structs.BrokenTables)
 walkOf (structs.Short e) = notWalked (answerOf (structs.Short e))
@@ -102,14 +102,14 @@ walkOf (structs.Short e) = notWalked (answerOf (structs.Short e))
 -- ---- the object walk
 
 abbrev pub refusedObjects : (number pairs : ℕ) → VrfObjects
-refusedObjects n p = record { refusal = n; pairs = p; counters = noCounters; verdict = 0 }
+refusedObjects n p = record { refusal = n; pairs = p; counters = noCounters; verdict = 0; padded = 0 }
 
-abbrev pub acceptedObjects : Counters → Verdict → (pairs : ℕ) → VrfObjects
-acceptedObjects c v p = record { refusal = 0; pairs = p; counters = countersOut c; verdict = verdictNumber v }
+abbrev pub acceptedObjects : Counters → (padded : ℕ) → Verdict → (pairs : ℕ) → VrfObjects
+acceptedObjects c d v p = record { refusal = 0; pairs = p; counters = countersOut c; verdict = verdictNumber v; padded = d }
 
 abbrev pub objectsResult : (bits : ℕ) → Answer ℕ → VrfObjects
 objectsResult bits (refused n need) = refusedObjects n need
-objectsResult bits (accepted c need) = acceptedObjects c (verdictOf object bits c) need
+objectsResult bits (accepted c d need) = acceptedObjects c d (verdictOf object bits c) need
 
 pub record WalksPairs (bytes : List ℕ) (bits : ℕ) (b : List ℕ) (r : VrfObjects) (end : List ℕ) : Type 0 where
   pub says : r ≡ objectsResult bits (pairAnswer bytes bits b)
@@ -118,10 +118,10 @@ pub record WalksPairs (bytes : List ℕ) (bits : ℕ) (b : List ℕ) (r : VrfObj
 -- never asked of an accepted one
 abbrev pub noPairs : Answer ℕ → VrfObjects
 noPairs (refused n need) = refusedObjects n need
-noPairs (accepted c need) = refusedObjects 0 0
+noPairs (accepted c d need) = refusedObjects 0 0
 
 abbrev pub objectsOf : ObjectArray → VrfObjects
-objectsOf (objects.Decoded s v n) = acceptedObjects (countersOf s) (verdictIs v) n
+objectsOf (objects.Decoded s v n d) = acceptedObjects (countersOf s) d (verdictIs v) n
 objectsOf objects.TooLong = noPairs (pairsOf objects.TooLong)
 objectsOf (objects.Short n) = noPairs (pairsOf (objects.Short n))
 
@@ -149,7 +149,7 @@ unfoldable pub modeOf : ℕ → ChecksumMode
 modeOf n = if eqb n 0 then Absent else Present
 
 abbrev pub refusedBody : (number deletes items fields : ℕ) → VrfFastArray
-refusedBody n d i f = record { refusal = n; deletes = d; items = i; fields = f; key = pos 0; base = pos 0; used = 0 }
+refusedBody n d i f = record { refusal = n; deletes = d; items = i; fields = f; key = pos 0; base = pos 0; used = 0; padded = 0 }
 
 -- never asked where there is no refusal
 abbrev pub noBody : Option Numbered → VrfFastArray
@@ -158,7 +158,16 @@ noBody (some n) = refusedBody (n .number) (n .first) (n .second) (n .third)
 
 abbrev pub bodyResult : FastArray → VrfFastArray
 bodyResult (body.Decoded d) =
-    record { refusal = 0; deletes = d .deletes; items = d .changes; fields = d .fields; key = d .key; base = d .base; used = d .used }
+    record {
+      refusal = 0;
+      deletes = d .deletes;
+      items = d .changes;
+      fields = d .fields;
+      key = d .key;
+      base = d .base;
+      used = d .used;
+      padded = d .padded;
+    }
 bodyResult body.TooLong = noBody (numbered body.TooLong)
 bodyResult body.NotFastArray = noBody (numbered body.NotFastArray)
 bodyResult (body.Short d i f) = noBody (numbered (body.Short d i f))

@@ -1,12 +1,14 @@
 // Cursors from C, and answers of the bit reader as structs for C.
 ghost use mathlib.Core.Path.{_≡_};
 ghost use Rattle.bitio.specs.Refusals.{numbered, standsAfter};
-ghost use Rattle.exports.specs.ReadResults.{cursorOf, readValue, refusedAt, refusedRead, bitsResult, packedResult, serializedResult, copyResult};
+ghost use Rattle.exports.specs.ReadResults.{cursorOf, readValue, refusedAt, refusedRead, bitsResult, packedValue, noPacked, packedResult, serializedResult, copyResult};
 use crate::VrfCursor;
+use crate::VrfPacked;
 use crate::VrfRead;
 use bitio::BitsRead;
 use bitio::Copied;
 use bitio::Cursor;
+use bitio::PackedNumber;
 use bitio::PackedRead;
 use bitio::Refusal;
 use bitio::SerializedRead;
@@ -69,12 +71,46 @@ pub fn bits_of(a: BitsRead, at: u64) -> VrfRead
     }
 }
 
-pub fn packed_of(a: PackedRead, at: u64) -> VrfRead
+fn packed_value(x: PackedNumber, position: u64) -> VrfPacked
+    ensures { λ r. ⌜ r ≡ packedValue x position ⌝ }
+{
+    let value = x.value as u64;
+    VrfPacked {
+        refusal: 0,
+        first: 0,
+        second: 0,
+        third: 0,
+        value,
+        position,
+        bytes: x.bytes,
+        padded: x.padded,
+    }
+}
+
+fn no_packed(unread: VrfRead) -> VrfPacked
+    ensures { λ r. ⌜ r ≡ noPacked unread ⌝ }
+{
+    VrfPacked {
+        refusal: unread.refusal,
+        first: unread.first,
+        second: unread.second,
+        third: unread.third,
+        value: 0,
+        position: unread.position,
+        bytes: 0,
+        padded: false,
+    }
+}
+
+pub fn packed_of(a: PackedRead, at: u64) -> VrfPacked
     ensures { λ r. ⌜ r ≡ packedResult at a ⌝ }
 {
     match a {
-        PackedRead::Value(value, next) => read_value(value as u64, next),
-        PackedRead::Refused(r) => refused(r, at),
+        PackedRead::Value(x, next) => packed_value(x, next),
+        PackedRead::Refused(r) => {
+            let unread = refused(r, at);
+            no_packed(unread)
+        }
     }
 }
 

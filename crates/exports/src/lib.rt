@@ -31,7 +31,7 @@ pub struct VrfCounters {
 }
 
 // A struct or exact walk: what it fills of each output, or with refusal 3 what it needs. The verdict is 0 clean, 1 partial, 2
-// empty: nothing was sent.
+// empty: nothing was sent. Padded: how many of the packed numbers that were read have a shorter form.
 #[repr(C)]
 pub struct VrfWalk {
     pub refusal: u32,
@@ -40,6 +40,7 @@ pub struct VrfWalk {
     pub payload_bytes: u32,
     pub counters: VrfCounters,
     pub verdict: u32,
+    pub padded: u32,
 }
 
 // An object walk: the same, of pairs. Its verdict is never empty: of no bits it is partial.
@@ -49,6 +50,7 @@ pub struct VrfObjects {
     pub pairs: u32,
     pub counters: VrfCounters,
     pub verdict: u32,
+    pub padded: u32,
 }
 
 // Two walks' counters added up, or with refusal 4 the left ones.
@@ -67,7 +69,8 @@ pub struct VrfSchema {
     pub levels: u32,
 }
 
-// A fast-array body: what it fills of each output, or with refusal 3 what it needs; its keys, and the bits used.
+// A fast-array body: what it fills of each output, or with refusal 3 what it needs; its keys, the bits used, and the padded ones among its
+// packed numbers.
 #[repr(C)]
 pub struct VrfFastArray {
     pub refusal: u32,
@@ -77,6 +80,7 @@ pub struct VrfFastArray {
     pub key: i32,
     pub base: i32,
     pub used: u32,
+    pub padded: u32,
 }
 
 // A cursor: its window's first bit, the next bit of the window, the window's length.
@@ -96,6 +100,19 @@ pub struct VrfRead {
     pub third: u64,
     pub value: u64,
     pub position: u64,
+}
+
+// A packed number, with the bytes that it took, and whether fewer would do; refused, these are 0 and false.
+#[repr(C)]
+pub struct VrfPacked {
+    pub refusal: u32,
+    pub first: u64,
+    pub second: u64,
+    pub third: u64,
+    pub value: u64,
+    pub position: u64,
+    pub bytes: u32,
+    pub padded: bool,
 }
 
 #[repr(C)]
@@ -162,6 +179,7 @@ pub struct VrfMovement {
     pub frame: VrfNumber,
     pub handle: VrfNumber,
     pub position: u64,
+    pub padded: u32,
 }
 
 // ---- walks
@@ -300,7 +318,7 @@ pub extern "C" fn vrf_read_bits(bytes: &[u8], cursor: VrfCursor, count: u64) -> 
 }
 
 #[no_mangle]
-pub extern "C" fn vrf_read_packed(bytes: &[u8], cursor: VrfCursor) -> VrfRead
+pub extern "C" fn vrf_read_packed(bytes: &[u8], cursor: VrfCursor) -> VrfPacked
     ensures { λ r. ⌜ r ≡ vrfReadPacked (now (bytes .entry)) cursor ⌝ }
 {
     let c = cursors::cursor_of(cursor);

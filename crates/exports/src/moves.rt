@@ -236,6 +236,7 @@ fn moved(m: Movement, used: u64) -> VrfMovement
         frame,
         handle,
         position: used,
+        padded: m.padded,
     }
 }
 
@@ -262,6 +263,7 @@ fn unmoved(unread: VrfRead) -> VrfMovement
         frame,
         handle,
         position: unread.position,
+        padded: 0,
     }
 }
 

@@ -95,6 +95,7 @@ fn not_walked(a: StructArray) -> VrfWalk
         payload_bytes: told.payload_bytes,
         counters,
         verdict: NO_VERDICT,
+        padded: 0,
     }
 }
 
@@ -102,7 +103,7 @@ pub fn walk_of(a: StructArray) -> VrfWalk
     ensures { λ r. ⌜ r ≡ walkOf a ⌝ }
 {
     match a {
-        StructArray::Decoded(stats, judged, extent) => {
+        StructArray::Decoded(stats, judged, extent, padded) => {
             let counters = counters_of(stats);
             let verdict = verdict_number(judged);
             VrfWalk {
@@ -112,6 +113,7 @@ pub fn walk_of(a: StructArray) -> VrfWalk
                 payload_bytes: extent.payload_bytes,
                 counters,
                 verdict,
+                padded,
             }
         }
         StructArray::TooLong => not_walked(a),
@@ -131,6 +133,7 @@ fn no_pairs(a: ObjectArray) -> VrfObjects
         pairs: told.pairs,
         counters,
         verdict: NO_VERDICT,
+        padded: 0,
     }
 }
 
@@ -138,7 +141,7 @@ pub fn objects_of(a: ObjectArray) -> VrfObjects
     ensures { λ r. ⌜ r ≡ objectsOf a ⌝ }
 {
     match a {
-        ObjectArray::Decoded(stats, judged, pairs) => {
+        ObjectArray::Decoded(stats, judged, pairs, padded) => {
             let counters = counters_of(stats);
             let verdict = verdict_number(judged);
             VrfObjects {
@@ -146,6 +149,7 @@ pub fn objects_of(a: ObjectArray) -> VrfObjects
                 pairs,
                 counters,
                 verdict,
+                padded,
             }
         }
         ObjectArray::TooLong => no_pairs(a),
@@ -221,6 +225,7 @@ fn no_body(a: FastArray) -> VrfFastArray
         key: 0,
         base: 0,
         used: 0,
+        padded: 0,
     }
 }
 
@@ -236,6 +241,7 @@ pub fn fast_array_of(a: FastArray) -> VrfFastArray
             key: delta.key,
             base: delta.base,
             used: delta.used,
+            padded: delta.padded,
         },
         FastArray::TooLong => no_body(a),
         FastArray::NotFastArray => no_body(a),

@@ -10,12 +10,14 @@ use lib.ListN.{length}
 use lib.Dec.{leb, eqb}
 use borrow.Author.Tests.{leb-true}
 use Rattle.bits.specs.Packed.{Number}
+use Rattle.bits.specs.Padded.{paddedAmong}
 use Rattle.bits.specs.Runs.{store}
+use Rattle.bits.proofs.PaddedLaws.{among-append}
 use Rattle.bits.proofs.Never.{never}
 use Rattle.fastarray.specs.Body.{numberEnd, packedAt, Lead, breaks, closes, opens, leadWidth, leadHandle, leadAt, rawField, Stream, closingStream, before, withField, onLead, fieldsFrom, fieldsAt}
 use Rattle.fastarray.specs.Records.{fieldRecord, storeAll}
 use Rattle.fastarray.specs.Parts.{headOf, fieldsReadOf, FieldsStored}
-use Rattle.fastarray.proofs.ReadLaws.{number-within}
+use Rattle.fastarray.proofs.ReadLaws.{number-within, one-at-most, two-at-most}
 use Rattle.fastarray.specs.declared.FieldHead.the-variants as H
 use Rattle.fastarray.specs.declared.FieldsRead.the-variants as F
 
@@ -52,62 +54,72 @@ lead-within W len p = handle-within W len p (packedAt W len p) (λ h e. number-w
 
 -- ---- what the code saw there
 
-head-breaks : (l : Lead) → headOf l ≡ H.Broken → l ≡ breaks
+head-breaks : (l : Lead) (b : ℕ) → headOf b l ≡ H.Broken → l ≡ breaks
 unfolding headOf
-head-breaks breaks e = refl
-head-breaks (closes h) e = let z : _≡_ {A = ℕ} 0 1 = cc in never z
-head-breaks (opens h w) e = let z : _≡_ {A = ℕ} 0 1 = cc in never z
+head-breaks breaks b e = refl
+head-breaks (closes h) b e = let z : _≡_ {A = ℕ} 0 1 = cc in never z
+head-breaks (opens h w) b e = let z : _≡_ {A = ℕ} 0 1 = cc in never z
 
-record ClosesAs (l : Lead) (q : ℕ) : Type 0 where
+record ClosesAs (l : Lead) (b q c : ℕ) : Type 0 where
   pub handle : Number
   pub is : l ≡ closes handle
   pub behind-is : numberEnd handle ≡ q
+  pub padded-is : b + paddedAmong (handle ∷ []) ≡ c
 
-closes-as : (l : Lead) (q : ℕ) → headOf l ≡ H.Closes q → ClosesAs l q
+closes-as : (l : Lead) (b q c : ℕ) → headOf b l ≡ H.Closes q c → ClosesAs l b q c
 unfolding headOf
-closes-as breaks q e = let z : _≡_ {A = ℕ} 0 1 = cc in never z
-closes-as (closes h) q e = record { handle = h; is = refl; behind-is = cc }
-closes-as (opens h w) q e = let z : _≡_ {A = ℕ} 0 1 = cc in never z
+closes-as breaks b q c e = let z : _≡_ {A = ℕ} 0 1 = cc in never z
+closes-as (closes h) b q c e = record { handle = h; is = refl; behind-is = cc; padded-is = cc }
+closes-as (opens h w) b q c e = let z : _≡_ {A = ℕ} 0 1 = cc in never z
 
-record OpensAs (l : Lead) (h o w : ℕ) : Type 0 where
+record OpensAs (l : Lead) (b h o w c : ℕ) : Type 0 where
   pub handle : Number
   pub width : Number
   pub is : l ≡ opens handle width
   pub handle-is : handle .value - 1 ≡ h
   pub offset-is : numberEnd width ≡ o
   pub width-is : width .value ≡ w
+  pub padded-is : b + paddedAmong (handle ∷ width ∷ []) ≡ c
 
-opens-as : (l : Lead) (h o w : ℕ) → headOf l ≡ H.Opens h o w → OpensAs l h o w
+opens-as : (l : Lead) (b h o w c : ℕ) → headOf b l ≡ H.Opens h o w c → OpensAs l b h o w c
 unfolding headOf
-opens-as breaks h o w e = let z : _≡_ {A = ℕ} 0 1 = cc in never z
-opens-as (closes x) h o w e = let z : _≡_ {A = ℕ} 0 1 = cc in never z
-opens-as (opens x y) h o w e = record { handle = x; width = y; is = refl; handle-is = cc; offset-is = cc; width-is = cc }
+opens-as breaks b h o w c e = let z : _≡_ {A = ℕ} 0 1 = cc in never z
+opens-as (closes x) b h o w c e = let z : _≡_ {A = ℕ} 0 1 = cc in never z
+opens-as (opens x y) b h o w c e = record { handle = x; width = y; is = refl; handle-is = cc; offset-is = cc; width-is = cc; padded-is = cc }
 
-module _ (W len p : ℕ) where
-  pub closes-within : (q : ℕ) → headOf (leadAt W len p) ≡ H.Closes q → (p + 8 ≤ q) × (q ≤ len)
-  closes-within q e =
-      let t = closes-as _ q e in
+module _ (b W len p : ℕ) where
+  closes-within : (q c : ℕ) → headOf b (leadAt W len p) ≡ H.Closes q c → (p + 8 ≤ q) × (q ≤ len)
+  closes-within q c e =
+      let t = closes-as _ b q c e in
       let i = t .is in
-      let b = t .behind-is in
+      let d = t .behind-is in
       let k : Within len p (closes (t .handle)) = subst (Within len p) i (lead-within W len p) in
       omega arith
 
-  pub opens-within : (h o w : ℕ) → headOf (leadAt W len p) ≡ H.Opens h o w → (p + 16 ≤ o) × (o + w ≤ len)
-  opens-within h o w e =
-      let t = opens-as _ h o w e in
+  pub opens-within : (h o w c : ℕ) → headOf b (leadAt W len p) ≡ H.Opens h o w c → (p + 16 ≤ o) × (o + w ≤ len) × (c ≤ b + 2)
+  opens-within h o w c e =
+      let t = opens-as _ b h o w c e in
       let b₁ = t .offset-is in
       let b₂ = t .width-is in
+      let n = t .padded-is in
+      let l = two-at-most (t .handle) (t .width) in
       let k : Within len p (opens (t .handle) (t .width)) = subst (Within len p) (t .is) (lead-within W len p) in
       omega arith
 
--- ---- fields: a stream takes 8 bits at least, and 16 more for each field
+-- ---- fields: a stream takes 8 bits at least, and 16 more for each field; so each padded number has 8 bits, too
 
 pub record Lying (len p : ℕ) (r : Stream) : Type 0 where
   pub takes : p + 8 + 16 * length (r .fields) ≤ r .next
+  pub counts : p + 8 * paddedAmong (r .numbers) ≤ r .next
   pub within : r .next ≤ len
 
 one-more : (len p : ℕ) (h w : Number) (r : Stream) → p + 16 ≤ numberEnd w → Lying len (numberEnd w + w .value) r → Lying len p (before h w r)
-one-more len p h w r k l = record { takes = omega (arith, l .takes); within = l .within }
+one-more len p h w r k l =
+    record {
+      takes = omega (arith, l .takes);
+      counts = omega (arith, l .counts, among-append (h ∷ w ∷ []) (r .numbers), two-at-most h w);
+      within = l .within;
+    }
 
 with-lies : (len p : ℕ) (h w : Number) (o : Option Stream) (r : Stream) → p + 16 ≤ numberEnd w
     → ((st : Stream) → o ≡ some st → Lying len (numberEnd w + w .value) st) → withField h w o ≡ some r → Lying len p r
@@ -123,7 +135,7 @@ unfolding onLead
 on-lies len p breaks rest r k f e = let z : _≡_ {A = ℕ} 0 1 = cc in never z
 on-lies len p (closes h) rest r k f e =
     let q : closingStream h ≡ r = cc in
-    subst (Lying len p) q (record { takes = omega (arith, k .0); within = k .1 })
+    subst (Lying len p) q (record { takes = omega (arith, k .0); counts = omega (arith, k .0, one-at-most h); within = k .1 })
 on-lies len p (opens h w) rest r k f e =
     with-lies len p h w (rest (numberEnd w + w .value)) r (k .0) (λ st s. f (numberEnd w + w .value) st s) e
 
@@ -155,15 +167,16 @@ fields-enough (suc most) zero W len p h k = no-bits W len p _ (leadAt W len p) (
 fields-enough (suc most) (suc more) W len p h k =
     same-rest len p _ _ (leadAt W len p) (lead-within W len p) (λ q l. fields-enough most more W len q (omega arith) (omega arith))
 
--- ---- the reading of an item's fields, which started at bit `at` behind `slot` others, now at bit pos behind n others
+-- ---- the reading of an item's fields, which started at bit `at` behind `slot` others and `padded` padded numbers, now at bit pos behind n and c
 
-pub record Reading (W end at slot : ℕ) (d₀ d : List ℕ) (pos n : ℕ) : Type 0 where
+pub record Reading (W end at slot padded : ℕ) (d₀ d : List ℕ) (pos n c : ℕ) : Type 0 where
   pub most : ℕ
   pub enough : end - pos ≤ most
   pub within : pos ≤ end
   pub slots : n ≤ pos
+  pub counts : c ≤ pos
   pub same : length d ≡ length d₀
-  pub says : fieldsReadOf n (fieldsFrom most W end pos) ≡ fieldsReadOf slot (fieldsAt W end at)
+  pub says : fieldsReadOf n c (fieldsFrom most W end pos) ≡ fieldsReadOf slot padded (fieldsAt W end at)
   pub stores : (e : List ℕ) → FieldsStored (fieldsFrom most W end pos) d n e → FieldsStored (fieldsAt W end at) d₀ slot e
 
 from-lead : (most W len p : ℕ) (l : Lead) → 0 < most → leadAt W len p ≡ l
@@ -180,10 +193,15 @@ from-breaks zero W len p e = refl
 from-breaks (suc most) W len p e = ap (λ (x : Lead). onLead x (λ q. fieldsFrom most W len q)) e
 
 -- one field more, in what is said and in what is stored
-said-more : (n : ℕ) (h w : Number) (o : Option Stream) → fieldsReadOf (n + 1) o ≡ fieldsReadOf n (withField h w o)
+said-more : (n b c : ℕ) (h w : Number) (o : Option Stream) → b + paddedAmong (h ∷ w ∷ []) ≡ c
+    → fieldsReadOf (n + 1) c o ≡ fieldsReadOf n b (withField h w o)
 unfolding fieldsReadOf withField
-said-more n h w none = refl
-said-more n h w (some r) = ap (λ (k : ℕ). F.Read k (r .next)) (let e : n + 1 + length (r .fields) ≡ n + suc (length (r .fields)) = omega arith in e)
+said-more n b c h w none q = refl
+said-more n b c h w (some r) q =
+    let l = among-append (h ∷ w ∷ []) (r .numbers) in
+    let e : n + 1 + length (r .fields) ≡ n + suc (length (r .fields)) = omega arith in
+    let f : c + paddedAmong (r .numbers) ≡ b + paddedAmong (h ∷ w ∷ r .numbers) = omega arith in
+    ap₂ (λ (j k : ℕ). F.Read j (r .next) k) e f
 
 stored-more : (n : ℕ) (h w : Number) (o : Option Stream) (d e : List ℕ)
     → FieldsStored o (store d (3 * n) (fieldRecord (rawField h w))) (n + 1) e → FieldsStored (withField h w o) d n e
@@ -194,47 +212,51 @@ stored-more n h w (some r) d e s =
     ∙ ap (λ (k : ℕ). storeAll fieldRecord (store d (3 * n) (fieldRecord (rawField h w))) k (r .fields))
     (let q : 3 * (n + 1) ≡ 3 * n + 3 = omega arith in q)
 
-module _ (W end at slot : ℕ) (d₀ : List ℕ) where
-  pub starts : at ≤ end → slot ≤ at → Reading W end at slot d₀ d₀ at slot
-  starts h k =
+module _ (W end at slot padded : ℕ) (d₀ : List ℕ) where
+  pub starts : at ≤ end → slot ≤ at → padded ≤ at → Reading W end at slot padded d₀ d₀ at slot padded
+  starts h k l =
       record {
         most = end - at;
         enough = omega arith;
         within = h;
         slots = k;
+        counts = l;
         same = refl;
         says = refl;
         stores = λ e s. s;
       }
 
-  module _ (d : List ℕ) (pos n : ℕ) (v : Reading W end at slot d₀ d pos n) where
-    pub read-broken : headOf (leadAt W end pos) ≡ H.Broken
-        → (F.Broken ≡ fieldsReadOf slot (fieldsAt W end at)) × FieldsStored (fieldsAt W end at) d₀ slot d
+  module _ (d : List ℕ) (pos n c : ℕ) (v : Reading W end at slot padded d₀ d pos n c) where
+    pub read-broken : headOf c (leadAt W end pos) ≡ H.Broken
+        → (F.Broken ≡ fieldsReadOf slot padded (fieldsAt W end at)) × FieldsStored (fieldsAt W end at) d₀ slot d
     unfolding fieldsReadOf FieldsStored
     read-broken e =
-        let f : fieldsFrom (v .most) W end pos ≡ none = from-breaks (v .most) W end pos (head-breaks _ e) in (
-          sym (ap (fieldsReadOf n) f) ∙ v .says,
+        let f : fieldsFrom (v .most) W end pos ≡ none = from-breaks (v .most) W end pos (head-breaks _ c e) in (
+          sym (ap (fieldsReadOf n c) f) ∙ v .says,
           v .stores d (subst (λ (o : Option Stream). FieldsStored o d n d) (sym f) tt),
         )
 
-    pub read-closed : (q : ℕ) → headOf (leadAt W end pos) ≡ H.Closes q
-        → (F.Read n q ≡ fieldsReadOf slot (fieldsAt W end at)) × FieldsStored (fieldsAt W end at) d₀ slot d
+    pub read-closed : (q a : ℕ) → headOf c (leadAt W end pos) ≡ H.Closes q a
+        → (F.Read n q a ≡ fieldsReadOf slot padded (fieldsAt W end at)) × FieldsStored (fieldsAt W end at) d₀ slot d
     unfolding fieldsReadOf FieldsStored onLead storeAll
-    read-closed q e =
-        let t = closes-as _ q e in
-        let k = closes-within W end pos q e in
+    read-closed q a e =
+        let t = closes-as _ c q a e in
+        let k = closes-within c W end pos q a e in
         let m : 0 < v .most = omega (arith, v .enough) in
         let f : fieldsFrom (v .most) W end pos ≡ some (closingStream (t .handle)) = from-lead (v .most) W end pos (closes (t .handle)) m (t .is) in (
-          ap₂ F.Read (sym (add-zero n)) (sym (t .behind-is)) ∙ sym (ap (fieldsReadOf n) f) ∙ v .says,
+          ap₂ (λ (x y : ℕ). F.Read x y a) (sym (add-zero n)) (sym (t .behind-is))
+              ∙ sym (ap (F.Read (n + 0) (numberEnd (t .handle))) (t .padded-is))
+              ∙ sym (ap (fieldsReadOf n c) f)
+              ∙ v .says,
           v .stores d (subst (λ (o : Option Stream). FieldsStored o d n d) (sym f) refl),
         )
 
-    pub read-opened : (h o w : ℕ) (d′ : List ℕ) → headOf (leadAt W end pos) ≡ H.Opens h o w → d′ ≡ store d (3 * n) (h ∷ o ∷ w ∷ []) → length d′ ≡ length d
-        → Reading W end at slot d₀ d′ (o + w) (n + 1)
+    pub read-opened : (h o w a : ℕ) (d′ : List ℕ) → headOf c (leadAt W end pos) ≡ H.Opens h o w a → d′ ≡ store d (3 * n) (h ∷ o ∷ w ∷ []) → length d′ ≡ length d
+        → Reading W end at slot padded d₀ d′ (o + w) (n + 1) a
     unfolding onLead
-    read-opened h o w d′ e s l =
-        let t = opens-as _ h o w e in
-        let k = opens-within W end pos h o w e in
+    read-opened h o w a d′ e s l =
+        let t = opens-as _ c h o w a e in
+        let k = opens-within c W end pos h o w a e in
         let x = t .handle in
         let y = t .width in
         let next : numberEnd y + y .value ≡ o + w = ap₂ (λ (a b : ℕ). a + b) (t .offset-is) (t .width-is) in
@@ -248,8 +270,9 @@ module _ (W end at slot : ℕ) (d₀ : List ℕ) where
           enough = omega (arith, v .enough);
           within = k .1;
           slots = omega (arith, v .slots);
+          counts = omega (arith, v .counts);
           same = l ∙ v .same;
-          says = said-more n x y (fieldsFrom (v .most - 1) W end (o + w)) ∙ sym (ap (fieldsReadOf n) f) ∙ v .says;
+          says = said-more n c a x y (fieldsFrom (v .most - 1) W end (o + w)) (t .padded-is) ∙ sym (ap (fieldsReadOf n c) f) ∙ v .says;
           stores = λ e u. v .stores e
               (subst (λ (r : Option Stream). FieldsStored r d n e) (sym f)
               (stored-more n x y (fieldsFrom (v .most - 1) W end (o + w)) d e

@@ -11,8 +11,9 @@ use lib.IntN.{ℤ}
 use borrow.Author.Tests.{le-leb, lt-leb, lt-ltb, le-ltb, eq-eqb, ne-eqb, leb-true, eqb-true, eqb-false}
 use Rattle.bits.proofs.ChoiceLaws.{and-true}
 use Rattle.bits.specs.Bits.{field}
+use Rattle.bits.specs.Padded.{paddedAmong}
 use Rattle.bits.proofs.Never.{never}
-use Rattle.fastarray.specs.Body.{signedAt, deletes, changes, notNegative, leastBits, headed, Items, itemsFrom, deletedFrom, Body, ended, bodyOf, fieldsOf}
+use Rattle.fastarray.specs.Body.{signedAt, deletes, changes, notNegative, leastBits, headed, Items, itemsFrom, deletedFrom, Body, ended, bodyOf, fieldsOf, numbersOf}
 use Rattle.fastarray.specs.Parts.{itemsReadOf, deltaOf, measuredOf}
 use Rattle.fastarray.proofs.ItemLaws.{ItemsLying, items-lie, deleted-length}
 use Rattle.fastarray.specs.declared.Delta.{Delta}
@@ -72,18 +73,19 @@ headed-fits flag W len e =
 
 -- ---- the measuring pass
 
-record ReadAs (o : Option Items) (count next : ℕ) : Type 0 where
+record ReadAs (o : Option Items) (count next padded : ℕ) : Type 0 where
   pub read : Items
   pub is : o ≡ some read
   pub count-is : 0 + length (fieldsOf (read .items)) ≡ count
   pub next-is : read .next ≡ next
+  pub padded-is : 0 + paddedAmong (numbersOf (read .items)) ≡ padded
 
-read-as : (o : Option Items) (count next : ℕ) → itemsReadOf 0 o ≡ I.Read count next → ReadAs o count next
+read-as : (o : Option Items) (count next padded : ℕ) → itemsReadOf 0 0 o ≡ I.Read count next padded → ReadAs o count next padded
 unfolding itemsReadOf
-read-as none count next e = let z : _≡_ {A = ℕ} 0 1 = cc in never z
-read-as (some r) count next e = record { read = r; is = refl; count-is = cc; next-is = cc }
+read-as none count next padded e = let z : _≡_ {A = ℕ} 0 1 = cc in never z
+read-as (some r) count next padded e = record { read = r; is = refl; count-is = cc; next-is = cc; padded-is = cc }
 
-read-none : (o : Option Items) → itemsReadOf 0 o ≡ I.Broken → o ≡ none
+read-none : (o : Option Items) → itemsReadOf 0 0 o ≡ I.Broken → o ≡ none
 unfolding itemsReadOf
 read-none none e = refl
 read-none (some r) e = let z : _≡_ {A = ℕ} 0 1 = cc in never z
@@ -113,44 +115,46 @@ module _ (flag W len : ℕ) where
     unfolding bodyOf
     body-is = simp h
 
-    pub no-items : itemsReadOf 0 items ≡ I.Broken → M.NotFastArray ≡ measuredOf (bodyOf flag W len)
+    pub no-items : itemsReadOf 0 0 items ≡ I.Broken → M.NotFastArray ≡ measuredOf (bodyOf flag W len)
     unfolding measuredOf ended
     no-items e = sym (ap measuredOf (body-is ∙ ap (ended W len) (read-none items e)))
 
-    module _ (count next : ℕ) (e : itemsReadOf 0 items ≡ I.Read count next) where
-      lying : ItemsLying (changes W) len (129 + 32 * deletes W) (read-as items count next e .read)
+    module _ (count next padded : ℕ) (e : itemsReadOf 0 0 items ≡ I.Read count next padded) where
+      lying : ItemsLying (changes W) len (129 + 32 * deletes W) (read-as items count next padded e .read)
       lying =
           let f = headed-fits flag W len h .lists in
-          items-lie (changes W) flag W len (129 + 32 * deletes W) _ (omega arith) (read-as items count next e .is)
+          items-lie (changes W) flag W len (129 + 32 * deletes W) _ (omega arith) (read-as items count next padded e .is)
 
-      pub counted-within : (count ≤ len) × (next ≤ len)
+      pub counted-within : (count ≤ len) × (next ≤ len) × (padded ≤ len)
       counted-within =
-          let t = read-as items count next e in
+          let t = read-as items count next padded e in
           let c = t .count-is in
           let n = t .next-is in
+          let m = t .padded-is in
           let l = lying in
-          (omega (arith, l .takes, l .within), omega (arith, l .within))
+          (omega (arith, l .takes, l .within), omega (arith, l .within), omega (arith, l .counts, l .within))
 
       pub not-ended : (next ≡ len → ⊥) → M.NotFastArray ≡ measuredOf (bodyOf flag W len)
       unfolding measuredOf
       not-ended n =
-          let t = read-as items count next e in
+          let t = read-as items count next padded e in
           sym (ap measuredOf (body-is ∙ ap (ended W len) (t .is) ∙ ends-elsewhere W len (t .read) (λ z. n (sym (t .next-is) ∙ z))))
 
       pub body-measured : next ≡ len → (key base : ℤ) (d c : ℕ) → key ≡ signedAt W 1 → base ≡ signedAt W 33 → d ≡ deletes W → c ≡ changes W
-          → M.Body (record { key = key; base = base; deletes = d; changes = c; fields = count; used = next }) ≡ measuredOf (bodyOf flag W len)
+          → M.Body (record { key = key; base = base; deletes = d; changes = c; fields = count; used = next; padded = padded }) ≡ measuredOf (bodyOf flag W len)
       unfolding measuredOf
       body-measured n key base d c ek eb ed ec =
-          let t = read-as items count next e in
+          let t = read-as items count next padded e in
           let l = lying in
           let e₁ : length (deletedFrom (deletes W) W 129) ≡ d = deleted-length (deletes W) W 129 ∙ sym ed in
           let e₂ : length (t .read .items) ≡ c = l .counted ∙ sym ec in
           let e₃ : length (fieldsOf (t .read .items)) ≡ count = (let q = t .count-is in omega arith) in
           let e₄ : t .read .next ≡ next = t .next-is in
+          let e₅ : paddedAmong (numbersOf (t .read .items)) ≡ padded = (let q = t .padded-is in omega arith) in
           sym
           (ap measuredOf (body-is ∙ ap (ended W len) (t .is) ∙ ends-here W len (t .read) (e₄ ∙ n))
           ∙ ap M.Body
-          (λ i. record { key = sym ek i; base = sym eb i; deletes = e₁ i; changes = e₂ i; fields = e₃ i; used = e₄ i }))
+          (λ i. record { key = sym ek i; base = sym eb i; deletes = e₁ i; changes = e₂ i; fields = e₃ i; used = e₄ i; padded = e₅ i }))
 
 -- ---- what a measure says of the body
 

@@ -7,4 +7,5 @@ pub mod AnswerLaws
 pub mod RefusalOrder
 pub mod Outside
 pub mod BodyLaws
+pub mod PaddedNumbers
 pub mod Example

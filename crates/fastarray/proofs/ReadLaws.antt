@@ -1,26 +1,29 @@
 -- Reads inside a window are reads of the bytes, and what was read lies in the window.
 use Prim.Native.Nat.{ℕ, _+_, _-_, _*_, _≤_, _<_}
 use mathlib.Core.Path.{_≡_, refl, sym, ap, ap₂, _∙_, subst}
-use mathlib.Core.List.{List}
+use mathlib.Core.Bool.{Bool, true, false}
+use mathlib.Core.List.{List, [], _∷_}
 use mathlib.Core.Option.{Option, none, some}
-use native.Mathlib.Nat.{zero-add}
+use native.Mathlib.Nat.{zero-add, add-zero}
 use native.Mathlib.Omega.{arith}
 use lib.IntN.{ℤ}
 use mir.Val.{toZ, ofZ}
 use mir.Syntax.{w32}
 use mir.Facts.{toZ-ofZ}
 use borrow.Author.Tests.{le-leb, lt-leb, eq-eqb, ne-eqb}
+use Rattle.bits.specs.Choice.{if_then_else_}
 use Rattle.bits.specs.Bits.{num, field}
-use Rattle.bits.specs.Packed.{packed}
+use Rattle.bits.specs.Packed.{packed, mostBytes, Number}
 use Rattle.bits.proofs.FieldLaws.{field-lt, field-field}
 use Rattle.bits.proofs.TwosLaws.{twos-fits}
-use Rattle.bits.proofs.PackedLaws.{packed-window}
+use Rattle.bits.proofs.PackedLaws.{packed-window, whole-bytes}
 use Rattle.bits.proofs.PackedWindows.{Lies, whole, cut, goes-on, overflows, packed-lies}
 use Rattle.bits.specs.declared.Packed.{Packed}
-use Rattle.bits.specs.Packed.{Number}
+use Rattle.bits.specs.Padded.{padded, paddedAmong}
+use Rattle.bits.proofs.PaddedLaws.{one-byte, among-append}
 use Rattle.bits.proofs.Never.{never}
 use Rattle.fastarray.specs.Body.{window, signedAt, numberEnd, asNumber, packedAt, leadWidth, leadHandle, leadAt}
-use Rattle.fastarray.specs.Parts.{takenOf, headOf}
+use Rattle.fastarray.specs.Parts.{takenOf, paddedOne, headOf}
 use Rattle.fastarray.specs.declared.Taken.the-variants as T
 use Rattle.fastarray.specs.declared.FieldHead.the-variants as H
 
@@ -51,72 +54,121 @@ lies-number len p x _ overflows e = let z : _≡_ {A = ℕ} 0 1 = cc in never z
 pub number-within : (W len p : ℕ) (x : Number) → packedAt W len p ≡ some x → (p + 8 ≤ numberEnd x) × (numberEnd x ≤ len)
 number-within W len p x e = lies-number len p x (packed W len p) (packed-lies W len p) e
 
--- a number that the code took
-pub record TakenAs (o : Option Number) (v q : ℕ) : Type 0 where
-  pub number : Number
-  pub is : o ≡ some number
-  pub value-is : number .value ≡ v
-  pub behind-is : numberEnd number ≡ q
+-- ---- how many of one number, and of two, are padded
 
-pub taken-as : (o : Option Number) (v q : ℕ) → takenOf o ≡ T.Value v q → TakenAs o v q
-unfolding takenOf
-taken-as none v q e = let z : _≡_ {A = ℕ} 0 1 = cc in never z
-taken-as (some x) v q e = record { number = x; is = refl; value-is = cc; behind-is = cc }
+among-one : (x : Number) → paddedAmong (x ∷ []) ≡ paddedOne (x .value) (x .bytes)
+unfolding paddedAmong
+among-one x = add-zero (paddedOne (x .value) (x .bytes))
+
+pub one-or-none : (v n : ℕ) → paddedOne v n ≤ 1
+one-or-none v n = go (padded v n)
+  where
+    go : (b : Bool) → (if b then 1 else 0) ≤ 1
+    go true = omega arith
+    go false = omega arith
+
+pub one-at-most : (x : Number) → paddedAmong (x ∷ []) ≤ 1
+one-at-most x = omega (arith, among-one x, one-or-none (x .value) (x .bytes))
+
+pub two-at-most : (x y : Number) → paddedAmong (x ∷ y ∷ []) ≤ 2
+two-at-most x y = omega (arith, among-append (x ∷ []) (y ∷ []), one-at-most x, one-at-most y)
+
+-- a byte each
+pub none-of-two : (c v n w m : ℕ) → 1 ≤ n → 1 ≤ m → n + m ≡ 2 → c ≡ c + paddedOne v n + paddedOne w m
+none-of-two c v n w m hn hm e =
+    let a : paddedOne v n ≡ 0 = simp (one-byte v n (omega arith)) in
+    let b : paddedOne w m ≡ 0 = simp (one-byte w m (omega arith)) in
+    omega arith
+
+-- ---- a number that the code took
+
+pub record TakenAs (W len p v n : ℕ) : Type 0 where
+  pub number : Number
+  pub is : packedAt W len p ≡ some number
+  pub value-is : number .value ≡ v
+  pub bytes-is : number .bytes ≡ n
+  pub behind-is : numberEnd number ≡ p + 8 * n
+  pub some-bytes : 1 ≤ n
+  pub few-bytes : n ≤ mostBytes
+  pub within : p + 8 * n ≤ len
+
+taken-by : (W len p v n : ℕ) (r : Packed) → packed W len p ≡ r → Lies len p r → takenOf (asNumber p r) ≡ T.Value v n → TakenAs W len p v n
+unfolding takenOf asNumber
+taken-by W len p v n _ q (whole {v = u} {n = k} h z) e =
+    let en : k ≡ n = cc in
+    record {
+      number = record { start = p; bytes = k; value = u };
+      is = ap (asNumber p) q;
+      value-is = cc;
+      bytes-is = en;
+      behind-is = ap (λ (j : ℕ). p + 8 * j) en;
+      some-bytes = omega arith;
+      few-bytes = omega (arith, whole-bytes W len p u k q);
+      within = omega arith;
+    }
+taken-by W len p v n _ q cut e = let z : _≡_ {A = ℕ} 0 1 = cc in never z
+taken-by W len p v n _ q goes-on e = let z : _≡_ {A = ℕ} 0 1 = cc in never z
+taken-by W len p v n _ q overflows e = let z : _≡_ {A = ℕ} 0 1 = cc in never z
+
+pub taken-as : (W len p v n : ℕ) → takenOf (packedAt W len p) ≡ T.Value v n → TakenAs W len p v n
+taken-as W len p v n e = taken-by W len p v n (packed W len p) refl (packed-lies W len p) e
 
 pub taken-none : (o : Option Number) → takenOf o ≡ T.Broken → o ≡ none
 unfolding takenOf
 taken-none none e = refl
 taken-none (some x) e = let z : _≡_ {A = ℕ} 0 1 = cc in never z
 
-pub taken-within : (W len p v q : ℕ) → takenOf (packedAt W len p) ≡ T.Value v q → (p + 8 ≤ q) × (q ≤ len)
-taken-within W len p v q e =
-    let t = taken-as _ v q e in
-    subst (λ (k : ℕ). (p + 8 ≤ k) × (k ≤ len)) (t .behind-is) (number-within W len p (t .number) (t .is))
+-- what it adds to the count
+taken-padded : (W len p v n : ℕ) (t : TakenAs W len p v n) → paddedAmong (t .number ∷ []) ≡ paddedOne v n
+taken-padded W len p v n t = among-one (t .number) ∙ ap₂ (λ (a b : ℕ). paddedOne a b) (t .value-is) (t .bytes-is)
 
 -- ---- what stands where a handle number is due
 
-module _ (W len p : ℕ) where
-  pub head-broken : takenOf (packedAt W len p) ≡ T.Broken → headOf (leadAt W len p) ≡ H.Broken
+module _ (b W len p : ℕ) where
+  pub head-broken : takenOf (packedAt W len p) ≡ T.Broken → headOf b (leadAt W len p) ≡ H.Broken
   unfolding headOf leadHandle
-  head-broken e = ap (λ (o : Option Number). headOf (leadHandle W len o)) (taken-none _ e)
+  head-broken e = ap (λ (o : Option Number). headOf b (leadHandle W len o)) (taken-none _ e)
 
-  module _ (v q : ℕ) (e : takenOf (packedAt W len p) ≡ T.Value v q) where
-    pub head-closes : v ≡ 0 → headOf (leadAt W len p) ≡ H.Closes q
+  module _ (v n : ℕ) (t : TakenAs W len p v n) where
+    pub head-closes : (c : ℕ) → v ≡ 0 → c ≡ b + paddedOne v n → headOf b (leadAt W len p) ≡ H.Closes (p + 8 * n) c
     unfolding headOf leadHandle
-    head-closes z =
-        let t = taken-as _ v q e in
-        ap (λ (o : Option Number). headOf (leadHandle W len o)) (t .is) ∙ simp (eq-eqb _ _ (t .value-is ∙ z)) (ap H.Closes (t .behind-is))
+    head-closes c z k =
+        let counted : b + paddedAmong (t .number ∷ []) ≡ c = ap (λ (x : ℕ). b + x) (taken-padded W len p v n t) ∙ sym k in
+        ap (λ (o : Option Number). headOf b (leadHandle W len o)) (t .is)
+        ∙ simp (eq-eqb _ _ (t .value-is ∙ z)) (ap₂ H.Closes (t .behind-is) counted)
 
     -- a handle
-    handled : (v ≡ 0 → ⊥) → headOf (leadAt W len p) ≡ headOf (leadWidth len (taken-as _ v q e .number) (packedAt W len q))
+    handled : (v ≡ 0 → ⊥) → headOf b (leadAt W len p) ≡ headOf b (leadWidth len (t .number) (packedAt W len (p + 8 * n)))
     unfolding leadHandle
-    handled n =
-        let t = taken-as _ v q e in
-        ap (λ (o : Option Number). headOf (leadHandle W len o)) (t .is)
-        ∙ simp (ne-eqb (t .number .value) 0 (λ z. n (sym (t .value-is) ∙ z)))
-        (ap (λ (k : ℕ). headOf (leadWidth len (t .number) (packedAt W len k))) (t .behind-is))
+    handled f =
+        ap (λ (o : Option Number). headOf b (leadHandle W len o)) (t .is)
+        ∙ simp (ne-eqb (t .number .value) 0 (λ z. f (sym (t .value-is) ∙ z)))
+        (ap (λ (k : ℕ). headOf b (leadWidth len (t .number) (packedAt W len k))) (t .behind-is))
 
-    pub head-no-width : (v ≡ 0 → ⊥) → takenOf (packedAt W len q) ≡ T.Broken → headOf (leadAt W len p) ≡ H.Broken
+    pub head-no-width : (v ≡ 0 → ⊥) → takenOf (packedAt W len (p + 8 * n)) ≡ T.Broken → headOf b (leadAt W len p) ≡ H.Broken
     unfolding headOf leadWidth
-    head-no-width n b = handled n ∙ ap (λ (o : Option Number). headOf (leadWidth len (taken-as _ v q e .number) o)) (taken-none _ b)
+    head-no-width f e = handled f ∙ ap (λ (o : Option Number). headOf b (leadWidth len (t .number) o)) (taken-none _ e)
 
-    module _ (w o : ℕ) (n : v ≡ 0 → ⊥) (f : takenOf (packedAt W len q) ≡ T.Value w o) where
-      ends : numberEnd (taken-as _ w o f .number) + taken-as _ w o f .number .value ≡ o + w
-      ends = ap₂ (λ (a b : ℕ). a + b) (taken-as _ w o f .behind-is) (taken-as _ w o f .value-is)
+    module _ (w m : ℕ) (f : v ≡ 0 → ⊥) (u : TakenAs W len (p + 8 * n) w m) where
+      ends : numberEnd (u .number) + u .number .value ≡ p + 8 * n + 8 * m + w
+      ends = ap₂ (λ (x y : ℕ). x + y) (u .behind-is) (u .value-is)
 
-      widths : headOf (leadAt W len p) ≡ headOf (leadWidth len (taken-as _ v q e .number) (some (taken-as _ w o f .number)))
-      widths = handled n ∙ ap (λ (x : Option Number). headOf (leadWidth len (taken-as _ v q e .number) x)) (taken-as _ w o f .is)
+      widths : headOf b (leadAt W len p) ≡ headOf b (leadWidth len (t .number) (some (u .number)))
+      widths = handled f ∙ ap (λ (o : Option Number). headOf b (leadWidth len (t .number) o)) (u .is)
 
-      pub head-past : len < o + w → headOf (leadAt W len p) ≡ H.Broken
+      pub head-past : len < p + 8 * n + 8 * m + w → headOf b (leadAt W len p) ≡ H.Broken
       unfolding headOf leadWidth
-      head-past h = widths ∙ simp (ends, lt-leb (o + w) len h)
+      head-past h = widths ∙ simp (ends, lt-leb (p + 8 * n + 8 * m + w) len h)
 
-      pub head-opens : o + w ≤ len → headOf (leadAt W len p) ≡ H.Opens (v - 1) o w
+      counted-two : (c : ℕ) → c ≡ b + paddedOne v n + paddedOne w m → b + paddedAmong (t .number ∷ u .number ∷ []) ≡ c
+      counted-two c k =
+          omega (arith, among-append (t .number ∷ []) (u .number ∷ []), taken-padded W len p v n t, taken-padded W len (p + 8 * n) w m u)
+
+      pub head-opens : (c : ℕ) → p + 8 * n + 8 * m + w ≤ len → c ≡ b + paddedOne v n + paddedOne w m
+          → headOf b (leadAt W len p) ≡ H.Opens (v - 1) (p + 8 * n + 8 * m) w c
       unfolding headOf leadWidth
-      head-opens h =
-          let t = taken-as _ v q e in
-          let u = taken-as _ w o f in
+      head-opens c h k =
           let e₁ = t .value-is in
           let e₂ = u .value-is in
           let e₃ = u .behind-is in
-          widths ∙ simp (ends, le-leb (o + w) len h) (simp (e₁, e₂, e₃))
+          widths ∙ simp (ends, le-leb (p + 8 * n + 8 * m + w) len h) (simp (e₁, e₂, e₃, counted-two c k))

@@ -69,7 +69,7 @@ leadAt W len p = leadHandle W len (packedAt W len p)
 abbrev pub rawField : (handle width : Number) → RawField
 rawField h w = record { handle = h .value - 1; offset = numberEnd w; width = w .value }
 
--- an item's fields, the numbers that were read (for a later count; no answer shows them), and the bit behind the closing zero
+-- an item's fields, the bit behind the closing zero, and the numbers read: handles, widths and that zero, of which the padded ones are counted
 pub record Stream : Type 0 where
   pub fields : List RawField
   pub numbers : List Number

@@ -1,11 +1,12 @@
 -- What the inner functions say of the parts of a body: the answers of the code's enums, and what a reading leaves in the lent buffers.
 use Prim.Native.Nat.{ℕ, _+_, _-_, _*_}
 use mathlib.Core.Path.{_≡_}
-use mathlib.Core.List.{List}
+use mathlib.Core.List.{List, [], _∷_}
 use mathlib.Core.Option.{Option, none, some}
 use lib.ListN.{length}
 use Rattle.bits.specs.Packed.{Number}
-use Rattle.fastarray.specs.Body.{numberEnd, Lead, breaks, closes, opens, Stream, Items, Body, fieldsOf}
+use Rattle.bits.specs.Padded.{padded, once, paddedAmong}
+use Rattle.fastarray.specs.Body.{numberEnd, Lead, breaks, closes, opens, Stream, Items, Body, fieldsOf, numbersOf}
 use Rattle.fastarray.specs.Records.{itemWords, itemRecord, fieldWords, fieldRecord, storeAll}
 use Rattle.fastarray.specs.declared.Delta.{Delta}
 use Rattle.fastarray.specs.declared.Taken.{Taken}
@@ -21,21 +22,26 @@ use Rattle.fastarray.specs.declared.BodyMeasure.the-variants as M
 
 unfoldable pub takenOf : Option Number → Taken
 takenOf none = T.Broken
-takenOf (some x) = T.Value (x .value) (numberEnd x)
+takenOf (some x) = T.Value (x .value) (x .bytes)
 
-unfoldable pub headOf : Lead → FieldHead
-headOf breaks = H.Broken
-headOf (closes h) = H.Closes (numberEnd h)
-headOf (opens h w) = H.Opens (h .value - 1) (numberEnd w) (w .value)
+-- what a value in so many bytes adds to the count of padded numbers
+abbrev pub paddedOne : (value bytes : ℕ) → ℕ
+paddedOne v n = once (padded v n)
+
+-- before: how many of the numbers before these are padded
+unfoldable pub headOf : (before : ℕ) → Lead → FieldHead
+headOf before breaks = H.Broken
+headOf before (closes h) = H.Closes (numberEnd h) (before + paddedAmong (h ∷ []))
+headOf before (opens h w) = H.Opens (h .value - 1) (numberEnd w) (w .value) (before + paddedAmong (h ∷ w ∷ []))
 
 -- slot: the fields before these
-unfoldable pub fieldsReadOf : (slot : ℕ) → Option Stream → FieldsRead
-fieldsReadOf slot none = F.Broken
-fieldsReadOf slot (some r) = F.Read (slot + length (r .fields)) (r .next)
+unfoldable pub fieldsReadOf : (slot before : ℕ) → Option Stream → FieldsRead
+fieldsReadOf slot before none = F.Broken
+fieldsReadOf slot before (some r) = F.Read (slot + length (r .fields)) (r .next) (before + paddedAmong (r .numbers))
 
-unfoldable pub itemsReadOf : (slot : ℕ) → Option Items → ItemsRead
-itemsReadOf slot none = I.Broken
-itemsReadOf slot (some r) = I.Read (slot + length (fieldsOf (r .items))) (r .next)
+unfoldable pub itemsReadOf : (slot before : ℕ) → Option Items → ItemsRead
+itemsReadOf slot before none = I.Broken
+itemsReadOf slot before (some r) = I.Read (slot + length (fieldsOf (r .items))) (r .next) (before + paddedAmong (numbersOf (r .items)))
 
 abbrev pub deltaOf : Body → Delta
 deltaOf b =
@@ -46,6 +52,7 @@ deltaOf b =
       changes = length (b .items);
       fields = length (fieldsOf (b .items));
       used = b .used;
+      padded = paddedAmong (numbersOf (b .items));
     }
 
 unfoldable pub measuredOf : Option Body → BodyMeasure

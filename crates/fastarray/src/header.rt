@@ -47,7 +47,7 @@ pub fn is_headed(s: &[u8], end: u64, flag: u64) -> bool
     HEADER_BITS + least <= end
 }
 
-// The items are read, lent less than a record, for how many fields they have and where they end.
+// The items are read, lent less than a record, for how many fields and padded numbers they have and where they end.
 pub fn measure(s: &[u8], end: u64, flag: u64) -> BodyMeasure
     requires { ⌜ (end ≤ 8 * length (now s)) × (end ≤ longestWindow) × (flag ≤ 1) ⌝ }
     ensures { λ r. ⌜ r ≡ measuredOf (bodyOf flag (window (now (s .entry)) end) end) ⌝ }
@@ -66,12 +66,13 @@ pub fn measure(s: &[u8], end: u64, flag: u64) -> BodyMeasure
     let read = read_items(s, at, end, wanted, flag, &mut no_items, &mut no_fields);
     match read {
         ItemsRead::Broken => BodyMeasure::NotFastArray,
-        ItemsRead::Read(count, next) => {
+        ItemsRead::Read(count, next, longer) => {
             if next != end {
                 return BodyMeasure::NotFastArray;
             }
             let fields = count as u32;
             let used = next as u32;
+            let padded = longer as u32;
             BodyMeasure::Body(Delta {
                 key,
                 base,
@@ -79,6 +80,7 @@ pub fn measure(s: &[u8], end: u64, flag: u64) -> BodyMeasure
                 changes,
                 fields,
                 used,
+                padded,
             })
         }
     }

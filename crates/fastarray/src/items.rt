@@ -40,7 +40,7 @@ pub fn read_items(
     fields: &mut [u32],
 ) -> ItemsRead
     requires { ⌜ (at ≤ end) × (end ≤ 8 * length (now s)) × (end ≤ longestWindow) × (count ≤ longestWindow) × (flag ≤ 1) ⌝ }
-    ensures says { λ r. ⌜ r ≡ itemsReadOf 0 (itemsFrom count flag (window (now (s .entry)) end) end at) ⌝ }
+    ensures says { λ r. ⌜ r ≡ itemsReadOf 0 0 (itemsFrom count flag (window (now (s .entry)) end) end at) ⌝ }
     ensures stored { λ _. ⌜ ItemsStored (itemsFrom count flag (window (now (s .entry)) end) end at) 0 0
         (now (items .entry)) (now (fields .entry)) (now (items .exit)) (now (fields .exit)) ⌝ }
 {
@@ -48,25 +48,27 @@ pub fn read_items(
     let mut pos = at;
     let mut done: u64 = 0;
     let mut slot: u64 = 0;
+    let mut padded: u64 = 0;
     while done < count {
         if end - pos < lead {
             return ItemsRead::Broken;
         }
         let id = word_of(s, pos, end);
         let start = pos + lead;
-        let read = read_fields(s, start, end, fields, slot);
+        let read = read_fields(s, start, end, fields, slot, padded);
         match read {
             FieldsRead::Broken => {
                 return ItemsRead::Broken;
             }
-            FieldsRead::Read(after, next) => {
+            FieldsRead::Read(after, next, count) => {
                 let here = (after - slot) as u32;
                 store_item(items, done, id, here);
                 slot = after;
+                padded = count;
                 pos = next;
                 done += 1;
             }
         }
     }
-    ItemsRead::Read(slot, pos)
+    ItemsRead::Read(slot, pos, padded)
 }

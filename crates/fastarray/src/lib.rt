@@ -42,6 +42,8 @@ pub struct Delta {
     pub fields: u32,
     // The bits used: all of the window.
     pub used: u32,
+    // The padded ones among the packed numbers: more bytes than their value needs.
+    pub padded: u32,
 }
 
 pub enum FastArray {
@@ -56,7 +58,7 @@ pub enum FastArray {
 
 // ---- what the parts of a reading say
 
-// A packed number and the bit behind it.
+// A packed number and its bytes.
 enum Taken {
     Broken,
     Value(u32, u64),
@@ -66,22 +68,22 @@ enum Taken {
 enum FieldHead {
     // A number that can't be read, or a payload that passes the window.
     Broken,
-    // Zero, and the bit behind it.
-    Closes(u64),
-    // The handle, the payload's first bit, its width.
-    Opens(u32, u64, u32),
+    // Zero: the bit behind it, and the padded numbers so far.
+    Closes(u64, u64),
+    // The handle, the payload's first bit, its width, and the padded numbers so far.
+    Opens(u32, u64, u32, u64),
 }
 
-// The fields so far, and the bit behind the item.
+// The fields so far, the bit behind the item, and the padded numbers so far.
 enum FieldsRead {
     Broken,
-    Read(u64, u64),
+    Read(u64, u64, u64),
 }
 
-// The fields so far, and the bit behind the last item.
+// The fields so far, the bit behind the last item, and the padded numbers so far.
 enum ItemsRead {
     Broken,
-    Read(u64, u64),
+    Read(u64, u64, u64),
 }
 
 enum BodyMeasure {

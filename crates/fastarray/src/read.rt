@@ -1,14 +1,15 @@
 // Reads inside a window of end bits at the front of the bytes.
 ghost use mathlib.Core.Path.{_≡_};
-ghost use Prim.Native.Nat.{_+_, _*_, _≤_};
+ghost use Prim.Native.Nat.{_+_, _*_, _≤_, _<_};
 ghost use lib.ListN.{length};
 ghost use Rattle.bits.specs.Bits.{field};
+ghost use Rattle.bits.specs.Packed.{mostBytes};
 ghost use Rattle.bits.specs.Sizes.{longestWindow};
 ghost use Rattle.fastarray.specs.Body.{window, packedAt, signedAt, flagBits};
-ghost use Rattle.fastarray.specs.Parts.{takenOf};
+ghost use Rattle.fastarray.specs.Parts.{takenOf, paddedOne};
 use crate::ChecksumMode;
 use crate::Taken;
-use bits::Packed;
+use bits::Found;
 
 // The bits between an item's id and its fields.
 pub fn flag_bits(mode: ChecksumMode) -> u64
@@ -55,12 +56,32 @@ pub fn number_of(s: &[u8], at: u64, end: u64) -> Taken
 {
     let number = bits::number::packed_at(s, at, end);
     match number {
-        Packed::Whole(value, n) => {
-            let next = at + 8 * n;
-            Taken::Value(value, next)
-        }
-        Packed::Cut(_) => Taken::Broken,
-        Packed::GoesOn => Taken::Broken,
-        Packed::Overflows => Taken::Broken,
+        Found::Whole(value, n, _) => Taken::Value(value, n),
+        Found::Cut(_) => Taken::Broken,
+        Found::GoesOn => Taken::Broken,
+        Found::Overflows => Taken::Broken,
     }
+}
+
+// One more than count if a value in n bytes is padded.
+pub fn padded_one(count: u64, value: u32, n: u64) -> u64
+    requires { ⌜ (count ≤ longestWindow) × (n ≤ mostBytes) ⌝ }
+    ensures { λ r. ⌜ r ≡ count + paddedOne value n ⌝ }
+{
+    if bits::number::is_padded(value, n) {
+        return count + 1;
+    }
+    count
+}
+
+// The same of two values, in n and in m bytes. Mostly each has one byte; then none is padded.
+pub fn padded_two(count: u64, value: u32, n: u64, second: u32, m: u64) -> u64
+    requires { ⌜ (count < longestWindow) × (1 ≤ n) × (n ≤ mostBytes) × (1 ≤ m) × (m ≤ mostBytes) ⌝ }
+    ensures { λ r. ⌜ r ≡ count + paddedOne value n + paddedOne second m ⌝ }
+{
+    if n + m == 2 {
+        return count;
+    }
+    let one = padded_one(count, value, n);
+    padded_one(one, second, m)
 }

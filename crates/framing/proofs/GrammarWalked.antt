@@ -1,6 +1,6 @@
 -- The bits of an array of the grammar are walked as its parts say: the walk's trace, read off the array. Stated once for every sink. Each number is
 -- read where its bits stand, and the limits that the grammar keeps are those that the walk tests.
-use Prim.Native.Nat.{ℕ, zero, suc, _+_, _-_, _*_, _/_, _^_, _≤_, _<_}
+use Prim.Native.Nat.{ℕ, zero, suc, _+_, _-_, _*_, _^_, _≤_, _<_}
 use mathlib.Core.Path.{_≡_, refl, sym, ap, ap₂, _∙_, subst}
 use mathlib.Core.Bool.{Bool, true, false, _&&_}
 use mathlib.Core.List.{List, [], _∷_, _++_, append-assoc}
@@ -20,6 +20,7 @@ use Rattle.framing.specs.Walk.{Sink, numberAt, opens, closed, done, prep
 use Rattle.framing.specs.Grammar.{Bits, _then_, Num, packedBits, numBits, IsNum, Field, Element, Array, fieldBits, fieldsBits, elementBits, elementsBits, trailing, arrayBits}
 use Rattle.framing.specs.GrammarRules.{Each, FieldOk, FieldsOk, ElementOk, ArrayOk}
 use Rattle.framing.proofs.StepLaws.{fields-last, fields-step, fields-present, elements-last, elements-step, level-count, count-allowed, index-allowed}
+use Rattle.framing.proofs.NumberBits.{packed-below}
 use Rattle.framing.proofs.GrammarBits.{Span, Below, span-first, span-second, num-read}
 use Rattle.framing.proofs.GrammarLeads.{stands-closes, stands-opens, stands-closed, stands-present}
 
@@ -35,24 +36,6 @@ below-then a b h k =
   where
     one-more : (x y : ℕ) → x * (y + 1) ≡ x * y + x
     one-more x y = mul-add x y 1 ∙ ap (λ (z : ℕ). x * y + z) (mul-one x)
-
-packed-below : (b v : ℕ) → v < 2 ^ (7 * b) → packedBits b v < 2 ^ (8 * b)
-unfolding packedBits
-packed-below zero v h = omega arith
-packed-below (suc zero) v h = omega arith
-packed-below (suc (suc n)) v h =
-    let e : 2 ^ (8 * suc (suc n)) ≡ 2 ^ 8 * 2 ^ (8 * suc n) = eight n in
-    let r : packedBits (suc n) (v / 2 ^ 7) < 2 ^ (8 * suc n) = packed-below (suc n) (v / 2 ^ 7) (seven v n h) in
-    omega arith
-  where
-    eight : (n : ℕ) → 2 ^ (8 * suc (suc n)) ≡ 2 ^ 8 * 2 ^ (8 * suc n)
-    eight n = let s : 8 * suc (suc n) ≡ 8 + 8 * suc n = omega arith in ap (λ (k : ℕ). 2 ^ k) s ∙ pow-add 2 8 (8 * suc n)
-
-    seven : (v n : ℕ) → v < 2 ^ (7 * suc (suc n)) → v / 2 ^ 7 < 2 ^ (7 * suc n)
-    seven v n h =
-        let s : 7 * suc (suc n) ≡ 7 + 7 * suc n = omega arith in
-        let e : 2 ^ (7 * suc (suc n)) ≡ 2 ^ 7 * 2 ^ (7 * suc n) = ap (λ (k : ℕ). 2 ^ k) s ∙ pow-add 2 7 (7 * suc n) in
-        omega arith
 
 pub num-below : (n : Num) → IsNum n → Below (numBits n)
 num-below n ok = packed-below (n .bytes) (n .value) (ok .fits)

@@ -7,9 +7,11 @@ use native.Mathlib.Omega.{arith}
 use lib.Dec.{ltb, leb, eqb}
 use borrow.Author.Tests.{ltb-false, leb-true, leb-false, eqb-true, eqb-false}
 use Rattle.bits.specs.declared.Packed.{Packed}
+use Rattle.bits.specs.declared.Packed.the-variants.{Whole}
+use Rattle.bits.proofs.PackedLaws.{whole-bytes}
 use Rattle.bits.proofs.PackedWindows as PW
 use Rattle.bits.proofs.PackedWindows.{Lies, packed-lies}
-use Rattle.bits.specs.Packed.{Number}
+use Rattle.bits.specs.Packed.{Number, mostBytes}
 use Rattle.bits.specs.Sizes.{maxFields, maxElements, trailerBits}
 use Rattle.framing.specs.Windows.{Window, part, Reading, got, failed, readingOf, reading}
 use Rattle.framing.specs.Events.{rawHandle, number, element, truncation, error, implicit, Trace}
@@ -18,27 +20,28 @@ use Rattle.framing.proofs.StepLaws.{count-few, index-below}
 use Rattle.framing.proofs.GrammarBits.{read-num}
 use Rattle.bits.proofs.ChoiceLaws.{and-true}
 
--- ---- numbers lie in the window and take at least a byte
+-- ---- numbers lie in the window and take a byte at least, five at most
 
 pub data Inside (n start : ℕ) : Reading → Type 0 where
-  inside : {v b : ℕ} → start + 8 * b ≤ n → 0 < b → Inside n start (got v b)
+  inside : {v b : ℕ} → start + 8 * b ≤ n → 0 < b → b ≤ mostBytes → Inside n start (got v b)
   nothing : Inside n start failed
 
-inside-of : (n p : ℕ) {r : Packed} → Lies n p r → Inside n p (readingOf r)
-inside-of n p (PW.whole h k) = inside h k
-inside-of n p PW.cut = nothing
-inside-of n p PW.goes-on = nothing
-inside-of n p PW.overflows = nothing
+inside-of : (n p : ℕ) {r : Packed} → ((v b : ℕ) → r ≡ Whole v b → b ≤ mostBytes) → Lies n p r → Inside n p (readingOf r)
+inside-of n p few (PW.whole {v = v} {n = b} h k) = inside h k (few v b refl)
+inside-of n p few PW.cut = nothing
+inside-of n p few PW.goes-on = nothing
+inside-of n p few PW.overflows = nothing
 
 pub reading-inside : (w : Window) (p : ℕ) → Inside (w .size) p (reading w p)
 unfolding reading
-reading-inside w p = inside-of (w .size) p (packed-lies (w .bits) (w .size) p)
+reading-inside w p = inside-of (w .size) p (whole-bytes (w .bits) (w .size) p) (packed-lies (w .bits) (w .size) p)
 
 -- the number x was read from bit p up to bit q of the window
 pub record Read (w : Window) (x : Number) (p q : ℕ) : Type 0 where
   pub starts : x .start ≡ w .origin + p
   pub runs : q ≡ p + 8 * x .bytes
   pub some : 0 < x .bytes
+  pub few : x .bytes ≤ mostBytes
   pub fits : q ≤ w .size
 
 pub data LeadIn (w : Window) (p : ℕ) : Lead → Type 0 where
@@ -49,10 +52,10 @@ pub data LeadIn (w : Window) (p : ℕ) : Lead → Type 0 where
 
 lead-of-in : (w : Window) (p : ℕ) → p < w .size → {r : Reading} → Inside (w .size) p r → LeadIn w p (leadOf w p r)
 lead-of-in w p lt nothing = in-fail lt
-lead-of-in w p lt (inside {v = v} {b = b} h pos) = go (eqb v 0) refl
+lead-of-in w p lt (inside {v = v} {b = b} h pos few) = go (eqb v 0) refl
   where
     took : Read w (numberAt w p b v) p (p + 8 * b)
-    took = record { starts = refl; runs = refl; some = pos; fits = h }
+    took = record { starts = refl; runs = refl; some = pos; few = few; fits = h }
 
     go : (x : Bool) → eqb v 0 ≡ x → LeadIn w p (leadOf w p (got v b))
     go true e = rw e (in-zero took)
@@ -76,10 +79,10 @@ pub data DueIn (w : Window) (p : ℕ) : Due → Type 0 where
 
 width-in : (w : Window) (p : ℕ) (x : Number) (h q : ℕ) → Read w x p q → {r : Reading} → Inside (w .size) q r → DueIn w p (withWidth w x h q r)
 width-in w p x h q took nothing = in-fail₁ took
-width-in w p x h q took (inside {v = k} {b = b} l pos) = go (ltb (w .size) (q + 8 * b + k)) refl
+width-in w p x h q took (inside {v = k} {b = b} l pos few) = go (ltb (w .size) (q + 8 * b + k)) refl
   where
     next : Read w (numberAt w q b k) q (q + 8 * b)
-    next = record { starts = refl; runs = refl; some = pos; fits = l }
+    next = record { starts = refl; runs = refl; some = pos; few = few; fits = l }
 
     go : (z : Bool) → ltb (w .size) (q + 8 * b + k) ≡ z → DueIn w p (withWidth w x h q (got k b))
     go true t = rw t (in-fail₂ took next)
@@ -182,10 +185,10 @@ module _ (s : Sink) (w : Window) (path : List ℕ) (Good : ℕ → ℕ → Trace
 
   trailer-holds : (p : ℕ) → p + trailerBits ≡ w .size → {r : Reading} → Inside (w .size) p r → Stop p (trailerOf s w p r)
   trailer-holds p fit nothing = 𝓢 .failed (omega arith)
-  trailer-holds p fit (inside {v = v} {b = b} h pos) = go (eqb v 0) refl
+  trailer-holds p fit (inside {v = v} {b = b} h pos few) = go (eqb v 0) refl
     where
       took : Read w (numberAt w p b v) p (w .size)
-      took = record { starts = refl; runs = omega arith; some = pos; fits = omega arith }
+      took = record { starts = refl; runs = omega arith; some = pos; few = few; fits = omega arith }
 
       rest : (q n : ℕ) → q ≤ w .size → w .size - q ≡ n → Stop q (s .leftover n ∷ [])
       rest q n h e = rw e at (𝓢 .left h)
@@ -236,10 +239,10 @@ module _ (s : Sink) (w : Window) (path : List ℕ) (Good : ℕ → ℕ → Trace
 
   count-holds : {r : Reading} → Inside (w .size) 0 r → Stop 0 (onCount s w path r)
   count-holds nothing = 𝓢 .failed (omega arith)
-  count-holds (inside {v = v} {b = b} h pos) = go (tooMany v) refl
+  count-holds (inside {v = v} {b = b} h pos few) = go (tooMany v) refl
     where
       took : Read w (numberAt w 0 b v) 0 (8 * b)
-      took = record { starts = refl; runs = omega arith; some = pos; fits = omega arith }
+      took = record { starts = refl; runs = omega arith; some = pos; few = few; fits = omega arith }
 
       go : (x : Bool) → tooMany v ≡ x → Stop 0 (onCount s w path (got v b))
       go true e = rw e (𝓢 .halt (𝓢 .read took) (𝓢 .limited (took .fits) at-level))

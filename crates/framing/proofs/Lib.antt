@@ -4,6 +4,7 @@ pub mod VerdictLaws
 pub mod WalkVerdicts
 pub mod Demand3
 pub mod CasesProved
+pub mod PaddedCasesProved
 pub mod TraceLaws
 pub mod StepLaws
 pub mod RecordLaws
@@ -14,8 +15,11 @@ pub mod LongestPath
 pub mod LongestReached
 pub mod Weighed
 pub mod Bounded
+pub mod PaddedTaken
 pub mod PairOrder
 pub mod RefusingLaws
+pub mod NumberBits
+pub mod PaddedForms
 pub mod GrammarBits
 pub mod GrammarLeads
 pub mod GrammarFound

@@ -167,10 +167,10 @@ module _ (t : Tables) (K : Known t) (P : Property) (𝓟 : Pieces P) (𝓢 : Str
 module _ (P : Property) (𝓟 : Pieces P) (𝓞 : ObjectPieces P) where
   guid-holds : (i : ℕ) (w : Window) → 0 < w .size → {r : Reading} → Inside (w .size) 0 r → P .Gave w (guidOf i w r)
   guid-holds i w some nothing = 𝓞 .unread w some
-  guid-holds i w some (inside {v = v} {b = b} h pos) = go (eqb (8 * b) (w .size)) refl
+  guid-holds i w some (inside {v = v} {b = b} h pos few) = go (eqb (8 * b) (w .size)) refl
     where
       took : (q : ℕ) → q ≡ 8 * b → Read w (numberAt w 0 b v) 0 q
-      took q e = record { starts = refl; runs = omega arith; some = pos; fits = omega arith }
+      took q e = record { starts = refl; runs = omega arith; some = pos; few = few; fits = omega arith }
 
       go : (x : Bool) → eqb (8 * b) (w .size) ≡ x → P .Gave w (guidOf i w (got v b))
       go true e = let fills = eqb-true (8 * b) (w .size) e in rw e (𝓞 .guid w (numberAt w 0 b v) i (took (w .size) (omega arith)))

@@ -1,6 +1,6 @@
 -- Rule 8 of document 01 gives an element's pair behind its fields (specs/PairsBehind). In `walk` the pair stands at the field that gives it. No
--- answer shows the difference: moving the pairs of a trace behind its other events changes no leaf, no pair, no counter, since these are lists of one
--- kind of event, and sums; and so it is for the traces of an element's fields, one by one.
+-- answer shows the difference: moving the pairs of a trace behind its other events changes no leaf, no pair, no number taken, no counter, since these are
+-- lists of one kind of event, and sums; and so it is for the traces of an element's fields, one by one.
 use Prim.Native.Nat.{ℕ, zero, suc, _*_}
 use mathlib.Core.Path.{_≡_, refl, sym, ap, ap₂, _∙_}
 use mathlib.Core.Bool.{true}
@@ -10,12 +10,12 @@ use lib.Dec.{ltb}
 use Rattle.bits.specs.Sizes.{maxElements, maxFields}
 use Rattle.bits.proofs.ChoiceLaws.{by-cases}
 use Rattle.framing.specs.Windows.{Window, windowOf, Reading, got, failed, reading}
-use Rattle.framing.specs.Events.{Pair, number, element, array, leaf, pair, truncation, error, implicit, nested, root, leaves, pairs, Trace}
+use Rattle.framing.specs.Events.{Pair, number, element, array, leaf, pair, truncation, error, implicit, nested, root, leaves, pairs, taken, Trace}
 use Rattle.framing.specs.Counters.{counted, counters, sums, countOf}
 use Rattle.framing.specs.Walk.{numberAt, Lead, ends, fails, closes, opens, lead, tail, Run, done, stopped, fields, closing, inItem, behind, beyond, onIndex, onLastIndex, elements, tooMany, onCount, level}
 use Rattle.framing.specs.Sinks.{objectSink, object, sinkOf, walkWindow, walk}
 use Rattle.framing.specs.PairsBehind.{others, asEvents, late, lateRun, onIndexBehind, elementsBehind, onCountBehind, walkBehind, NotToldApart}
-use Rattle.framing.proofs.TraceLaws.{counters-append, leaves-append, pairs-append, sums-assoc, sums-swap}
+use Rattle.framing.proofs.TraceLaws.{counters-append, leaves-append, pairs-append, taken-append, sums-assoc, sums-swap}
 
 others-leaves : (t : Trace) → leaves (others t) ≡ leaves t
 others-leaves [] = refl
@@ -43,6 +43,23 @@ others-pairs (implicit ∷ t) = others-pairs t
 others-pairs (nested n ∷ t) = others-pairs t
 others-pairs (root n ∷ t) = others-pairs t
 
+others-taken : (t : Trace) → taken (others t) ≡ taken t
+others-taken [] = refl
+others-taken (pair x ∷ t) = others-taken t
+others-taken (number x ∷ t) = ap (λ l. x ∷ l) (others-taken t)
+others-taken (element p ∷ t) = others-taken t
+others-taken (array p ∷ t) = others-taken t
+others-taken (leaf x ∷ t) = others-taken t
+others-taken (truncation ∷ t) = others-taken t
+others-taken (error ∷ t) = others-taken t
+others-taken (implicit ∷ t) = others-taken t
+others-taken (nested n ∷ t) = others-taken t
+others-taken (root n ∷ t) = others-taken t
+
+events-taken : (l : List Pair) → taken (asEvents l) ≡ []
+events-taken [] = refl
+events-taken (x ∷ l) = events-taken l
+
 events-leaves : (l : List Pair) → leaves (asEvents l) ≡ []
 events-leaves [] = refl
 events-leaves (x ∷ l) = events-leaves l
@@ -56,6 +73,12 @@ late-leaves t =
     leaves-append (others t) (asEvents (pairs t))
     ∙ ap₂ (λ a b. a ++ b) (others-leaves t) (events-leaves (pairs t))
     ∙ append-nil (leaves t)
+
+late-taken : (t : Trace) → taken (late t) ≡ taken t
+late-taken t =
+    taken-append (others t) (asEvents (pairs t))
+    ∙ ap₂ (λ a b. a ++ b) (others-taken t) (events-taken (pairs t))
+    ∙ append-nil (taken t)
 
 pub late-pairs : (t : Trace) → pairs (late t) ≡ pairs t
 late-pairs t = pairs-append (others t) (asEvents (pairs t)) ∙ ap₂ (λ a b. a ++ b) (others-pairs t) (events-pairs (pairs t))
@@ -81,10 +104,10 @@ late-counters t = counters-append (others t) (asEvents (pairs t)) ∙ sym (late-
 -- ---- the walk as rule 8 words it
 
 one-trace : (t : Trace) → NotToldApart t t
-one-trace t = record { same-leaves = refl; same-pairs = refl; same-counters = refl }
+one-trace t = record { same-leaves = refl; same-pairs = refl; same-counters = refl; same-numbers = refl }
 
 moved-late : (t : Trace) → NotToldApart (late t) t
-moved-late t = record { same-leaves = late-leaves t; same-pairs = late-pairs t; same-counters = late-counters t }
+moved-late t = record { same-leaves = late-leaves t; same-pairs = late-pairs t; same-counters = late-counters t; same-numbers = late-taken t }
 
 -- one behind the other
 in-turn : {t u v w : Trace} → NotToldApart t u → NotToldApart v w → NotToldApart (t ++ v) (u ++ w)
@@ -93,6 +116,7 @@ in-turn {t} {u} {v} {w} a b =
       same-leaves = leaves-append t v ∙ ap₂ (λ x y. x ++ y) (a .same-leaves) (b .same-leaves) ∙ sym (leaves-append u w);
       same-pairs = pairs-append t v ∙ ap₂ (λ x y. x ++ y) (a .same-pairs) (b .same-pairs) ∙ sym (pairs-append u w);
       same-counters = counters-append t v ∙ ap₂ sums (a .same-counters) (b .same-counters) ∙ sym (counters-append u w);
+      same-numbers = taken-append t v ∙ ap₂ (λ x y. x ++ y) (a .same-numbers) (b .same-numbers) ∙ sym (taken-append u w);
     }
 
 behind-late : {f g : ℕ → Trace} → ((q : ℕ) → NotToldApart (f q) (g q)) → (r : Run) → NotToldApart (behind f (lateRun r)) (behind g r)

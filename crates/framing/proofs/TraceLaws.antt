@@ -1,4 +1,4 @@
--- The laws of sums of counters, which are those of adding numbers; and of traces: counters, leaves and pairs of two traces one behind the other. By
+-- The laws of sums of counters, which are those of adding numbers; and of traces: counters, leaves, pairs and numbers of two traces one behind the other. By
 -- induction over the first trace, since each event adds its own.
 use mathlib.Core.Path.{_≡_, refl, sym, ap, _∙_}
 use mathlib.Core.List.{[], _∷_, _++_}
@@ -6,8 +6,10 @@ use Prim.Native.Nat.{_+_}
 use native.Mathlib.Nat.{zero-add, add-comm, add-assoc}
 use native.Mathlib.Omega.{arith}
 use lib.ListN.{length}
-use Rattle.framing.specs.Events.{number, element, array, leaf, pair, truncation, error, implicit, nested, root, leaves, pairs, Trace}
-use Rattle.framing.specs.Counters.{Counters, counted, counters, sums, countOf}
+use Rattle.bits.specs.Padded.{paddedAmong}
+use Rattle.bits.proofs.PaddedLaws.{among-append}
+use Rattle.framing.specs.Events.{number, element, array, leaf, pair, truncation, error, implicit, nested, root, leaves, pairs, taken, Trace}
+use Rattle.framing.specs.Counters.{Counters, counted, counters, sums, countOf, paddedIn}
 
 pub sums-zero : (c : Counters) → sums (counted 0 0 0 0 0 0 0) c ≡ c
 sums-zero c =
@@ -81,6 +83,22 @@ pairs-append (error ∷ t) u = pairs-append t u
 pairs-append (implicit ∷ t) u = pairs-append t u
 pairs-append (nested x ∷ t) u = pairs-append t u
 pairs-append (root x ∷ t) u = pairs-append t u
+
+pub taken-append : (t u : Trace) → taken (t ++ u) ≡ taken t ++ taken u
+taken-append [] u = refl
+taken-append (number x ∷ t) u = ap (λ l. x ∷ l) (taken-append t u)
+taken-append (element p ∷ t) u = taken-append t u
+taken-append (array p ∷ t) u = taken-append t u
+taken-append (leaf x ∷ t) u = taken-append t u
+taken-append (pair x ∷ t) u = taken-append t u
+taken-append (truncation ∷ t) u = taken-append t u
+taken-append (error ∷ t) u = taken-append t u
+taken-append (implicit ∷ t) u = taken-append t u
+taken-append (nested x ∷ t) u = taken-append t u
+taken-append (root x ∷ t) u = taken-append t u
+
+pub padded-append : (t u : Trace) → paddedIn (t ++ u) ≡ paddedIn t + paddedIn u
+padded-append t u = ap paddedAmong (taken-append t u) ∙ among-append (taken t) (taken u)
 
 -- The fields that were counted are the leaves and the pairs.
 pub fields-given : (t : Trace) → (counters t) .fields ≡ length (leaves t) + length (pairs t)

@@ -1,5 +1,5 @@
--- Weigh the events of a walk. A packed number takes eight bits and weighs nothing, a leaf weighs its bits or 1, all else at most 1 or the bits that
--- it counts: so a walk of n bits weighs at most n, and what the event that ends a level weighs.
+-- Weigh the events of a walk. A packed number takes eight bits and weighs at most 1, a leaf weighs its bits or 1, all else at most 1 or the bits
+-- that it counts: so a walk of n bits weighs at most n, and what the event that ends a level weighs.
 use Prim.Native.Nat.{ℕ, _+_, _-_, _≤_}
 use mathlib.Core.Path.{_≡_}
 use mathlib.Core.List.{List, [], _∷_, _++_}
@@ -26,7 +26,7 @@ weigh-append m (e ∷ a) b = let z = weigh-append m a b in omega arith
 
 -- stop: what the events that end a level weigh at most
 pub record Weights (m : Event → ℕ) (stop : ℕ) : Type 0 where
-  pub number : (x : Number) → m (number x) ≡ 0
+  pub number : (x : Number) → m (number x) ≤ 1
   pub element : (p : List ℕ) → m (element p) ≤ 1
   pub array : (p : List ℕ) → m (array p) ≡ 0
   pub leaf : (x : Leaf) (n : ℕ) → 1 ≤ n → x .width ≤ n → m (leaf x) ≤ n

@@ -1,9 +1,10 @@
--- The seven counters of a walk, and whether they are clean (01, Walking an array, behind rule 9).
+-- The seven counters of a walk, and whether they are clean (01, Walking an array, behind rule 9); beside them, how many numbers were padded.
 use Prim.Native.Nat.{ℕ, _+_}
 use mathlib.Core.Bool.{Bool}
 use mathlib.Core.List.{[], _∷_}
 use lib.Dec.{eqb}
-use Rattle.framing.specs.Events.{Event, number, element, array, leaf, pair, truncation, error, implicit, nested, root, Trace}
+use Rattle.bits.specs.Padded.{paddedAmong}
+use Rattle.framing.specs.Events.{Event, number, element, array, leaf, pair, truncation, error, implicit, nested, root, Trace, taken}
 
 pub record Counters : Type 0 where
   pub elements : ℕ
@@ -45,3 +46,7 @@ faults c = c .truncations + c .errors + c .nestedBits + c .rootBits + c .implici
 
 abbrev pub isClean : Counters → Bool
 isClean c = eqb (faults c) 0
+
+-- Beside the counters and not among them: how many of the numbers that were taken are padded (request 01). Clean, verdict and sums don't look at it.
+abbrev pub paddedIn : Trace → ℕ
+paddedIn t = paddedAmong (taken t)

@@ -1,5 +1,6 @@
--- What a walk gives: a list of events, in reading order. The events of numbers taken and of arrays entered show in no answer of today, and neither
--- does the path that an element's event carries. A number that was looked at and put back is no event.
+-- What a walk gives: a list of events, in reading order. Of the numbers taken an answer shows how many are padded; where they stand, where a leaf
+-- starts, which arrays were entered and the path that an element's event carries show in no answer of today. A number that was looked at and put back
+-- is no event.
 use Prim.Native.Nat.{ℕ}
 use mathlib.Core.List.{List, [], _∷_}
 use Rattle.bits.specs.Packed.{Number}
@@ -64,3 +65,17 @@ pairs (error ∷ t) = pairs t
 pairs (implicit ∷ t) = pairs t
 pairs (nested n ∷ t) = pairs t
 pairs (root n ∷ t) = pairs t
+
+-- the packed numbers that were taken, of all levels
+abbrev pub taken : Trace → List Number
+taken [] = []
+taken (number x ∷ t) = x ∷ taken t
+taken (element p ∷ t) = taken t
+taken (array p ∷ t) = taken t
+taken (leaf x ∷ t) = taken t
+taken (pair x ∷ t) = taken t
+taken (truncation ∷ t) = taken t
+taken (error ∷ t) = taken t
+taken (implicit ∷ t) = taken t
+taken (nested n ∷ t) = taken t
+taken (root n ∷ t) = taken t

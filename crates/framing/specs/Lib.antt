@@ -10,6 +10,7 @@ pub mod Records
 pub mod Refusing
 pub mod Demand
 pub mod Cases
+pub mod PaddedCases
 pub mod Grammar
 pub mod GrammarRules
 pub mod GrammarGives

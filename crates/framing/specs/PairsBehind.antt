@@ -10,7 +10,7 @@ use lib.Dec.{ltb}
 use Rattle.bits.specs.Choice.{if_then_else_}
 use Rattle.bits.specs.Sizes.{maxElements, maxFields}
 use Rattle.framing.specs.Windows.{Window, windowOf, Reading, got, failed, reading}
-use Rattle.framing.specs.Events.{Pair, number, element, array, leaf, pair, truncation, error, implicit, nested, root, leaves, pairs, Trace}
+use Rattle.framing.specs.Events.{Pair, number, element, array, leaf, pair, truncation, error, implicit, nested, root, leaves, pairs, taken, Trace}
 use Rattle.framing.specs.Counters.{counters}
 use Rattle.framing.specs.Walk.{numberAt, Lead, ends, fails, closes, opens, lead, tail, Run, done, stopped, fields, closing, behind, beyond, onLastIndex, tooMany}
 use Rattle.framing.specs.Sinks.{objectSink}
@@ -69,9 +69,10 @@ unfoldable pub walkBehind : (bytes : List ℕ) (n : ℕ) → Trace
 walkBehind bytes n =
     if ltb (8 * length bytes) n then error ∷ [] else onCountBehind (windowOf bytes n) (reading (windowOf bytes n) 0)
 
--- ---- two traces that no answer tells apart: an answer shows a trace's leaves, its pairs and its counters
+-- ---- two traces that no answer tells apart: an answer shows a trace's leaves, its pairs, its counters, and how many of its numbers are padded
 
 pub record NotToldApart (t u : Trace) : Type 0 where
   pub same-leaves : leaves t ≡ leaves u
   pub same-pairs : pairs t ≡ pairs u
   pub same-counters : counters t ≡ counters u
+  pub same-numbers : taken t ≡ taken u

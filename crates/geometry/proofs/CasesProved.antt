@@ -10,7 +10,7 @@ use Rattle.bitio.specs.declared.Refusal.the-variants.{TooFew}
 use Rattle.geometry.specs.Parts.{afterRead, axisAfter, asBits, partAt, threeAt, together, componentsAt}
 use Rattle.geometry.specs.Vectors.{checked, vectorOf, divisor, vectorBehind, quantizedAt}
 use Rattle.geometry.specs.Rotations.{rotationOf}
-use Rattle.geometry.specs.Movements.{afterBit, afterVector, afterRotation, afterSpin, afterOptional, afterFlags, afterPose, afterExtras, widthOf, scaleOf, flagsAt, poseAt, spinAt, flaggedAt, extrasAt, movementAt, inReader, readMovement}
+use Rattle.geometry.specs.Movements.{afterBit, afterVector, afterRotation, afterSpin, afterOptional, afterFlags, afterPose, afterExtras, widthOf, scaleOf, flagsAt, poseAt, spinAt, flaggedAt, howMany, extrasAt, movementAt, inReader, readMovement}
 use Rattle.geometry.specs.Cases.{bytes, moved}
 use Rattle.geometry.specs.declared.MovementRead.the-variants.{Value, Refused}
 use Rattle.geometry.specs.declared.Refusal.the-variants.{Unread}
@@ -23,5 +23,5 @@ pub case-14 :
     × (readMovement bytes 26 ByteComponents RoundWholeNumber ≡ Refused (Unread (TooFew 24 26 3)))
 unfolding num field twos good window atCursor asking opened seen asBit readBits halvings log2 serializedTop serializedAt afterRead axisAfter asBits
     partAt threeAt together componentsAt checked vectorOf divisor vectorBehind quantizedAt rotationOf afterBit afterVector afterRotation afterSpin
-    afterOptional afterFlags afterPose afterExtras widthOf scaleOf flagsAt poseAt spinAt flaggedAt extrasAt movementAt inReader ofInt round div
+    afterOptional afterFlags afterPose afterExtras widthOf scaleOf flagsAt poseAt spinAt flaggedAt howMany extrasAt movementAt inReader ofInt round div
 case-14 = (refl, refl)

@@ -88,27 +88,28 @@ module _ {A : Type 0} (E : A → Type 0) (refused : Refusal → A) (fails : (r :
   past-rotation (R.Value x p) next h = h x p refl
   past-rotation (R.Refused r) next h = fails r
 
-  past-spin : (v : SpinRead) (next : Spin → ℕ → A) → ((x : Spin) (p : ℕ) → v ≡ S.Value x p → E (next x p)) → E (afterSpin refused v next)
+  pub past-spin : (v : SpinRead) (next : Spin → ℕ → A) → ((x : Spin) (p : ℕ) → v ≡ S.Value x p → E (next x p)) → E (afterSpin refused v next)
   unfolding afterSpin
   past-spin (S.Value x p) next h = h x p refl
   past-spin (S.Refused r) next h = fails r
 
-  past-optional : (v : OptionalNumberRead) (next : OptionalNumber → ℕ → A) → ((x : OptionalNumber) (p : ℕ) → E (next x p)) → E (afterOptional refused v next)
+  pub past-optional : (v : OptionalNumberRead) (next : OptionalNumber → ℕ → Bool → A) → ((x : OptionalNumber) (p : ℕ) (t : Bool) → v ≡ N.Value x p t → E (next x p t))
+      → E (afterOptional refused v next)
   unfolding afterOptional
-  past-optional (N.Value x p) next h = h x p
+  past-optional (N.Value x p t) next h = h x p t refl
   past-optional (N.Refused r) next h = fails r
 
-  past-flags : (v : FlagsRead) (next : Flags → ℕ → A) → ((x : Flags) (p : ℕ) → E (next x p)) → E (afterFlags refused v next)
+  pub past-flags : (v : FlagsRead) (next : Flags → ℕ → A) → ((x : Flags) (p : ℕ) → v ≡ F.Value x p → E (next x p)) → E (afterFlags refused v next)
   unfolding afterFlags
-  past-flags (F.Value x p) next h = h x p
+  past-flags (F.Value x p) next h = h x p refl
   past-flags (F.Refused r) next h = fails r
 
-  past-pose : (v : PoseRead) (next : Pose → ℕ → A) → ((x : Pose) (p : ℕ) → v ≡ Q.Value x p → E (next x p)) → E (afterPose refused v next)
+  pub past-pose : (v : PoseRead) (next : Pose → ℕ → A) → ((x : Pose) (p : ℕ) → v ≡ Q.Value x p → E (next x p)) → E (afterPose refused v next)
   unfolding afterPose
   past-pose (Q.Value x p) next h = h x p refl
   past-pose (Q.Refused r) next h = fails r
 
-  past-extras : (v : ExtrasRead) (next : Extras → ℕ → A) → ((x : Extras) (p : ℕ) → v ≡ X.Value x p → E (next x p)) → E (afterExtras refused v next)
+  pub past-extras : (v : ExtrasRead) (next : Extras → ℕ → A) → ((x : Extras) (p : ℕ) → v ≡ X.Value x p → E (next x p)) → E (afterExtras refused v next)
   unfolding afterExtras
   past-extras (X.Value x p) next h = h x p refl
   past-extras (X.Refused r) next h = fails r
@@ -126,8 +127,8 @@ module _ (s : List ℕ) where
   unfolding extrasAt
   spare physics frame handle c =
       past-spin Spare X.Refused (λ r. tt) (spinAt s physics c) _ (λ a p₁ e.
-      past-optional Spare X.Refused (λ r. tt) (flaggedAt s frame (at c p₁)) _ (λ f p₂.
-      past-optional Spare X.Refused (λ r. tt) (flaggedAt s handle (at c p₂)) _ (λ h p₃.
+      past-optional Spare X.Refused (λ r. tt) (flaggedAt s frame (at c p₁)) _ (λ f p₂ t₂ e₂.
+      past-optional Spare X.Refused (λ r. tt) (flaggedAt s handle (at c p₂)) _ (λ h p₃ t₃ e₃.
       subst Spun e (spun physics c))))
 
 module _ (s : List ℕ) (rotation : RotatorQuantization) (location : VectorQuantization) where
@@ -148,7 +149,7 @@ module _ (s : List ℕ) (rotation : RotatorQuantization) (location : VectorQuant
   unfolding movementAt
   moved c =
       let w = widthOf rotation in
-      past-flags (Moved w) M.Refused (λ r. tt) (flagsAt s c) _ (λ f p₁.
+      past-flags (Moved w) M.Refused (λ r. tt) (flagsAt s c) _ (λ f p₁ e₀.
       past-pose (Moved w) M.Refused (λ r. tt) (poseAt s rotation location (at c p₁)) _ (λ q p₂ e₁.
       past-extras (Moved w) M.Refused (λ r. tt) (extrasAt s (f .physics) (f .frame) (f .handle) (at c p₂)) _ (λ x p₃ e₂.
       let of-pose : SoundPose w q = subst (Posed w) e₁ (posed (at c p₁)) in

@@ -14,12 +14,13 @@ use Rattle.bitio.specs.declared.Cursor.{Cursor}
 use Rattle.bitio.specs.declared.Refusal as bitio
 use Rattle.bitio.specs.declared.BitRead.{BitRead}
 use Rattle.bitio.specs.declared.BitRead.the-variants as B1
+use Rattle.bitio.specs.declared.PackedNumber.{PackedNumber}
 use Rattle.bitio.specs.declared.PackedRead.{PackedRead}
 use Rattle.bitio.specs.declared.PackedRead.the-variants as P
 use Rattle.geometry.specs.Parts.{at}
 use Rattle.geometry.specs.Vectors.{quantizedAt}
 use Rattle.geometry.specs.Rotations.{rotationAt}
-use Rattle.geometry.specs.Movements.{afterBit, afterVector, afterRotation, afterPacked, afterSpin, afterOptional, afterFlags, afterPose, afterExtras, widthOf, scaleOf, velocityScale, flags, flagsAt, pose, poseAt, spinAt, flaggedAt, extras, extrasAt, movement, movementAt}
+use Rattle.geometry.specs.Movements.{afterBit, afterVector, afterRotation, afterPacked, afterSpin, afterOptional, afterFlags, afterPose, afterExtras, widthOf, scaleOf, velocityScale, flags, flagsAt, pose, poseAt, spinAt, flaggedAt, howMany, extras, extrasAt, movement, movementAt}
 use Rattle.geometry.proofs.PartLaws.{come}
 use Rattle.geometry.proofs.RoomLaws.{bit-there}
 use Rattle.geometry.specs.declared.Vector.{Vector}
@@ -77,11 +78,12 @@ module _ (s : List ℕ) (b : Bool) (c : Cursor) where
   unfolding spinAt afterVector
   spin-refused h e g = let k = sym e ∙ g in rw (h, k)
 
-  pub number-absent : b ≡ false → N.Value number.Absent (c .pos) ≡ flaggedAt s b c
+  pub number-absent : b ≡ false → N.Value number.Absent (c .pos) false ≡ flaggedAt s b c
   unfolding flaggedAt
   number-absent h = rw h
 
-  pub number-present : {k : PackedRead} {n p : ℕ} → b ≡ true → k ≡ readIntPacked s c → k ≡ P.Value n p → N.Value (number.Present n) p ≡ flaggedAt s b c
+  pub number-present : {k : PackedRead} {n : PackedNumber} {p : ℕ} → b ≡ true → k ≡ readIntPacked s c → k ≡ P.Value n p
+      → N.Value (number.Present (n .value)) p (n .padded) ≡ flaggedAt s b c
   unfolding flaggedAt afterPacked
   number-present h e g = let k = sym e ∙ g in rw (h, k)
 
@@ -163,14 +165,15 @@ module _ (s : List ℕ) (physics frame handle : Bool) (c : Cursor) where
       unfolding extrasAt afterSpin afterOptional
       extras-second-refused g₂ = let h₁ = sym e₁ ∙ g₁ in let h₂ = come (flaggedAt s frame) m₁ e₂ g₂ in rw (h₁, h₂)
 
-      module _ {b₃ : OptionalNumberRead} {c₂ : Cursor} {x₂ : OptionalNumber} {p₂ : ℕ} (g₂ : b₂ ≡ N.Value x₂ p₂) (m₂ : c₂ ≡ at c p₂) (e₃ : b₃ ≡ flaggedAt s handle c₂) where
+      module _ {b₃ : OptionalNumberRead} {c₂ : Cursor} {x₂ : OptionalNumber} {p₂ : ℕ} {t₂ : Bool} (g₂ : b₂ ≡ N.Value x₂ p₂ t₂) (m₂ : c₂ ≡ at c p₂) (e₃ : b₃ ≡ flaggedAt s handle c₂) where
         pub extras-third-refused : {r : Refusal} → b₃ ≡ N.Refused r → X.Refused r ≡ extrasAt s physics frame handle c
         unfolding extrasAt afterSpin afterOptional
         extras-third-refused g₃ = let h₁ = sym e₁ ∙ g₁ in let h₂ = come (flaggedAt s frame) m₁ e₂ g₂ in let h₃ = come (flaggedAt s handle) m₂ e₃ g₃ in rw (h₁, h₂, h₃)
 
-        pub extras-read : {x₃ : OptionalNumber} {p₃ : ℕ} → b₃ ≡ N.Value x₃ p₃ → X.Value (extras x₁ x₂ x₃) p₃ ≡ extrasAt s physics frame handle c
+        pub extras-read : {x₃ : OptionalNumber} {p₃ : ℕ} {t₃ : Bool} {n : ℕ} → b₃ ≡ N.Value x₃ p₃ t₃ → n ≡ howMany t₂ t₃
+            → X.Value (extras x₁ x₂ x₃ n) p₃ ≡ extrasAt s physics frame handle c
         unfolding extrasAt afterSpin afterOptional
-        extras-read g₃ = let h₁ = sym e₁ ∙ g₁ in let h₂ = come (flaggedAt s frame) m₁ e₂ g₂ in let h₃ = come (flaggedAt s handle) m₂ e₃ g₃ in rw (h₁, h₂, h₃)
+        extras-read g₃ k = let h₁ = sym e₁ ∙ g₁ in let h₂ = come (flaggedAt s frame) m₁ e₂ g₂ in let h₃ = come (flaggedAt s handle) m₂ e₃ g₃ in rw (h₁, h₂, h₃, k)
 
 -- ---- the record
 module _ (s : List ℕ) (rotation : RotatorQuantization) (location : VectorQuantization) (c : Cursor) where

@@ -22,6 +22,7 @@ use Rattle.bitio.specs.declared.BitRead.{BitRead}
 use Rattle.bitio.specs.declared.BitRead.the-variants as B1
 use Rattle.bitio.specs.declared.BitsRead.{BitsRead}
 use Rattle.bitio.specs.declared.BitsRead.the-variants as B
+use Rattle.bitio.specs.declared.PackedNumber.{PackedNumber}
 use Rattle.bitio.specs.declared.PackedRead.{PackedRead}
 use Rattle.bitio.specs.declared.PackedRead.the-variants as P
 use Rattle.bitio.specs.declared.SerializedRead.{SerializedRead}
@@ -29,7 +30,7 @@ use Rattle.bitio.specs.declared.SerializedRead.the-variants as Ser
 use Rattle.geometry.specs.Parts.{at, afterRead, axisAfter, asBits, partAt, threeAt, together, componentsAt}
 use Rattle.geometry.specs.Vectors.{vector, checked, vectorOf, divisor, vectorBehind, headerMaximum, quantizedAt, readVector, normalMaximum, normalOf, readNormal}
 use Rattle.geometry.specs.Rotations.{rotation, rotationOf, rotationAt, readRotation}
-use Rattle.geometry.specs.Movements.{afterBit, afterVector, afterRotation, afterPacked, afterSpin, afterOptional, afterFlags, afterPose, afterExtras, widthOf, scaleOf, velocityScale, flags, flagsAt, pose, poseAt, spinAt, flaggedAt, extras, extrasAt, movement, movementAt}
+use Rattle.geometry.specs.Movements.{afterBit, afterVector, afterRotation, afterPacked, afterSpin, afterOptional, afterFlags, afterPose, afterExtras, widthOf, scaleOf, velocityScale, flags, flagsAt, pose, poseAt, spinAt, flaggedAt, howMany, extras, extrasAt, movement, movementAt}
 use Rattle.geometry.specs.declared.Vector.{Vector}
 use Rattle.geometry.specs.declared.Rotation.{Rotation}
 use Rattle.geometry.specs.declared.Spin.{Spin}
@@ -69,9 +70,12 @@ data Same (Ok : ℕ → Type 0) {A X E : Type 0} (value : X → ℕ → A) (refu
   given : (x : X) (p : ℕ) → Ok p → a ≡ value x p → b ≡ value x p → Same Ok value refused a b
   none : (r : E) → a ≡ refused r → b ≡ refused r → Same Ok value refused a b
 
--- three numbers are one value
+-- three numbers are one value, and so are a number, if there is one, and whether it is padded
 threeOf : ℕ × ℕ × ℕ → (p : ℕ) → Three
 threeOf v p = T.Value (v .0) (v .1) (v .2) p
+
+numberOf : OptionalNumber × Bool → (p : ℕ) → OptionalNumberRead
+numberOf v p = N.Value (v .0) p (v .1)
 
 module _ {Ok : ℕ → Type 0} where
   module _ {A X E : Type 0} {value : X → ℕ → A} {refused : E → A} where
@@ -110,7 +114,7 @@ module _ {Ok : ℕ → Type 0} where
   serialized-one (Ser.Value x p) e h = given x p (h x p refl) refl (sym e)
   serialized-one (Ser.Refused r) e h = none r refl (sym e)
 
-  packed-one : (a : PackedRead) {b : PackedRead} → a ≡ b → ((x p : ℕ) → a ≡ P.Value x p → Ok p) → Same Ok P.Value P.Refused a b
+  packed-one : (a : PackedRead) {b : PackedRead} → a ≡ b → ((x : PackedNumber) (p : ℕ) → a ≡ P.Value x p → Ok p) → Same Ok P.Value P.Refused a b
   packed-one (P.Value x p) e h = given x p (h x p refl) refl (sym e)
   packed-one (P.Refused r) e h = none r refl (sym e)
 
@@ -129,8 +133,8 @@ module _ {Ok : ℕ → Type 0} where
     unfolding afterBit
     past-bit f g e k = onto (λ a. afterBit refused a f) (λ b. afterBit refused b g) k (λ r. none (Unread r) refl refl) e
 
-    past-packed : (f g : (x p : ℕ) → A) {a b : PackedRead} → Same Ok P.Value P.Refused a b
-        → ((x p : ℕ) → Ok p → Same Ok value refused (f x p) (g x p)) → Same Ok value refused (afterPacked refused a f) (afterPacked refused b g)
+    past-packed : (f g : PackedNumber → (p : ℕ) → A) {a b : PackedRead} → Same Ok P.Value P.Refused a b
+        → ((x : PackedNumber) (p : ℕ) → Ok p → Same Ok value refused (f x p) (g x p)) → Same Ok value refused (afterPacked refused a f) (afterPacked refused b g)
     unfolding afterPacked
     past-packed f g e k = onto (λ a. afterPacked refused a f) (λ b. afterPacked refused b g) k (λ r. none (Unread r) refl refl) e
 
@@ -150,11 +154,12 @@ module _ {Ok : ℕ → Type 0} where
     unfolding afterSpin
     past-spin f g e k = onto (λ a. afterSpin refused a f) (λ b. afterSpin refused b g) k (λ r. none r refl refl) e
 
-    past-optional : (f g : OptionalNumber → (p : ℕ) → A) {a b : OptionalNumberRead} → Same Ok N.Value N.Refused a b
-        → ((x : OptionalNumber) (p : ℕ) → Ok p → Same Ok value refused (f x p) (g x p))
+    past-optional : (f g : OptionalNumber → (p : ℕ) → Bool → A) {a b : OptionalNumberRead} → Same Ok numberOf N.Refused a b
+        → ((x : OptionalNumber) (p : ℕ) (t : Bool) → Ok p → Same Ok value refused (f x p t) (g x p t))
         → Same Ok value refused (afterOptional refused a f) (afterOptional refused b g)
-    unfolding afterOptional
-    past-optional f g e k = onto (λ a. afterOptional refused a f) (λ b. afterOptional refused b g) k (λ r. none r refl refl) e
+    unfolding afterOptional numberOf
+    past-optional f g e k =
+        onto (λ a. afterOptional refused a f) (λ b. afterOptional refused b g) (λ v p h. k (v .0) p (v .1) h) (λ r. none r refl refl) e
 
     past-flags : (f g : Flags → (p : ℕ) → A) {a b : FlagsRead} → Same Ok F.Value F.Refused a b
         → ((x : Flags) (p : ℕ) → Ok p → Same Ok value refused (f x p) (g x p)) → Same Ok value refused (afterFlags refused a f) (afterFlags refused b g)
@@ -275,22 +280,22 @@ module _ (s t : List ℕ) (c : Cursor) (w : window s c ≡ window t c) (Ok : ℕ
   spin-same true p h = past-vector _ _ (vector-same velocityScale p h) (λ v q k. given (spin.Present v) q k refl refl)
   spin-same false p h = given spin.Absent p h refl refl
 
-  number-same : (b : Bool) (p : ℕ) → Ok p → Same Ok N.Value N.Refused (flaggedAt s b (at c p)) (flaggedAt t b (at c p))
-  unfolding flaggedAt
+  number-same : (b : Bool) (p : ℕ) → Ok p → Same Ok numberOf N.Refused (flaggedAt s b (at c p)) (flaggedAt t b (at c p))
+  unfolding flaggedAt numberOf
   number-same true p h =
       past-packed _ _
       (packed-one (readIntPacked s (at c p)) (same-packed s t (at c p) (there p) (both p h)) (λ x q e. in-window q (packed-ends s (at c p) x q e)))
-      (λ n q k. given (number.Present n) q k refl refl)
-  number-same false p h = given number.Absent p h refl refl
+      (λ n q k. given (number.Present (n .value), n .padded) q k refl refl)
+  number-same false p h = given (number.Absent, false) p h refl refl
 
   extras-same : (physics frame handle : Bool) (p : ℕ) → Ok p
       → Same Ok X.Value X.Refused (extrasAt s physics frame handle (at c p)) (extrasAt t physics frame handle (at c p))
   unfolding extrasAt
   extras-same physics frame handle p h =
       past-spin _ _ (spin-same physics p h) (λ a p₁ h₁.
-      past-optional _ _ (number-same frame p₁ h₁) (λ f p₂ h₂.
-      past-optional _ _ (number-same handle p₂ h₂) (λ k p₃ h₃.
-      given (extras a f k) p₃ h₃ refl refl)))
+      past-optional _ _ (number-same frame p₁ h₁) (λ f p₂ b₂ h₂.
+      past-optional _ _ (number-same handle p₂ h₂) (λ k p₃ b₃ h₃.
+      given (extras a f k (howMany b₂ b₃)) p₃ h₃ refl refl)))
 
   -- ---- the calls at the cursor
   module _ (here : Ok (c .pos)) where

@@ -27,4 +27,5 @@ moved =
       physics = false;
       frame = number.Absent;
       handle = number.Absent;
+      padded = 0;
     }

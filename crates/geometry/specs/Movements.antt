@@ -1,13 +1,15 @@
 -- Movement records (01, Bits and numbers): flags, location, rotation and linear velocity, then what the flags announce.
-use Prim.Native.Nat.{ℕ}
+use Prim.Native.Nat.{ℕ, _+_}
 use mathlib.Core.Bool.{Bool, true, false}
 use mathlib.Core.List.{List}
+use Rattle.bits.specs.Padded.{once}
 use Rattle.bitio.specs.Cursors.{opened}
 use Rattle.bitio.specs.Reads.{readBit}
 use Rattle.bitio.specs.Numbers.{readIntPacked}
 use Rattle.bitio.specs.declared.Cursor.{Cursor}
 use Rattle.bitio.specs.declared.BitRead.{BitRead}
 use Rattle.bitio.specs.declared.BitRead.the-variants as B1
+use Rattle.bitio.specs.declared.PackedNumber.{PackedNumber}
 use Rattle.bitio.specs.declared.PackedRead.{PackedRead}
 use Rattle.bitio.specs.declared.PackedRead.the-variants as P
 use Rattle.bitio.specs.declared.Opened.{Opened}
@@ -62,7 +64,7 @@ module _ {A : Type 0} (refused : Refusal → A) where
   afterRotation (R.Value v p) next = next v p
   afterRotation (R.Refused r) next = refused r
 
-  unfoldable pub afterPacked : PackedRead → ((n p : ℕ) → A) → A
+  unfoldable pub afterPacked : PackedRead → (PackedNumber → (p : ℕ) → A) → A
   afterPacked (P.Value n p) next = next n p
   afterPacked (P.Refused r) next = refused (Unread r)
 
@@ -70,8 +72,8 @@ module _ {A : Type 0} (refused : Refusal → A) where
   afterSpin (S.Value v p) next = next v p
   afterSpin (S.Refused r) next = refused r
 
-  unfoldable pub afterOptional : OptionalNumberRead → (OptionalNumber → (p : ℕ) → A) → A
-  afterOptional (N.Value n p) next = next n p
+  unfoldable pub afterOptional : OptionalNumberRead → (OptionalNumber → (p : ℕ) → (padded : Bool) → A) → A
+  afterOptional (N.Value n p b) next = next n p b
   afterOptional (N.Refused r) next = refused r
 
   unfoldable pub afterFlags : FlagsRead → (Flags → (p : ℕ) → A) → A
@@ -129,18 +131,22 @@ spinAt s true c = afterVector S.Refused (quantizedAt s velocityScale c) (λ v p.
 spinAt s false c = S.Value spin.Absent (c .pos)
 
 unfoldable pub flaggedAt : List ℕ → Bool → Cursor → OptionalNumberRead
-flaggedAt s true c = afterPacked N.Refused (readIntPacked s c) (λ n p. N.Value (number.Present n) p)
-flaggedAt s false c = N.Value number.Absent (c .pos)
+flaggedAt s true c = afterPacked N.Refused (readIntPacked s c) (λ n p. N.Value (number.Present (n .value)) p (n .padded))
+flaggedAt s false c = N.Value number.Absent (c .pos) false
 
-abbrev pub extras : (angular : Spin) (frame handle : OptionalNumber) → Extras
-extras a f h = record { angular = a; frame = f; handle = h }
+-- how many of two hold
+unfoldable pub howMany : (one other : Bool) → ℕ
+howMany one other = once one + once other
+
+abbrev pub extras : (angular : Spin) (frame handle : OptionalNumber) (padded : ℕ) → Extras
+extras a f h n = record { angular = a; frame = f; handle = h; padded = n }
 
 unfoldable pub extrasAt : List ℕ → (physics frame handle : Bool) → Cursor → ExtrasRead
 extrasAt s physics frame handle c =
     afterSpin X.Refused (spinAt s physics c) (λ a p₁.
-    afterOptional X.Refused (flaggedAt s frame (at c p₁)) (λ f p₂.
-    afterOptional X.Refused (flaggedAt s handle (at c p₂)) (λ h p₃.
-    X.Value (extras a f h) p₃)))
+    afterOptional X.Refused (flaggedAt s frame (at c p₁)) (λ f p₂ paddedFrame.
+    afterOptional X.Refused (flaggedAt s handle (at c p₂)) (λ h p₃ paddedHandle.
+    X.Value (extras a f h (howMany paddedFrame paddedHandle)) p₃)))
 
 -- ---- the record
 abbrev pub movement : Flags → Pose → Extras → Movement
@@ -153,6 +159,7 @@ movement f q x = record {
   physics = f .physics;
   frame = x .frame;
   handle = x .handle;
+  padded = x .padded;
 }
 
 unfoldable pub movementAt : List ℕ → RotatorQuantization → VectorQuantization → Cursor → MovementRead

@@ -62,6 +62,8 @@ pub struct Movement {
     pub physics: bool,
     pub frame: OptionalNumber,
     pub handle: OptionalNumber,
+    // How many of frame and handle took more bytes than they need: 0, 1 or 2.
+    pub padded: u32,
 }
 
 // What `byte_angle_steps` gives for a number that is no byte: no byte's angle has so many steps.

@@ -2,7 +2,7 @@
 ghost use mathlib.Core.Path.{_≡_};
 ghost use Rattle.geometry.specs.Rotations.{rotationAt};
 ghost use Rattle.geometry.specs.declared.MovementRead.the-variants as Read;
-ghost use Rattle.geometry.specs.Movements.{widthOf, scaleOf, flagsAt, poseAt, spinAt, flaggedAt, extrasAt, movement, movementAt};
+ghost use Rattle.geometry.specs.Movements.{widthOf, scaleOf, flagsAt, poseAt, spinAt, flaggedAt, howMany, extrasAt, movement, movementAt};
 use crate::Movement;
 use crate::MovementRead;
 use crate::OptionalNumber;
@@ -42,6 +42,8 @@ pub struct Extras {
     pub angular: Spin,
     pub frame: OptionalNumber,
     pub handle: OptionalNumber,
+    // How many of these two are padded.
+    pub padded: u32,
 }
 
 pub enum FlagsRead {
@@ -59,8 +61,9 @@ pub enum SpinRead {
     Refused(Refusal),
 }
 
+// The number, the next position, and whether the number is padded.
 pub enum OptionalNumberRead {
-    Value(OptionalNumber, u64),
+    Value(OptionalNumber, u64, bool),
     Refused(Refusal),
 }
 
@@ -213,16 +216,31 @@ fn read_number(bytes: &[u8], c: Cursor, there: bool) -> OptionalNumberRead
 {
     if !there {
         let pos = c.pos;
-        return OptionalNumberRead::Value(OptionalNumber::Absent, pos);
+        return OptionalNumberRead::Value(OptionalNumber::Absent, pos, false);
     }
     let read = bitio::read_int_packed(bytes, c);
     match read {
         PackedRead::Value(n, next) => {
-            let number = OptionalNumber::Present(n);
-            OptionalNumberRead::Value(number, next)
+            let value = n.value;
+            let padded = n.padded;
+            let number = OptionalNumber::Present(value);
+            OptionalNumberRead::Value(number, next, padded)
         }
         PackedRead::Refused(r) => OptionalNumberRead::Refused(Refusal::Unread(r)),
     }
+}
+
+// How many of the two hold.
+fn how_many(one: bool, other: bool) -> u32
+    ensures { λ r. ⌜ r ≡ howMany one other ⌝ }
+{
+    if one {
+        if other {
+            return 2;
+        }
+        return 1;
+    }
+    if other { 1 } else { 0 }
 }
 
 fn read_extras(bytes: &[u8], c: Cursor, physics: bool, frame: bool, handle: bool) -> ExtrasRead
@@ -234,15 +252,17 @@ fn read_extras(bytes: &[u8], c: Cursor, physics: bool, frame: bool, handle: bool
             let c1 = parts::moved(c, at1);
             let second = read_number(bytes, c1, frame);
             match second {
-                OptionalNumberRead::Value(f, at2) => {
+                OptionalNumberRead::Value(f, at2, first_padded) => {
                     let c2 = parts::moved(c, at2);
                     let third = read_number(bytes, c2, handle);
                     match third {
-                        OptionalNumberRead::Value(h, at3) => {
+                        OptionalNumberRead::Value(h, at3, second_padded) => {
+                            let padded = how_many(first_padded, second_padded);
                             let x = Extras {
                                 angular,
                                 frame: f,
                                 handle: h,
+                                padded,
                             };
                             ExtrasRead::Value(x, at3)
                         }
@@ -267,6 +287,7 @@ fn whole(f: Flags, p: Pose, x: Extras, next: u64) -> MovementRead
     let physics = f.physics;
     let frame = x.frame;
     let handle = x.handle;
+    let padded = x.padded;
     let m = Movement {
         location,
         rotation,
@@ -276,6 +297,7 @@ fn whole(f: Flags, p: Pose, x: Extras, next: u64) -> MovementRead
         physics,
         frame,
         handle,
+        padded,
     };
     MovementRead::Value(m, next)
 }

@@ -9,7 +9,7 @@ use lib.ListN.{length, drop}
 use Rattle.bits.specs.Runs.{put}
 use Rattle.bits.specs.Runs.{filled}
 use Rattle.framing.specs.Events.{number, element, array, leaf, pair, truncation, error, implicit, nested, root, leaves, pairs, Trace}
-use Rattle.framing.specs.Counters.{counters, sums}
+use Rattle.framing.specs.Counters.{counters, sums, paddedIn}
 use Rattle.framing.specs.Records.{leafWords, pairWords, leafRecord, pairRecord, payloadOf, pathBytes, payloadBytes, leafRecords, pairRecords}
 use Rattle.framing.proofs.TraceLaws.{sums-zero}
 use Rattle.outputs.specs.World.{plain, World, apply, fresh, traceRecords, Totals}
@@ -23,6 +23,14 @@ counters-after t w = ap (λ (s : Totals). s .counters) (tally-law t w)
 -- from a fresh world: the counters of the trace
 pub counters-fresh : (t : Trace) (l p y : List ℕ) → (apply plain t (fresh l p y)) .counters ≡ counters t
 counters-fresh t l p y = counters-after t (fresh l p y) ∙ sums-zero (counters t)
+
+-- ---- padded numbers
+
+pub padded-after : (t : Trace) (w : World) → (apply plain t w) .padded ≡ w .padded + paddedIn t
+padded-after t w = ap (λ (s : Totals). s .padded) (tally-law t w)
+
+pub padded-fresh : (t : Trace) (l p y : List ℕ) → (apply plain t (fresh l p y)) .padded ≡ paddedIn t
+padded-fresh t l p y = padded-after t (fresh l p y) ∙ zero-add (paddedIn t)
 
 -- ---- positions: what they were and what the trace needs, whatever the buffers hold
 

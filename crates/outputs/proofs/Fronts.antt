@@ -60,7 +60,7 @@ drop-tail-opens (x ∷ y ∷ l) = let f = drop-tail-opens (y ∷ l) in record { 
 -- ---- an accepted call's buffers begin with what any leaves do that its leaves begin with
 
 left-opens : {N : Type 0} (a : Answer N) → wasAccepted a → {xs : List ℕ} (new old : List ℕ) → Opens xs new → Opens xs (atExit a new old)
-left-opens (accepted k n) yes′ new old f = opens-trans f (opens-filled new old)
+left-opens (accepted k p n) yes′ new old f = opens-trans f (opens-filled new old)
 left-opens (refused k n) yes′ new old f = absurd yes′
 
 pub front : (c : Call) (b : Lent) → wasAccepted (answer c b) → (l : List Leaf) → Opens l (leaves (traceOf c)) → Front l (final c b)

@@ -46,7 +46,7 @@ payloads-weighs : Weights payloads 0
 unfolding payloadBytes
 payloads-weighs =
     record {
-      number = λ x. refl;
+      number = λ x. omega arith;
       element = λ p. omega arith;
       array = λ p. refl;
       leaf = λ x n some wide. let z = loads-leaf x in omega arith;

@@ -8,12 +8,13 @@ use native.Mathlib.Omega.{arith}
 use lib.ListN.{length, length-append}
 use Rattle.bits.specs.Runs.{put, store}
 use Rattle.bits.proofs.RunLaws.{put-put, put-none, store-fits, length-store}
-use Rattle.bits.specs.Packed.{Number}
-use Rattle.framing.specs.Events.{numbers, Event, number, element, array, leaf, pair, truncation, error, implicit, nested, root, leaves, Trace}
-use Rattle.framing.specs.Counters.{Counters, counted, counters, sums, countOf}
+use Rattle.bits.specs.Padded.{isPadded, paddedAmong}
+use Rattle.bits.proofs.ChoiceLaws.{by-cases}
+use Rattle.framing.specs.Events.{Event, number, element, array, leaf, pair, truncation, error, implicit, nested, root, leaves, Trace}
+use Rattle.framing.specs.Counters.{Counters, counted, counters, sums, countOf, paddedIn}
 use Rattle.framing.specs.Records.{leafRecord, pairRecord, payloadOf, pathBytes, payloadBytes}
 use Rattle.framing.proofs.TraceLaws.{sums-assoc, sums-none}
-use Rattle.outputs.specs.World.{Adding, plain, World, count, onEvent, apply, traceRecords, Totals, totalsOf, tallied}
+use Rattle.outputs.specs.World.{Adding, plain, World, count, countPadded, onEvent, apply, traceRecords, Totals, totalsOf, tallied}
 
 -- ---- a trace
 
@@ -21,15 +22,6 @@ pub apply-append : (add : Adding) (t u : Trace) (w : World) → apply add (t ++ 
 unfolding apply
 apply-append add [] u w = refl
 apply-append add (e ∷ t) u w = apply-append add t u (onEvent add e w)
-
--- for the code: numbers, which it does not record
-pub apply-number : (add : Adding) (x : Number) (t : Trace) (w : World) → apply add (number x ∷ t) w ≡ apply add t w
-unfolding apply
-apply-number add x t w = refl
-
-pub apply-numbers : (add : Adding) (ns : List Number) (t : Trace) (w : World) → apply add (numbers ns ++ t) w ≡ apply add t w
-apply-numbers add [] t w = refl
-apply-numbers add (x ∷ ns) t w = apply-number add x (numbers ns ++ t) w ∙ apply-numbers add ns t w
 
 -- an event counts what `countOf` says
 same : (n : ℕ) → n ≡ n + 0
@@ -51,53 +43,75 @@ count-adds (root n) c = λ i. counted (same (c .elements) i) (same (c .fields) i
 count-then : (e : Event) (c : Counters) (t : Trace) → sums (count plain e c) (counters t) ≡ sums c (counters (e ∷ t))
 count-then e c t = ap (λ (x : Counters). sums x (counters t)) (count-adds e c) ∙ sums-assoc c (countOf e) (counters t)
 
+-- the same of padded numbers
+padded-then : (e : Event) (n : ℕ) (t : Trace) → countPadded plain e n + paddedIn t ≡ n + paddedIn (e ∷ t)
+unfolding paddedAmong
+padded-then (number x) n t = by-cases (isPadded x) (λ h. simp h (omega arith)) (λ h. simp h (omega arith))
+padded-then (element p) n t = refl
+padded-then (array p) n t = refl
+padded-then (leaf x) n t = refl
+padded-then (pair x) n t = refl
+padded-then truncation n t = refl
+padded-then error n t = refl
+padded-then implicit n t = refl
+padded-then (nested k) n t = refl
+padded-then (root k) n t = refl
+
 passes : (n : ℕ) (xs ys : List ℕ) → n + length xs + length ys ≡ n + length (xs ++ ys)
 passes n xs ys = let e = length-append xs ys in omega arith
 
--- COUNTERS AND POSITIONS: what they were and what the trace needs, whatever the buffers hold.
+-- an event that writes nothing
+counted-then : (e : Event) (w : World) (t : Trace) (u : Totals)
+    → _≡_ {A = Totals} (record { counters = sums (count plain e (w .counters)) (counters t); padded = countPadded plain e (w .padded) + paddedIn t; records = u .records; paths = u .paths; payloads = u .payloads })
+    (record { counters = sums (w .counters) (counters (e ∷ t)); padded = w .padded + paddedIn (e ∷ t); records = u .records; paths = u .paths; payloads = u .payloads })
+counted-then e w t u =
+    λ i. record { counters = count-then e (w .counters) t i; padded = padded-then e (w .padded) t i; records = u .records; paths = u .paths; payloads = u .payloads }
+
+-- COUNTS AND POSITIONS: what they were and what the trace needs, whatever the buffers hold.
 pub tally-law : (t : Trace) (w : World) → totalsOf (apply plain t w) ≡ tallied t (totalsOf w)
-unfolding apply traceRecords pathBytes payloadBytes
+unfolding apply traceRecords pathBytes payloadBytes paddedAmong
 tally-law [] w =
     let a = same (w .records .at) in
     let b = same (w .paths .at) in
     let d = same (w .payloads .at) in
-    λ i. record { counters = sym (sums-none (w .counters)) i; records = a i; paths = b i; payloads = d i }
+    let n = same (w .padded) in
+    λ i. record { counters = sym (sums-none (w .counters)) i; padded = n i; records = a i; paths = b i; payloads = d i }
 tally-law (leaf x ∷ t) w =
     let c = count-then (leaf x) (w .counters) t in
     let rest = traceRecords (w .paths .at + length (x .path)) (w .payloads .at + length (payloadOf x)) t in
     let p = passes (w .records .at) (leafRecord (w .paths .at) (w .payloads .at) x) rest in
     let q = passes (w .paths .at) (x .path) (pathBytes (leaves t)) in
     let r = passes (w .payloads .at) (payloadOf x) (payloadBytes (leaves t)) in
-    tally-law t (onEvent plain (leaf x) w) ∙ (λ i. record { counters = c i; records = p i; paths = q i; payloads = r i })
+    tally-law t (onEvent plain (leaf x) w) ∙ (λ i. record { counters = c i; padded = padded-then (leaf x) (w .padded) t i; records = p i; paths = q i; payloads = r i })
 tally-law (pair x ∷ t) w =
     let c = count-then (pair x) (w .counters) t in
     let p = passes (w .records .at) (pairRecord x) (traceRecords (w .paths .at) (w .payloads .at) t) in
     let u : Totals = tallied t (totalsOf w) in
-    tally-law t (onEvent plain (pair x) w) ∙ (λ i. record { counters = c i; records = p i; paths = u .paths; payloads = u .payloads })
+    tally-law t (onEvent plain (pair x) w) ∙ (λ i. record { counters = c i; padded = padded-then (pair x) (w .padded) t i; records = p i; paths = u .paths; payloads = u .payloads })
 tally-law (number x ∷ t) w =
     let u : Totals = tallied t (totalsOf w) in
-    tally-law t (onEvent plain (number x) w) ∙ (λ i. record { counters = count-then (number x) (w .counters) t i; records = u .records; paths = u .paths; payloads = u .payloads })
+    tally-law t (onEvent plain (number x) w) ∙ counted-then (number x) w t u
 tally-law (element p ∷ t) w =
     let u : Totals = tallied t (totalsOf w) in
-    tally-law t (onEvent plain (element p) w) ∙ (λ i. record { counters = count-then (element p) (w .counters) t i; records = u .records; paths = u .paths; payloads = u .payloads })
+    tally-law t (onEvent plain (element p) w) ∙ counted-then (element p) w t u
 tally-law (array p ∷ t) w =
     let u : Totals = tallied t (totalsOf w) in
-    tally-law t (onEvent plain (array p) w) ∙ (λ i. record { counters = count-then (array p) (w .counters) t i; records = u .records; paths = u .paths; payloads = u .payloads })
+    tally-law t (onEvent plain (array p) w) ∙ counted-then (array p) w t u
 tally-law (truncation ∷ t) w =
     let u : Totals = tallied t (totalsOf w) in
-    tally-law t (onEvent plain truncation w) ∙ (λ i. record { counters = count-then truncation (w .counters) t i; records = u .records; paths = u .paths; payloads = u .payloads })
+    tally-law t (onEvent plain truncation w) ∙ counted-then truncation w t u
 tally-law (error ∷ t) w =
     let u : Totals = tallied t (totalsOf w) in
-    tally-law t (onEvent plain error w) ∙ (λ i. record { counters = count-then error (w .counters) t i; records = u .records; paths = u .paths; payloads = u .payloads })
+    tally-law t (onEvent plain error w) ∙ counted-then error w t u
 tally-law (implicit ∷ t) w =
     let u : Totals = tallied t (totalsOf w) in
-    tally-law t (onEvent plain implicit w) ∙ (λ i. record { counters = count-then implicit (w .counters) t i; records = u .records; paths = u .paths; payloads = u .payloads })
+    tally-law t (onEvent plain implicit w) ∙ counted-then implicit w t u
 tally-law (nested n ∷ t) w =
     let u : Totals = tallied t (totalsOf w) in
-    tally-law t (onEvent plain (nested n) w) ∙ (λ i. record { counters = count-then (nested n) (w .counters) t i; records = u .records; paths = u .paths; payloads = u .payloads })
+    tally-law t (onEvent plain (nested n) w) ∙ counted-then (nested n) w t u
 tally-law (root n ∷ t) w =
     let u : Totals = tallied t (totalsOf w) in
-    tally-law t (onEvent plain (root n) w) ∙ (λ i. record { counters = count-then (root n) (w .counters) t i; records = u .records; paths = u .paths; payloads = u .payloads })
+    tally-law t (onEvent plain (root n) w) ∙ counted-then (root n) w t u
 
 -- THE PASTE LAW, of one buffer at a time: where there is room for all that the trace gives it, that is what it holds, from its position on.
 step : (run rest l : List ℕ) (i : ℕ) → i + length (run ++ rest) ≤ length l → put (store l i run) (i + length run) rest ≡ put l i (run ++ rest)

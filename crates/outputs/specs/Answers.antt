@@ -18,7 +18,7 @@ use Rattle.outputs.specs.World.{World}
 
 -- a buffer at the end: the new contents and behind them what was lent; if the call is refused, what was lent
 abbrev pub atExit : {N : Type 0} → Answer N → (new lent : List ℕ) → List ℕ
-atExit (accepted c n) new lent = filled new lent
+atExit (accepted c p n) new lent = filled new lent
 atExit (refused k n) new lent = lent
 
 -- ---- struct and exact walks
@@ -110,7 +110,7 @@ pub record PairsAnswered (bytes : List ℕ) (bits : ℕ) (lent : List ℕ) (r : 
 -- ---- demand 3, of buffers
 
 abbrev pub wasAccepted : {N : Type 0} → Answer N → Type 0
-wasAccepted (accepted c n) = Unit
+wasAccepted (accepted c p n) = Unit
 wasAccepted (refused k n) = ⊥
 
 -- the leaves that a cut window's walk shares with the whole window's

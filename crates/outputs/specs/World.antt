@@ -1,15 +1,17 @@
--- What a walk's events do to the counters and the lent buffers.
+-- What a walk's events do to the counters, the count of padded numbers and the lent buffers.
 -- The code is proved equal to `apply (wrapping m) events world`, m being 2 ^ 32, one more than the largest u32; the meaning is
 -- `apply plain events world`; proofs/NoWrap shows that the two coincide.
 use Prim.Native.Nat.{ℕ, _+_, _%_}
 use mathlib.Core.List.{List, [], _∷_, _++_}
 use lib.ListN.{length}
+use Rattle.bits.specs.Choice.{if_then_else_}
 use Rattle.bits.specs.Runs.{store}
+use Rattle.bits.specs.Padded.{isPadded}
 use Rattle.framing.specs.Events.{Leaf, Pair, Event, number, element, array, leaf, pair, truncation, error, implicit, nested, root, leaves, Trace}
-use Rattle.framing.specs.Counters.{Counters, counted, counters, sums}
+use Rattle.framing.specs.Counters.{Counters, counted, counters, sums, paddedIn}
 use Rattle.framing.specs.Records.{leafRecord, pairRecord, payloadOf, pathBytes, payloadBytes}
 
--- How positions and counters are added up: exactly, or as the code does on numbers below m.
+-- How positions and counts are added up: exactly, or as the code does on numbers below m.
 abbrev pub Adding : Type 0
 Adding = ℕ → ℕ → ℕ
 
@@ -29,10 +31,11 @@ pub record Out : Type 0 where
 abbrev pub putNext : Adding → List ℕ → Out → Out
 putNext add run o = record { at = add (o .at) (length run); held = store (o .held) (o .at) run }
 
--- ---- the world: counters and three buffers; records holds leaf records, in an object walk pairs
+-- ---- the world: counters, the count of padded numbers, and three buffers; records holds leaf records, in an object walk pairs
 
 pub record World : Type 0 where
   pub counters : Counters
+  pub padded : ℕ
   pub records : Out
   pub paths : Out
   pub payloads : Out
@@ -50,21 +53,36 @@ count add (nested n) c = counted (c .elements) (c .fields) (c .truncations) (c .
 count add (root n) c = counted (c .elements) (c .fields) (c .truncations) (c .errors) (c .nestedBits) (add (c .rootBits) n) (c .implicits)
 count add implicit c = counted (c .elements) (c .fields) (c .truncations) (c .errors) (c .nestedBits) (c .rootBits) (add (c .implicits) 1)
 
--- the same buffers, other counters
-abbrev pub counting : Counters → World → World
-counting c w = record { counters = c; records = w .records; paths = w .paths; payloads = w .payloads }
+-- what an event adds to the count of padded numbers
+abbrev pub countPadded : Adding → Event → ℕ → ℕ
+countPadded add (number x) n = if isPadded x then add n 1 else n
+countPadded add (element p) n = n
+countPadded add (array p) n = n
+countPadded add (leaf x) n = n
+countPadded add (pair x) n = n
+countPadded add truncation n = n
+countPadded add error n = n
+countPadded add (nested k) n = n
+countPadded add (root k) n = n
+countPadded add implicit n = n
+
+-- the same buffers, other counts
+abbrev pub counting : Counters → (padded : ℕ) → World → World
+counting c n w = record { counters = c; padded = n; records = w .records; paths = w .paths; payloads = w .payloads }
 
 abbrev pub onLeaf : Adding → Leaf → World → World
 onLeaf add x w =
     record {
       counters = w .counters;
+      padded = w .padded;
       records = putNext add (leafRecord (w .paths .at) (w .payloads .at) x) (w .records);
       paths = putNext add (x .path) (w .paths);
       payloads = putNext add (payloadOf x) (w .payloads);
     }
 
 abbrev pub onPair : Adding → Pair → World → World
-onPair add x w = record { counters = w .counters; records = putNext add (pairRecord x) (w .records); paths = w .paths; payloads = w .payloads }
+onPair add x w =
+    record { counters = w .counters; padded = w .padded; records = putNext add (pairRecord x) (w .records); paths = w .paths; payloads = w .payloads }
 
 -- what an event does to the buffers
 abbrev pub written : Adding → Event → World → World
@@ -80,7 +98,7 @@ written add (nested n) w = w
 written add (root n) w = w
 
 abbrev pub onEvent : Adding → Event → World → World
-onEvent add e w = counting (count add e (w .counters)) (written add e w)
+onEvent add e w = counting (count add e (w .counters)) (countPadded add e (w .padded)) (written add e w)
 
 unfoldable pub apply : Adding → Trace → World → World
 apply add [] w = w
@@ -91,6 +109,7 @@ abbrev pub fresh : (records paths payloads : List ℕ) → World
 fresh records paths payloads =
     record {
       counters = counted 0 0 0 0 0 0 0;
+      padded = 0;
       records = record { at = 0; held = records };
       paths = record { at = 0; held = paths };
       payloads = record { at = 0; held = payloads };
@@ -112,20 +131,22 @@ traceRecords a b (implicit ∷ t) = traceRecords a b t
 traceRecords a b (nested n ∷ t) = traceRecords a b t
 traceRecords a b (root n ∷ t) = traceRecords a b t
 
--- what a trace adds to the counters and the positions, whatever the buffers hold
+-- what a trace adds to the counts and the positions, whatever the buffers hold
 pub record Totals : Type 0 where
   pub counters : Counters
+  pub padded : ℕ
   pub records : ℕ
   pub paths : ℕ
   pub payloads : ℕ
 
 abbrev pub totalsOf : World → Totals
-totalsOf w = record { counters = w .counters; records = w .records .at; paths = w .paths .at; payloads = w .payloads .at }
+totalsOf w = record { counters = w .counters; padded = w .padded; records = w .records .at; paths = w .paths .at; payloads = w .payloads .at }
 
 abbrev pub tallied : Trace → Totals → Totals
 tallied t s =
     record {
       counters = sums (s .counters) (counters t);
+      padded = s .padded + paddedIn t;
       records = s .records + length (traceRecords (s .paths) (s .payloads) t);
       paths = s .paths + length (pathBytes (leaves t));
       payloads = s .payloads + length (payloadBytes (leaves t));

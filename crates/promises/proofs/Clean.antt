@@ -75,7 +75,7 @@ module _ (k : Walker) (bytes : List ℕ) (bits : ℕ) where
 -- ---- struct and exact walks
 
 module _ {A : Type 0} (form : F.Verdict → A) (apart : Apart form) (k : Call) (leafy : Leafy (k .how)) (b : Lent) (c : Counters) (v : A) (need : Room) (x : Lent)
-    (run : Ran form k b c v need x) where
+    {p : ℕ} (run : Ran form k b c v need x p) where
   -- what it filled, by the walk's own leaves
   own-leaves : Fills (leaves (traceOf k)) need x
   unfolding needed
@@ -106,17 +106,17 @@ module _ {A : Type 0} (form : F.Verdict → A) (apart : Apart form) (k : Call) (
 -- THE STRUCT WALK: an accepted answer is clean exactly if its window is the bits of an array of the grammar; then its counters are that array's, and
 -- the records of that array's leaves are what stands at the front of the buffers.
 pub clean-decode-struct-array : (bytes : List ℕ) (bits : ℕ) (t : Tables) (levels root : ℕ) (b : Lent) (st : ArrayDecodeStats) (v : Verdict)
-    (e : Extent) (x : Lent) → Decodes (structCall bytes bits t levels root) b (structs.Decoded st v e) x
+    (e : Extent) (p : ℕ) (x : Lent) → Decodes (structCall bytes bits t levels root) b (structs.Decoded st v e p) x
     → CleanLeaves verdictNamed (structCall bytes bits t levels root) (countersOf st) v (roomIn e) x
-clean-decode-struct-array bytes bits t levels root b st v e x f =
-    let k = structCall bytes bits t levels root in leaves-clean verdictNamed named-apart k refl b _ v _ x (ran-decodes k b st v e x f)
+clean-decode-struct-array bytes bits t levels root b st v e p x f =
+    let k = structCall bytes bits t levels root in leaves-clean verdictNamed named-apart k refl b _ v _ x (ran-decodes k b st v e p x f)
 
 -- THE EXACT WALK: the same, of an array without trailer.
 pub clean-decode-struct-array-exact : (bytes : List ℕ) (bits : ℕ) (declared declaredNames : List ℕ) (b : Lent) (st : ArrayDecodeStats) (v : Verdict)
-    (e : Extent) (x : Lent) → Decodes (exactCall bytes bits declared declaredNames) b (structs.Decoded st v e) x
+    (e : Extent) (p : ℕ) (x : Lent) → Decodes (exactCall bytes bits declared declaredNames) b (structs.Decoded st v e p) x
     → CleanLeaves verdictNamed (exactCall bytes bits declared declaredNames) (countersOf st) v (roomIn e) x
-clean-decode-struct-array-exact bytes bits declared declaredNames b st v e x f =
-    let k = exactCall bytes bits declared declaredNames in leaves-clean verdictNamed named-apart k refl b _ v _ x (ran-decodes k b st v e x f)
+clean-decode-struct-array-exact bytes bits declared declaredNames b st v e p x f =
+    let k = exactCall bytes bits declared declaredNames in leaves-clean verdictNamed named-apart k refl b _ v _ x (ran-decodes k b st v e p x f)
 
 -- `vrf_struct_array`: the same of a struct that says no refusal.
 pub clean-vrf-struct-array : (bytes : List ℕ) (bits : ℕ) (t : Tables) (levels root : ℕ) (b : Lent) (r : VrfWalk) (x : Lent)
@@ -133,7 +133,7 @@ clean-vrf-struct-array-exact bytes bits declared declaredNames b r x f h =
 -- ---- the object walk
 
 module _ {A : Type 0} (form : F.Verdict → A) (apart : Apart form) (bytes : List ℕ) (bits : ℕ) (b : List ℕ) (c : Counters) (v : A) (n : ℕ) (x : List ℕ)
-    (run : RanPairs form bytes bits b c v n x) where
+    {p : ℕ} (run : RanPairs form bytes bits b c v n x p) where
   own-pairs : Opens (pairRecords (pairs (pairTrace bytes bits))) x
   unfolding finalPairs
   own-pairs =
@@ -162,9 +162,9 @@ module _ {A : Type 0} (form : F.Verdict → A) (apart : Apart form) (bytes : Lis
 
 -- THE OBJECT WALK: an accepted answer is clean exactly if its window is the bits of an array of the grammar; then its counters and its pairs are that
 -- array's, and these pairs are what stands at the front of the buffer.
-pub clean-decode-object-ref-array : (bytes : List ℕ) (bits : ℕ) (b : List ℕ) (st : ArrayDecodeStats) (v : Verdict) (n : ℕ) (x : List ℕ)
-    → DecodesPairs bytes bits b (objects.Decoded st v n) x → CleanPairs verdictNamed bytes bits (countersOf st) v n x
-clean-decode-object-ref-array bytes bits b st v n x f = pairs-clean verdictNamed named-apart bytes bits b _ v n x (ran-pairs bytes bits b st v n x f)
+pub clean-decode-object-ref-array : (bytes : List ℕ) (bits : ℕ) (b : List ℕ) (st : ArrayDecodeStats) (v : Verdict) (n p : ℕ) (x : List ℕ)
+    → DecodesPairs bytes bits b (objects.Decoded st v n p) x → CleanPairs verdictNamed bytes bits (countersOf st) v n x
+clean-decode-object-ref-array bytes bits b st v n p x f = pairs-clean verdictNamed named-apart bytes bits b _ v n x (ran-pairs bytes bits b st v n p x f)
 
 -- `vrf_object_array`: the same of a struct that says no refusal.
 pub clean-vrf-object-array : (bytes : List ℕ) (bits : ℕ) (b : List ℕ) (r : VrfObjects) (x : List ℕ)

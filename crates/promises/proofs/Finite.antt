@@ -66,7 +66,7 @@ finite-read-rep-movement bytes count rotation location (M.Refused r) e = tt
 -- ---- the calls for C
 
 -- no refusal has the number 0
-not-refused : {A : Type 0} (r : Refusal) → numbered r .number ≡ 0 → A
+pub not-refused : {A : Type 0} (r : Refusal) → numbered r .number ≡ 0 → A
 not-refused r e =
     let n = numbered r in
     let f : none ≡ some n = ap (λ (k : ℕ). given k (n .first) (n .second) (n .third)) (sym e) ∙ move-given r in

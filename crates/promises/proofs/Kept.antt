@@ -54,7 +54,7 @@ kept-leaves : (c : Call) (b : Lent) (r : StructArray) (x : Lent) (n : Numbered) 
 kept-leaves c b r x n f e = go (answerOf r) refl e
   where
     go : (a : Answer Room) → answerOf r ≡ a → ofWalk a ≡ some n → x ≡ b
-    go (accepted k m) h e = let z : _≡_ {A = ℕ} 0 1 = cc in never z
+    go (accepted k p m) h e = let z : _≡_ {A = ℕ} 0 1 = cc in never z
     go (refused k m) h e = refused-buffers c b r x f k m h
 
 -- A refused struct walk leaves its three buffers as lent.
@@ -73,7 +73,7 @@ pub kept-decode-object-ref-array : (bytes : List ℕ) (bits : ℕ) (b : List ℕ
 kept-decode-object-ref-array bytes bits b r x n f e = go (pairsOf r) refl e
   where
     go : (a : Answer ℕ) → pairsOf r ≡ a → ofPairs a ≡ some n → x ≡ b
-    go (accepted k m) h e = let z : _≡_ {A = ℕ} 0 1 = cc in never z
+    go (accepted k p m) h e = let z : _≡_ {A = ℕ} 0 1 = cc in never z
     go (refused k m) h e = refused-pairs bytes bits b r x f k m h
 
 -- ---- the fast array
@@ -129,7 +129,7 @@ kept-walk : (c : Call) (b : Lent) (r : VrfWalk) (x : Lent) → Walks c b r x →
 kept-walk c b r x f e = go (answer c b) refl
   where
     go : (a : Answer Room) → answer c b ≡ a → x ≡ b
-    go (accepted k n) h = absurd (e (ap (λ (v : VrfWalk). v .refusal) (f .says) ∙ ap (λ (a : Answer Room). walkResult (c .how) (c .bits) a .refusal) h))
+    go (accepted k p n) h = absurd (e (ap (λ (v : VrfWalk). v .refusal) (f .says) ∙ ap (λ (a : Answer Room). walkResult (c .how) (c .bits) a .refusal) h))
     go (refused k n) h = f .buffers ∙ refusal-keeps c b k n h
 
 -- `vrf_struct_array`, refused, leaves its three buffers as lent.
@@ -147,7 +147,7 @@ pub kept-vrf-object-array : (bytes : List ℕ) (bits : ℕ) (b : List ℕ) (r : 
 kept-vrf-object-array bytes bits b r x f e = go (pairAnswer bytes bits b) refl
   where
     go : (a : Answer ℕ) → pairAnswer bytes bits b ≡ a → x ≡ b
-    go (accepted k n) h = absurd (e (ap (λ (v : VrfObjects). v .refusal) (f .says) ∙ ap (λ (a : Answer ℕ). objectsResult bits a .refusal) h))
+    go (accepted k p n) h = absurd (e (ap (λ (v : VrfObjects). v .refusal) (f .says) ∙ ap (λ (a : Answer ℕ). objectsResult bits a .refusal) h))
     go (refused k n) h = f .buffer ∙ pairs-refusal-keeps bytes bits b k n h
 
 -- `vrf_fast_array`, refused, leaves its three buffers as lent.

@@ -39,3 +39,6 @@ pub mod PairsBehind
 pub mod TotalLaws
 pub mod CleanTotals
 pub mod Totals
+pub mod Padded
+pub mod PaddedCounts
+pub mod PaddedMovements

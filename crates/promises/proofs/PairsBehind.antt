@@ -9,6 +9,7 @@ use lib.ListN.{length}
 use lib.Dec.{leb, ltb}
 use Rattle.bits.specs.Choice.{if_then_else_}
 use Rattle.bits.specs.Sizes.{longestWindow}
+use Rattle.bits.specs.Padded.{paddedAmong}
 use Rattle.framing.specs.Events.{Trace}
 use Rattle.framing.specs.Records.{pairWords, wholeRecords, pairRecords}
 use Rattle.framing.specs.Refusing.{refused, accepted, decided}
@@ -28,9 +29,10 @@ module _ (bits : ℕ) (b : List ℕ) {t u : Trace} (a : NotToldApart t u) where
   same-answer =
       let c = a .same-counters in
       let p = a .same-pairs in
+      let n = a .same-numbers in
       λ i. if ltb longestWindow bits then refused 1 0 else
       (if not true then refused 2 0 else
-      (if not (leb (length (p i)) (wholeRecords pairWords (length b))) then refused 3 (length (p i)) else accepted (c i) (length (p i))))
+      (if not (leb (length (p i)) (wholeRecords pairWords (length b))) then refused 3 (length (p i)) else accepted (c i) (paddedAmong (n i)) (length (p i))))
 
   same-buffer : finalPairsOf t (pairAnswerOf t bits b) b ≡ finalPairsOf u (pairAnswerOf u bits b) b
   same-buffer = let p = a .same-pairs in λ i. atExit (same-answer i) (pairRecords (p i)) b

@@ -15,7 +15,7 @@ use Rattle.bits.proofs.Never.{never}
 use Rattle.schema.specs.Tables.{Tables}
 use Rattle.framing.specs.Windows.{Window, windowOf}
 use Rattle.framing.specs.Events.{Leaf, leaves, pairs}
-use Rattle.framing.specs.Counters.{Counters, counters}
+use Rattle.framing.specs.Counters.{Counters, counters, paddedIn}
 use Rattle.framing.specs.Sinks.{structSink, Walker, struct, exact, object, sinkOf, walk}
 use Rattle.framing.specs.Verdicts as F
 use Rattle.framing.specs.Verdicts.{verdictOf}
@@ -59,17 +59,17 @@ module _ (short long : Call) (cut : CutCall short long) where
       (demand3 (long .how) (long .bytes) (short .bytes) (long .bits) (short .bits) (cut .shorter) (cut .inside-long) (cut .inside-short) (cut .bits))
 
   module _ {A : Type 0} (form : F.Verdict → A) (apart : Apart form) (b d x y : Lent) (st su : Counters) (v w : A) (e f : Room)
-      (p : Ran form short b st v e x) (q : Ran form long d su w f y) where
+      {i j : ℕ} (p : Ran form short b st v e x i) (q : Ran form long d su w f y j) where
     same-leaves : Opens (shared short) (leaves (traceOf long))
     same-leaves = walks-cut .same-leaves
 
     shared-room : Room
     shared-room = record { leaves = length (shared short); pathBytes = length (pathBytes (shared short)); payloadBytes = length (payloadBytes (shared short)) }
 
-    short-tells : (st ≡ counters (traceOf short)) × (e ≡ needed (traceOf short))
+    short-tells : (st ≡ counters (traceOf short)) × (e ≡ needed (traceOf short)) × (i ≡ paddedIn (traceOf short))
     short-tells = ran-tells p
 
-    long-tells : (su ≡ counters (traceOf long)) × (f ≡ needed (traceOf long))
+    long-tells : (su ≡ counters (traceOf long)) × (f ≡ needed (traceOf long)) × (j ≡ paddedIn (traceOf long))
     long-tells = ran-tells q
 
     fronts : Front (shared short) x × Front (shared short) y
@@ -151,26 +151,26 @@ module _ (longer shorter : List ℕ) (n m : ℕ) (first : FirstBits longer short
       }
 
   begin : {A : Type 0} (form : F.Verdict → A) → Apart form → (k : Walker) (levels : ℕ) (b d x y : Lent) (st su : Counters) (v w : A) (e f : Room)
-      → Ran form (callOf k levels shorter m) b st v e x → Ran form (callOf k levels longer n) d su w f y
+      → {i j : ℕ} → Ran form (callOf k levels shorter m) b st v e x i → Ran form (callOf k levels longer n) d su w f y j
       → Begins form (callOf k levels shorter m) (callOf k levels longer n) v w e f x y
   begin form apart k levels = leaves-begin (callOf k levels shorter m) (callOf k levels longer n) (cut-call k levels) form apart
 
-  module _ (b d x y : Lent) (st su : ArrayDecodeStats) (v w : Verdict) (e f : Extent) where
+  module _ (b d x y : Lent) (st su : ArrayDecodeStats) (v w : Verdict) (e f : Extent) (i j : ℕ) where
     -- DEMAND 3 OF THE STRUCT WALK: neither of two calls with the same tables is refused, and the shorter's bits are the longer's first. The
     -- shorter's records, path bytes and payload bytes, but for a kept tail's, stand unchanged at the front of the longer's buffers; and if the
     -- longer's verdict is clean and the shorter has fewer bits, its verdict is not clean, but where it lacks exactly a zero trailer.
-    pub prefix-decode-struct-array : (t : Tables) (levels root : ℕ) → Decodes (structCall shorter m t levels root) b (structs.Decoded st v e) x
-        → Decodes (structCall longer n t levels root) d (structs.Decoded su w f) y
+    pub prefix-decode-struct-array : (t : Tables) (levels root : ℕ) → Decodes (structCall shorter m t levels root) b (structs.Decoded st v e i) x
+        → Decodes (structCall longer n t levels root) d (structs.Decoded su w f j) y
         → Begins verdictNamed (structCall shorter m t levels root) (structCall longer n t levels root) v w (roomIn e) (roomIn f) x y
     prefix-decode-struct-array t levels root p q =
-        begin verdictNamed named-apart (struct t root) levels b d x y _ _ v w _ _ (ran-decodes _ b st v e x p) (ran-decodes _ d su w f y q)
+        begin verdictNamed named-apart (struct t root) levels b d x y _ _ v w _ _ (ran-decodes _ b st v e i x p) (ran-decodes _ d su w f j y q)
 
     -- DEMAND 3 OF THE EXACT WALK: the same.
-    pub prefix-decode-struct-array-exact : (declared declaredNames : List ℕ) → Decodes (exactCall shorter m declared declaredNames) b (structs.Decoded st v e) x
-        → Decodes (exactCall longer n declared declaredNames) d (structs.Decoded su w f) y
+    pub prefix-decode-struct-array-exact : (declared declaredNames : List ℕ) → Decodes (exactCall shorter m declared declaredNames) b (structs.Decoded st v e i) x
+        → Decodes (exactCall longer n declared declaredNames) d (structs.Decoded su w f j) y
         → Begins verdictNamed (exactCall shorter m declared declaredNames) (exactCall longer n declared declaredNames) v w (roomIn e) (roomIn f) x y
     prefix-decode-struct-array-exact declared declaredNames p q =
-        begin verdictNamed named-apart (exact declared declaredNames) 0 b d x y _ _ v w _ _ (ran-decodes _ b st v e x p) (ran-decodes _ d su w f y q)
+        begin verdictNamed named-apart (exact declared declaredNames) 0 b d x y _ _ v w _ _ (ran-decodes _ b st v e i x p) (ran-decodes _ d su w f j y q)
 
   module _ (b d x y : Lent) (r q : VrfWalk) where
     -- DEMAND 3 OF `vrf_struct_array`: the same of two structs, of which neither is refused.
@@ -193,7 +193,7 @@ module _ (longer shorter : List ℕ) (n m : ℕ) (first : FirstBits longer short
   pairs-cut = demand3 object longer shorter n m (first .fewer) (first .inside-long) (first .inside-short) (one-opening longer shorter n m first)
 
   pairs-begin : {A : Type 0} (form : F.Verdict → A) → Apart form → (b d x y : List ℕ) (st su : Counters) (v w : A) (e f : ℕ)
-      → RanPairs form shorter m b st v e x → RanPairs form longer n d su w f y → PairsBegin form longer n m v w e f x y
+      → {i j : ℕ} → RanPairs form shorter m b st v e x i → RanPairs form longer n d su w f y j → PairsBegin form longer n m v w e f x y
   unfolding finalPairs
   pairs-begin form apart b d x y st su v w e f p q =
       let run = pairRecords (pairs (pairTrace shorter m)) in
@@ -216,11 +216,11 @@ module _ (longer shorter : List ℕ) (n m : ℕ) (first : FirstBits longer short
   -- DEMAND 3 OF THE OBJECT WALK: neither of two calls is refused, and the shorter's bits are the longer's first. All of the shorter's pairs stand
   -- unchanged at the front of the longer's; and if the longer's verdict is clean and the shorter has fewer bits, its verdict is not clean, but
   -- where it lacks exactly a zero trailer.
-  pub prefix-decode-object-ref-array : (b d x y : List ℕ) (st su : ArrayDecodeStats) (v w : Verdict) (e f : ℕ)
-      → DecodesPairs shorter m b (objects.Decoded st v e) x → DecodesPairs longer n d (objects.Decoded su w f) y
+  pub prefix-decode-object-ref-array : (b d x y : List ℕ) (st su : ArrayDecodeStats) (v w : Verdict) (e f i j : ℕ)
+      → DecodesPairs shorter m b (objects.Decoded st v e i) x → DecodesPairs longer n d (objects.Decoded su w f j) y
       → PairsBegin verdictNamed longer n m v w e f x y
-  prefix-decode-object-ref-array b d x y st su v w e f p q =
-      pairs-begin verdictNamed named-apart b d x y _ _ v w e f (ran-pairs shorter m b st v e x p) (ran-pairs longer n d su w f y q)
+  prefix-decode-object-ref-array b d x y st su v w e f i j p q =
+      pairs-begin verdictNamed named-apart b d x y _ _ v w e f (ran-pairs shorter m b st v e i x p) (ran-pairs longer n d su w f j y q)
 
   -- DEMAND 3 OF `vrf_object_array`: the same of two structs, of which neither is refused.
   pub prefix-vrf-object-array : (b d x y : List ℕ) (r q : VrfObjects) → WalksPairs shorter m b r x → WalksPairs longer n d q y

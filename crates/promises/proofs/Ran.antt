@@ -5,7 +5,7 @@ use mathlib.Core.List.{List}
 use Prim.Native.Nat.{ℕ}
 use lib.ListN.{length}
 use Rattle.framing.specs.Events.{pairs}
-use Rattle.framing.specs.Counters.{Counters, counters}
+use Rattle.framing.specs.Counters.{Counters, counters, paddedIn}
 use Rattle.framing.specs.Sinks.{object}
 use Rattle.framing.specs.Verdicts as F
 use Rattle.framing.specs.Verdicts.{verdictOf}
@@ -30,21 +30,21 @@ by-name v e = sym (verdict-back v) ∙ ap verdictNamed e
 
 -- ---- struct and exact walks
 
-pub record Ran {A : Type 0} (form : F.Verdict → A) (k : Call) (b : Lent) (c : Counters) (v : A) (need : Room) (x : Lent) : Type 0 where
-  pub says : accepted c need ≡ answer k b
+pub record Ran {A : Type 0} (form : F.Verdict → A) (k : Call) (b : Lent) (c : Counters) (v : A) (need : Room) (x : Lent) (p : ℕ) : Type 0 where
+  pub says : accepted c p need ≡ answer k b
   pub judged : v ≡ form (verdictOf (k .how) (k .bits) c)
   pub left : x ≡ final k b
 
--- The counters are the walk's own, and what was filled is what it needs.
-pub ran-tells : {A : Type 0} {form : F.Verdict → A} {k : Call} {b : Lent} {c : Counters} {v : A} {need : Room} {x : Lent} → Ran form k b c v need x
-    → (c ≡ counters (traceOf k)) × (need ≡ needed (traceOf k))
+-- The counters are the walk's own, what was filled is what it needs, and the padded numbers are those that it took.
+pub ran-tells : {A : Type 0} {form : F.Verdict → A} {k : Call} {b : Lent} {c : Counters} {v : A} {need : Room} {x : Lent} {p : ℕ} → Ran form k b c v need x p
+    → (c ≡ counters (traceOf k)) × (need ≡ needed (traceOf k)) × (p ≡ paddedIn (traceOf k))
 unfolding answer
 ran-tells f = accepted-tells _ _ _ _ _ _ (f .says)
 
 -- An accepted answer by name.
-pub ran-decodes : (k : Call) (b : Lent) (st : ArrayDecodeStats) (v : Verdict) (e : Extent) (x : Lent) → Decodes k b (structs.Decoded st v e) x
-    → Ran verdictNamed k b (countersOf st) v (roomIn e) x
-ran-decodes k b st v e x f =
+pub ran-decodes : (k : Call) (b : Lent) (st : ArrayDecodeStats) (v : Verdict) (e : Extent) (p : ℕ) (x : Lent) → Decodes k b (structs.Decoded st v e p) x
+    → Ran verdictNamed k b (countersOf st) v (roomIn e) x p
+ran-decodes k b st v e d x f =
     let l = f .answered .leaves in
     let p = f .answered .paths in
     let y = f .answered .payloads in
@@ -52,44 +52,44 @@ ran-decodes k b st v e x f =
 
 -- A struct for C that says no refusal.
 pub ran-walks : (k : Call) (b : Lent) (r : VrfWalk) (x : Lent) → Walks k b r x → r .refusal ≡ 0
-    → Ran verdictNumber k b (countersIn (r .counters)) (r .verdict) (filledIn r) x
+    → Ran verdictNumber k b (countersIn (r .counters)) (r .verdict) (filledIn r) x (r .padded)
 unfolding answer
 ran-walks k b r x f = subst Told (sym (f .says)) (go (answer k b) refl)
   where
     Told : VrfWalk → Type 0
-    Told w = w .refusal ≡ 0 → Ran verdictNumber k b (countersIn (w .counters)) (w .verdict) (filledIn w) x
+    Told w = w .refusal ≡ 0 → Ran verdictNumber k b (countersIn (w .counters)) (w .verdict) (filledIn w) x (w .padded)
 
     go : (a : Answer Room) → a ≡ answer k b → Told (walkResult (k .how) (k .bits) a)
-    go (accepted c n) h = λ z. record { says = h; judged = refl; left = f .buffers }
+    go (accepted c p n) h = λ z. record { says = h; judged = refl; left = f .buffers }
     go (refused c n) h = λ z. absurd (refused-numbered _ _ _ _ _ _ h z)
 
 -- ---- the object walk
 
-pub record RanPairs {A : Type 0} (form : F.Verdict → A) (bytes : List ℕ) (bits : ℕ) (b : List ℕ) (c : Counters) (v : A) (n : ℕ) (x : List ℕ) : Type 0 where
-  pub says : accepted c n ≡ pairAnswer bytes bits b
+pub record RanPairs {A : Type 0} (form : F.Verdict → A) (bytes : List ℕ) (bits : ℕ) (b : List ℕ) (c : Counters) (v : A) (n : ℕ) (x : List ℕ) (p : ℕ) : Type 0 where
+  pub says : accepted c p n ≡ pairAnswer bytes bits b
   pub judged : v ≡ form (verdictOf object bits c)
   pub left : x ≡ finalPairs bytes bits b
 
--- The counters are the walk's own, and there are as many pairs as it gives.
-pub pairs-tell : {A : Type 0} {form : F.Verdict → A} {bytes : List ℕ} {bits : ℕ} {b : List ℕ} {c : Counters} {v : A} {n : ℕ} {x : List ℕ}
-    → RanPairs form bytes bits b c v n x → (c ≡ counters (pairTrace bytes bits)) × (n ≡ length (pairs (pairTrace bytes bits)))
+-- The counters are the walk's own, there are as many pairs as it gives, and the padded numbers are those that it took.
+pub pairs-tell : {A : Type 0} {form : F.Verdict → A} {bytes : List ℕ} {bits : ℕ} {b : List ℕ} {c : Counters} {v : A} {n : ℕ} {x : List ℕ} {p : ℕ}
+    → RanPairs form bytes bits b c v n x p → (c ≡ counters (pairTrace bytes bits)) × (n ≡ length (pairs (pairTrace bytes bits))) × (p ≡ paddedIn (pairTrace bytes bits))
 unfolding pairAnswer
 pairs-tell f = accepted-tells _ _ _ _ _ _ (f .says)
 
 -- An accepted answer by name.
-pub ran-pairs : (bytes : List ℕ) (bits : ℕ) (b : List ℕ) (st : ArrayDecodeStats) (v : Verdict) (n : ℕ) (x : List ℕ)
-    → DecodesPairs bytes bits b (objects.Decoded st v n) x → RanPairs verdictNamed bytes bits b (countersOf st) v n x
-ran-pairs bytes bits b st v n x f = record { says = f .answered .says; judged = by-name v (f .judged); left = f .answered .pairs }
+pub ran-pairs : (bytes : List ℕ) (bits : ℕ) (b : List ℕ) (st : ArrayDecodeStats) (v : Verdict) (n p : ℕ) (x : List ℕ)
+    → DecodesPairs bytes bits b (objects.Decoded st v n p) x → RanPairs verdictNamed bytes bits b (countersOf st) v n x p
+ran-pairs bytes bits b st v n p x f = record { says = f .answered .says; judged = by-name v (f .judged); left = f .answered .pairs }
 
 -- A struct for C that says no refusal.
 pub ran-objects : (bytes : List ℕ) (bits : ℕ) (b : List ℕ) (r : VrfObjects) (x : List ℕ) → WalksPairs bytes bits b r x → r .refusal ≡ 0
-    → RanPairs verdictNumber bytes bits b (countersIn (r .counters)) (r .verdict) (r .pairs) x
+    → RanPairs verdictNumber bytes bits b (countersIn (r .counters)) (r .verdict) (r .pairs) x (r .padded)
 unfolding pairAnswer
 ran-objects bytes bits b r x f = subst Told (sym (f .says)) (go (pairAnswer bytes bits b) refl)
   where
     Told : VrfObjects → Type 0
-    Told w = w .refusal ≡ 0 → RanPairs verdictNumber bytes bits b (countersIn (w .counters)) (w .verdict) (w .pairs) x
+    Told w = w .refusal ≡ 0 → RanPairs verdictNumber bytes bits b (countersIn (w .counters)) (w .verdict) (w .pairs) x (w .padded)
 
     go : (a : Answer ℕ) → a ≡ pairAnswer bytes bits b → Told (objectsResult bits a)
-    go (accepted c n) h = λ z. record { says = h; judged = refl; left = f .buffer }
+    go (accepted c p n) h = λ z. record { says = h; judged = refl; left = f .buffer }
     go (refused c n) h = λ z. absurd (refused-numbered _ _ _ _ _ _ h z)

@@ -60,6 +60,7 @@ use Rattle.exports.specs.declared.VrfFastArray.{VrfFastArray}
 use Rattle.exports.specs.declared.VrfMerge.{VrfMerge}
 use Rattle.exports.specs.declared.VrfMovement.{VrfMovement}
 use Rattle.exports.specs.declared.VrfObjects.{VrfObjects}
+use Rattle.exports.specs.declared.VrfPacked.{VrfPacked}
 use Rattle.exports.specs.declared.VrfRead.{VrfRead}
 use Rattle.exports.specs.declared.VrfRotation.{VrfRotation}
 use Rattle.exports.specs.declared.VrfSchema.{VrfSchema}
@@ -69,7 +70,7 @@ use Rattle.promises.specs.ReadOrders.{ofPacked, ofSerialized, packedRule
 use Rattle.promises.specs.WalkOrders.{walkRules, pairRules, mergeRules, fillRules}
 use Rattle.schema.specs.Refusals.{filledNumbered}
 use Rattle.promises.specs.MoveOrders.{ofVector, ofRotation, ofMovement, vectorRules, normalRules, rotationRules, movementRules}
-use Rattle.promises.specs.ExportOrders.{given, inRead, inVector, inRotation, inMovement, inWalk, inObjects, inSchema, inFastArray, inMerge, sumsNumbered, numberedRules}
+use Rattle.promises.specs.ExportOrders.{given, inRead, inPacked, inVector, inRotation, inMovement, inWalk, inObjects, inSchema, inFastArray, inMerge, sumsNumbered, numberedRules}
 use Rattle.promises.proofs.RefusedReads.{serialized-order}
 use Rattle.promises.proofs.RefusedNumbers.{packed-order}
 use Rattle.promises.proofs.RefusedWalks.{walk-order, pair-order, fill-order}
@@ -94,7 +95,7 @@ first-numbered {R} f (r ∷ rs) = go (r .holds) (first-numbered f rs)
     go false k = k
 
 -- No refusal has the number 0.
-bit-given : (r : bit.Refusal) → let n = bitio.numbered r in given (n .number) (n .first) (n .second) (n .third) ≡ some n
+pub bit-given : (r : bit.Refusal) → let n = bitio.numbered r in given (n .number) (n .first) (n .second) (n .third) ≡ some n
 bit-given TooLong = refl
 bit-given (TooFew p l n) = refl
 bit-given (GoesOn n) = refl
@@ -116,7 +117,7 @@ module _ (at : ℕ) where
   bits-in (B.Value x p) = refl
   bits-in (B.Refused r) = bit-given r
 
-  packed-in : (a : PackedRead) → inRead (packedResult at a) ≡ mapped bitio.numbered (ofPacked a)
+  packed-in : (a : PackedRead) → inPacked (packedResult at a) ≡ mapped bitio.numbered (ofPacked a)
   packed-in (P.Value x p) = refl
   packed-in (P.Refused r) = bit-given r
 
@@ -149,10 +150,10 @@ module _ (bytes : List ℕ) (cursor : VrfCursor) where
       ∙ ap (mapped bitio.numbered) (reading-order bytes (cursorOf cursor) count) ∙ first-numbered bitio.numbered (readingRules bytes (cursorOf cursor) count)
 
   -- `vrf_read_packed` gives 14, 7, 8, 9.
-  pub refused-vrf-read-packed : (r : VrfRead) → r ≡ vrfReadPacked bytes cursor
-      → inRead r ≡ firstOf (numberedRules bitio.numbered (packedRules bytes (cursorOf cursor)))
+  pub refused-vrf-read-packed : (r : VrfPacked) → r ≡ vrfReadPacked bytes cursor
+      → inPacked r ≡ firstOf (numberedRules bitio.numbered (packedRules bytes (cursorOf cursor)))
   refused-vrf-read-packed r f =
-      ap inRead f ∙ packed-in (cursor .pos) (readIntPacked bytes (cursorOf cursor))
+      ap inPacked f ∙ packed-in (cursor .pos) (readIntPacked bytes (cursorOf cursor))
       ∙ ap (mapped bitio.numbered) (packed-order bytes (cursorOf cursor)) ∙ first-numbered bitio.numbered (packedRules bytes (cursorOf cursor))
 
   -- `vrf_read_serialized` gives 14, 10, 7.
@@ -207,7 +208,7 @@ refused-vrf-movement bytes count rotation location r f =
 -- ---- walks
 
 walk-in : (c : Call) (b : Lent) → inWalk (walkResult (c .how) (c .bits) (answer c b)) ≡ firstOf (walkRules c b)
-walk-in c b = walk-order (λ a. inWalk (walkResult (c .how) (c .bits) a)) (λ k n. refl) (λ k n e. simp e) c b
+walk-in c b = walk-order (λ a. inWalk (walkResult (c .how) (c .bits) a)) (λ k p n. refl) (λ k n e. simp e) c b
 
 -- `vrf_struct_array` gives 1, 2, 3.
 pub refused-vrf-struct-array : (bytes : List ℕ) (bits : ℕ) (t : Tables) (levels root : ℕ) (b : Lent) (r : VrfWalk) (x : Lent)
@@ -223,7 +224,7 @@ refused-vrf-struct-array-exact bytes bits declared declaredNames b r x f = ap in
 pub refused-vrf-object-array : (bytes : List ℕ) (bits : ℕ) (b : List ℕ) (r : VrfObjects) (x : List ℕ)
     → WalksPairs bytes bits b r x → inObjects r ≡ firstOf (pairRules bytes bits b)
 refused-vrf-object-array bytes bits b r x f =
-    ap inObjects (f .says) ∙ pair-order (λ a. inObjects (objectsResult bits a)) (λ k n. refl) (λ k n e. simp e) bytes bits b
+    ap inObjects (f .says) ∙ pair-order (λ a. inObjects (objectsResult bits a)) (λ k p n. refl) (λ k n e. simp e) bytes bits b
 
 -- ---- a merge, the schema, the fast array
 

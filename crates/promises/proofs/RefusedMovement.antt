@@ -20,6 +20,7 @@ use Rattle.bitio.proofs.CursorLaws.{good-true, at-good}
 use Rattle.bits.proofs.ChoiceLaws.{by-cases}
 use Rattle.bitio.specs.declared.Cursor.{Cursor}
 use Rattle.bitio.specs.declared.BitRead.{BitRead}
+use Rattle.bitio.specs.declared.PackedNumber.{PackedNumber}
 use Rattle.bitio.specs.declared.PackedRead.{PackedRead}
 use Rattle.bitio.specs.declared.PackedRead.the-variants as P
 use Rattle.geometry.specs.Parts.{at}
@@ -140,7 +141,7 @@ module _ (s : List ℕ) (c : Cursor) (fits : c .start + c .len ≤ bitsOf s) whe
     rotation-bound (R.Value v p) next = goes v p refl refl
     rotation-bound (R.Refused r) next = halts r refl (shows r)
 
-    packed-bound : (x : PackedRead) (next : ℕ → ℕ → A) → Bound seenPacked view (afterPacked refused) x next
+    packed-bound : (x : PackedRead) (next : PackedNumber → ℕ → A) → Bound seenPacked view (afterPacked refused) x next
     unfolding afterPacked
     packed-bound (P.Value n p) next = goes n p refl refl
     packed-bound (P.Refused r) next = halts (Unread r) refl (shows (Unread r))
@@ -164,8 +165,8 @@ module _ (s : List ℕ) (c : Cursor) (fits : c .start + c .len ≤ bitsOf s) whe
         read-on seenRotation view (afterRotation refused) (rotationAt s w (at c p)) next (rotation-bound (rotationAt s w (at c p)) next)
         (lacking (c .len) p parts) more (behindAll p parts) z (rotation-seen s c fits w p small h) (λ v k e. f v (lacking-none (c .len) p parts h k))
 
-    then-packed : (p : ℕ) (next : ℕ → ℕ → A) (more : List (Rule Refusal)) (z : Seen) → p ≤ c .len
-        → ((n : ℕ) → behindNumber (window s c) (c .len) p ≤ c .len → view (next n (behindNumber (window s c) (c .len) p)) ≡ firstOr more z)
+    then-packed : (p : ℕ) (next : PackedNumber → ℕ → A) (more : List (Rule Refusal)) (z : Seen) → p ≤ c .len
+        → ((n : PackedNumber) → behindNumber (window s c) (c .len) p ≤ c .len → view (next n (behindNumber (window s c) (c .len) p)) ≡ firstOr more z)
         → view (afterPacked refused (readIntPacked s (at c p)) next) ≡ firstOr (numberParts (window s c) (c .len) p ++ more) z
     then-packed p next more z h f =
         read-on seenPacked view (afterPacked refused) (readIntPacked s (at c p)) next (packed-bound (readIntPacked s (at c p)) next)
@@ -185,16 +186,16 @@ module _ (s : List ℕ) (c : Cursor) (fits : c .start + c .len ≤ bitsOf s) whe
         (λ v k. f (spin.Present v) k)
     then-spin false p next more z h f = f spin.Absent h
 
-    then-number : (b : Bool) (p : ℕ) (next : OptionalNumber → ℕ → A) (more : List (Rule Refusal)) (z : Seen) → p ≤ c .len
+    then-number : (b : Bool) (p : ℕ) (next : OptionalNumber → ℕ → Bool → A) (more : List (Rule Refusal)) (z : Seen) → p ≤ c .len
         → let q = if b then behindNumber (window s c) (c .len) p else p in
-        ((v : OptionalNumber) → q ≤ c .len → view (next v q) ≡ firstOr more z)
+        ((v : OptionalNumber) (t : Bool) → q ≤ c .len → view (next v q t) ≡ firstOr more z)
         → view (afterOptional refused (flaggedAt s b (at c p)) next)
         ≡ firstOr ((if b then numberParts (window s c) (c .len) p else []) ++ more) z
     unfolding afterOptional flaggedAt
     then-number true p next more z h f =
-        then-packed (λ x. view (afterOptional refused x next)) N.Refused (λ r. shows r) p (λ n q. N.Value (number.Present n) q) more z h
-        (λ n k. f (number.Present n) k)
-    then-number false p next more z h f = f number.Absent h
+        then-packed (λ x. view (afterOptional refused x next)) N.Refused (λ r. shows r) p (λ n q. N.Value (number.Present (n .value)) q (n .padded)) more z h
+        (λ n k. f (number.Present (n .value)) (n .padded) k)
+    then-number false p next more z h f = f number.Absent false h
 
   -- ---- the stages of a movement, at bit p
 
@@ -216,8 +217,8 @@ module _ (s : List ℕ) (c : Cursor) (fits : c .start + c .len ≤ bitsOf s) whe
       let p₃ = if handle then behindNumber W (c .len) p₂ else p₂ in
       let last = if handle then numberParts W (c .len) p₂ else [] in
       then-spin view X.Refused shows physics p _ ((if frame then numberParts W (c .len) p₁ else []) ++ last) (upto p₃) h (λ a h₁.
-      then-number view X.Refused shows frame p₁ _ last (upto p₃) h₁ (λ f h₂.
-      then-number view X.Refused shows handle p₂ _ [] (upto p₃) h₂ (λ k h₃. reads _ p₃) ∙ first-append last [] (upto p₃)))
+      then-number view X.Refused shows frame p₁ _ last (upto p₃) h₁ (λ f b h₂.
+      then-number view X.Refused shows handle p₂ _ [] (upto p₃) h₂ (λ k d h₃. reads _ p₃) ∙ first-append last [] (upto p₃)))
 
   pose-seen : (view : PoseRead → Seen) → ((r : Refusal) → view (Q.Refused r) ≡ stops r)
       → (rotation : RotatorQuantization) (location : VectorQuantization) (p : ℕ) (more : List (Rule Refusal)) (z : Seen) → p ≤ c .len →

@@ -64,30 +64,30 @@ module _ {A : Type 0} (form : F.Verdict → A) (apart : Apart form) where
 
 -- A struct or exact walk that was not refused, and an object walk.
 leaves-judged : {A : Type 0} (form : F.Verdict → A) → Apart form → (k : Call) (b : Lent) (c : Counters) (v : A) (need : Room) (x : Lent)
-    → Ran form k b c v need x → OnWindow form (k .how) (k .bits) c v
+    → {p : ℕ} → Ran form k b c v need x p → OnWindow form (k .how) (k .bits) c v
 leaves-judged form apart k b c v need x f = on-window form apart (k .how) (k .bytes) (k .bits) c v (ran-tells f .0) (f .judged)
 
 pairs-judged : {A : Type 0} (form : F.Verdict → A) → Apart form → (bytes : List ℕ) (bits : ℕ) (b : List ℕ) (c : Counters) (v : A) (n : ℕ) (x : List ℕ)
-    → RanPairs form bytes bits b c v n x → OnWindow form object bits c v
+    → {p : ℕ} → RanPairs form bytes bits b c v n x p → OnWindow form object bits c v
 pairs-judged form apart bytes bits b c v n x f = on-window form apart object bytes bits c v (pairs-tell f .0) (f .judged)
 
 -- The verdict of an accepted struct walk: empty of no bits, clean of some with nothing counted against it, else partial.
-pub judged-decode-struct-array : (bytes : List ℕ) (bits : ℕ) (t : Tables) (levels root : ℕ) (b : Lent) (st : ArrayDecodeStats) (v : Verdict) (e : Extent) (x : Lent)
-    → Decodes (structCall bytes bits t levels root) b (structs.Decoded st v e) x → OnWindow verdictNamed (struct t root) bits (countersOf st) v
-judged-decode-struct-array bytes bits t levels root b st v e x f =
-    let k = structCall bytes bits t levels root in leaves-judged verdictNamed named-apart k b _ v _ x (ran-decodes k b st v e x f)
+pub judged-decode-struct-array : (bytes : List ℕ) (bits : ℕ) (t : Tables) (levels root : ℕ) (b : Lent) (st : ArrayDecodeStats) (v : Verdict) (e : Extent) (p : ℕ) (x : Lent)
+    → Decodes (structCall bytes bits t levels root) b (structs.Decoded st v e p) x → OnWindow verdictNamed (struct t root) bits (countersOf st) v
+judged-decode-struct-array bytes bits t levels root b st v e p x f =
+    let k = structCall bytes bits t levels root in leaves-judged verdictNamed named-apart k b _ v _ x (ran-decodes k b st v e p x f)
 
 -- That of an accepted exact walk: the same.
-pub judged-decode-struct-array-exact : (bytes : List ℕ) (bits : ℕ) (declared declaredNames : List ℕ) (b : Lent) (st : ArrayDecodeStats) (v : Verdict) (e : Extent) (x : Lent)
-    → Decodes (exactCall bytes bits declared declaredNames) b (structs.Decoded st v e) x
+pub judged-decode-struct-array-exact : (bytes : List ℕ) (bits : ℕ) (declared declaredNames : List ℕ) (b : Lent) (st : ArrayDecodeStats) (v : Verdict) (e : Extent) (p : ℕ) (x : Lent)
+    → Decodes (exactCall bytes bits declared declaredNames) b (structs.Decoded st v e p) x
     → OnWindow verdictNamed (exact declared declaredNames) bits (countersOf st) v
-judged-decode-struct-array-exact bytes bits declared declaredNames b st v e x f =
-    let k = exactCall bytes bits declared declaredNames in leaves-judged verdictNamed named-apart k b _ v _ x (ran-decodes k b st v e x f)
+judged-decode-struct-array-exact bytes bits declared declaredNames b st v e p x f =
+    let k = exactCall bytes bits declared declaredNames in leaves-judged verdictNamed named-apart k b _ v _ x (ran-decodes k b st v e p x f)
 
 -- That of an accepted object walk: never empty; of no bits partial, since an error is counted.
-pub judged-decode-object-ref-array : (bytes : List ℕ) (bits : ℕ) (b : List ℕ) (st : ArrayDecodeStats) (v : Verdict) (n : ℕ) (x : List ℕ)
-    → DecodesPairs bytes bits b (objects.Decoded st v n) x → OnWindow verdictNamed object bits (countersOf st) v
-judged-decode-object-ref-array bytes bits b st v n x f = pairs-judged verdictNamed named-apart bytes bits b _ v n x (ran-pairs bytes bits b st v n x f)
+pub judged-decode-object-ref-array : (bytes : List ℕ) (bits : ℕ) (b : List ℕ) (st : ArrayDecodeStats) (v : Verdict) (n p : ℕ) (x : List ℕ)
+    → DecodesPairs bytes bits b (objects.Decoded st v n p) x → OnWindow verdictNamed object bits (countersOf st) v
+judged-decode-object-ref-array bytes bits b st v n p x f = pairs-judged verdictNamed named-apart bytes bits b _ v n x (ran-pairs bytes bits b st v n p x f)
 
 -- ---- counters alone
 
@@ -110,7 +110,7 @@ walk-in-c c b r x f =
     }
   where
     go : (a : Answer Room) → ((walkResult (c .how) (c .bits) a) .refusal ≡ 0 → ⊥) → (walkResult (c .how) (c .bits) a) .verdict ≡ 0
-    go (accepted k n) h = absurd (h refl)
+    go (accepted k p n) h = absurd (h refl)
     go (refused k n) h = refl
 
 -- The verdict of `vrf_struct_array`: 0 where the walk is refused; else empty of no bits, clean of some with nothing counted against it, or partial.
@@ -133,5 +133,5 @@ judged-vrf-object-array bytes bits b r x f =
     }
   where
     go : (a : Answer ℕ) → ((objectsResult bits a) .refusal ≡ 0 → ⊥) → (objectsResult bits a) .verdict ≡ 0
-    go (accepted k n) h = absurd (h refl)
+    go (accepted k p n) h = absurd (h refl)
     go (refused k n) h = refl

@@ -1,6 +1,6 @@
 -- What clean means at the public walks, of the format that array.rs states (framing/specs/Grammar): an accepted walk's verdict is clean exactly if
--- its window is the bits of an array of that grammar, and then all that it counted and filled is that array's. `form` says how verdicts are told, by
--- name or, for C, by number.
+-- its window is the bits of an array of that grammar, and then its seven counters and all that it filled are that array's. `form` says how
+-- verdicts are told, by name or, for C, by number.
 use Prim.Native.Nat.{ℕ, _*_, _≤_}
 use mathlib.Core.Path.{_≡_}
 use mathlib.Core.List.{List}

@@ -6,6 +6,7 @@ use lib.Dec.{eqb}
 use Rattle.bits.specs.Choice.{if_then_else_}
 use Rattle.bits.specs.Refusals.{Numbered, refusal, Rule, when}
 use Rattle.array.specs.Merges.{Sums, summed, overflowing}
+use Rattle.exports.specs.declared.VrfPacked.{VrfPacked}
 use Rattle.exports.specs.declared.VrfRead.{VrfRead}
 use Rattle.exports.specs.declared.VrfVector.{VrfVector}
 use Rattle.exports.specs.declared.VrfRotation.{VrfRotation}
@@ -22,6 +23,9 @@ given n a b c = if eqb n 0 then none else some (refusal n a b c)
 
 abbrev pub inRead : VrfRead → Option Numbered
 inRead r = given (r .refusal) (r .first) (r .second) (r .third)
+
+abbrev pub inPacked : VrfPacked → Option Numbered
+inPacked r = given (r .refusal) (r .first) (r .second) (r .third)
 
 abbrev pub inVector : VrfVector → Option Numbered
 inVector r = given (r .refusal) (r .first) (r .second) (r .third)

@@ -14,3 +14,6 @@ pub mod Stays
 pub mod Finite
 pub mod PairsBehind
 pub mod Totals
+pub mod Padded
+pub mod PaddedCounts
+pub mod PaddedMovements

@@ -7,7 +7,7 @@ use Rattle.exports.specs.declared.VrfWalk.{VrfWalk}
 -- no more than longestPath, which is 852, for each leaf that it names
 abbrev pub PathsFit : Answer Room → Type 0
 PathsFit (refused n need) = need .pathBytes ≤ longestPath * need .leaves
-PathsFit (accepted c need) = need .pathBytes ≤ longestPath * need .leaves
+PathsFit (accepted c p need) = need .pathBytes ≤ longestPath * need .leaves
 
 -- the same of the struct for C
 abbrev pub PathsFitInC : VrfWalk → Type 0

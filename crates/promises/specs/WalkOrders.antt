@@ -25,11 +25,11 @@ abbrev pub needing : (number : ℕ) → Room → Numbered
 needing k n = refusal k (n .leaves) (n .pathBytes) (n .payloadBytes)
 
 abbrev pub ofWalk : Answer Room → Option Numbered
-ofWalk (accepted c n) = none
+ofWalk (accepted c p n) = none
 ofWalk (refused k n) = some (needing k n)
 
 abbrev pub ofPairs : Answer ℕ → Option Numbered
-ofPairs (accepted c n) = none
+ofPairs (accepted c p n) = none
 ofPairs (refused k n) = some (refusal k n 0 0)
 
 abbrev pub tooLong : (bits : ℕ) → Rule Numbered

@@ -1,4 +1,4 @@
-// Kind P: a packed number.
+// Kind P: a packed number. An accepted answer's values are the number, the bytes that it took, and 1 if it is padded.
 use crate::answers;
 use crate::answers::Answer;
 use crate::answers::Outcome;
@@ -7,6 +7,7 @@ use crate::windows;
 use crate::windows::Placed;
 use crate::windows::Window;
 use bitio::PackedRead;
+use words::wide;
 
 fn answer(bytes: &[u8], w: Window) -> Answer {
     let placed = windows::place(bytes, w);
@@ -14,9 +15,11 @@ fn answer(bytes: &[u8], w: Window) -> Answer {
         Placed::Ready(c) => {
             let read = bitio::read_int_packed(bytes, c);
             match read {
-                PackedRead::Value(value, next) => {
-                    let wide = value as u64;
-                    answers::accepted(wide, next)
+                PackedRead::Value(n, next) => {
+                    let value = wide(n.value);
+                    let taken = wide(n.bytes);
+                    let padded = if n.padded { 1 } else { 0 };
+                    answers::answer_of(0, value, taken, padded, next)
                 }
                 PackedRead::Refused(r) => answers::refused(r, c.pos),
             }

@@ -27,9 +27,15 @@ struct Call {
     bytes: usize,
 }
 
-// What is recorded of a body: the answer, and where its lists stand. One that is refused has none.
-struct Recorded {
+// What a call says: its answer, and how many padded numbers were read.
+struct Told {
     answer: Answer,
+    padded: u64,
+}
+
+// What is recorded of a body: what it says, and where its lists stand. One that is refused has none.
+struct Recorded {
+    told: Told,
     keys: usize,
     deleted: usize,
     items: usize,
@@ -53,13 +59,19 @@ fn item_room() -> [u32; 26213]
 
 // ---- what is recorded, and what a call says
 
+fn told_of(answer: Answer, padded: u64) -> Told {
+    Told { answer, padded }
+}
+
 fn recorded_body(s: &[u8], at: usize) -> Recorded {
     let expected = answers::recorded(s, at);
     let answer = expected.answer;
-    let keys = expected.next;
+    let padded = fields::number(s, expected.next);
+    let keys = padded.next;
+    let told = told_of(answer, padded.value);
     if answer.number != 0 {
         return Recorded {
-            answer,
+            told,
             keys,
             deleted: keys,
             items: keys,
@@ -78,7 +90,7 @@ fn recorded_body(s: &[u8], at: usize) -> Recorded {
     let two_thirds = fields::after_words(s, third, f);
     let end = fields::after_words(s, two_thirds, f);
     Recorded {
-        answer,
+        told,
         keys,
         deleted,
         items,
@@ -87,34 +99,38 @@ fn recorded_body(s: &[u8], at: usize) -> Recorded {
     }
 }
 
-// What the body has to answer where a buffer is short: the refusal for its needs.
-fn expected_of(a: Answer, short: bool) -> Answer {
+// What the body has to say where a buffer is short: the refusal for its needs.
+fn expected_of(t: Told, short: bool) -> Told {
     if short {
-        return answers::answer_of(SHORT, a.first, a.second, a.third, 0);
+        let a = t.answer;
+        let needs = answers::answer_of(SHORT, a.first, a.second, a.third, 0);
+        return told_of(needs, 0);
     }
-    a
+    t
 }
 
-fn refused(r: FastArray) -> Answer {
+fn refused(r: FastArray) -> Told {
     let s = said(r);
-    answers::answer_of(
+    let answer = answers::answer_of(
         wide(s.number),
         wide(s.deletes),
         wide(s.items),
         wide(s.fields),
         0,
-    )
+    );
+    told_of(answer, 0)
 }
 
 // Of a body the deletes, items and fields and, as the cursor, the bits used.
-fn answer_of(r: FastArray) -> Answer {
+fn told_by(r: FastArray) -> Told {
     match r {
         FastArray::Decoded(delta) => {
             let d = wide(delta.deletes);
             let i = wide(delta.changes);
             let f = wide(delta.fields);
             let used = wide(delta.used);
-            answers::answer_of(0, d, i, f, used)
+            let answer = answers::answer_of(0, d, i, f, used);
+            told_of(answer, wide(delta.padded))
         }
         _ => refused(r),
     }
@@ -133,9 +149,16 @@ fn same_keys(list: &[u8], r: FastArray) -> bool {
     }
 }
 
+fn same_told(a: Told, b: Told) -> bool {
+    let one = a.answer;
+    let other = b.answer;
+    answers::same(one, other) && a.padded == b.padded
+}
+
 // ---- a difference
 
-fn say_answer(a: Answer) {
+fn say_told(t: Told) {
+    let a = t.answer;
     say::text(b"number ");
     say::number(a.number);
     say::text(b", ");
@@ -146,14 +169,16 @@ fn say_answer(a: Answer) {
     say::number(a.third);
     say::text(b" fields, ");
     say::number(a.cursor);
-    say::text(b" bits used");
+    say::text(b" bits used, ");
+    say::number(t.padded);
+    say::text(b" padded numbers");
 }
 
-fn differs(s: &[u8], expected: Answer, got: Answer, room: Room, why: &[u8]) -> bool {
+fn differs(s: &[u8], expected: Told, got: Told, room: Room, why: &[u8]) -> bool {
     say::case(s);
-    say_answer(expected);
+    say_told(expected);
     say::text(b", got ");
-    say_answer(got);
+    say_told(got);
     say::text(why);
     say::text(b", lent ");
     say::number(room.first as u64);
@@ -165,7 +190,7 @@ fn differs(s: &[u8], expected: Answer, got: Answer, room: Room, why: &[u8]) -> b
     false
 }
 
-// Whether a call answers and leaves what is recorded or, where a buffer is short, the refusal for its needs and nothing; the
+// Whether a call says and leaves what is recorded or, where a buffer is short, the refusal for its needs and nothing; the
 // line that says otherwise is printed.
 fn judge(
     s: &[u8],
@@ -176,14 +201,14 @@ fn judge(
     items: &[u32],
     records: &[u32],
 ) -> bool {
-    let expected = expected_of(want.answer, short);
-    let got = answer_of(r);
+    let expected = expected_of(want.told, short);
+    let got = told_by(r);
     let room = rooms::room_of(deleted.len(), items.len(), records.len());
     let keys = fields::part(s, want.keys, want.deleted);
     let id_list = fields::part(s, want.deleted, want.items);
     let item_list = fields::part(s, want.items, want.fields);
     let field_list = fields::part(s, want.fields, want.end);
-    if !answers::same(expected, got) {
+    if !same_told(expected, got) {
         return differs(s, expected, got, room, b"");
     }
     if !same_keys(keys, r) {

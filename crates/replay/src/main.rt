@@ -3,7 +3,7 @@
 //
 // The file. Every number is u64, the low byte first, where nothing else is said.
 //
-//     file   = "VRFCASE2" case*
+//     file   = "VRFCASE3" case*
 //     case   = size (u32: the bytes of what follows) kind (u8: a letter) length (u8) id (length bytes) fields
 //     run    = count, count bytes
 //     list   = a run of u32: of rows at most 2,600 of them, of declared names at most 2,100
@@ -21,24 +21,26 @@
 //     N      window answer                                    a fixed normal
 //     R      width window answer                              a rotation (width is below 2^32)
 //     M      scale width bits run answer record               a movement in the first `bits` bits (record: movement.rt)
-//     F      mode bits run answer lists                       a fast-array body (mode 0: no checksum flag, 1: a flag)
+//     F      mode bits run answer padded lists                a fast-array body (mode 0: no checksum flag, 1: a flag)
 //     S      twelve levels root tables bits run walk          a struct walk (twelve 1: by the twelve levels; no rows then)
 //     X      list run bits run walk                           an exact struct walk (the list and run: declared names)
 //     O      bits run number counts pairs list                an object walk
 //
 // An answer's number is 0 for an accepted read, whose first value is what was read (of a copy or a movement 0; of V, N and
-// R the three values are the bit patterns of the three floats), or a refusal's number by document 01, with the values of
-// its table in its order; values that it doesn't name are 0. The cursor is the one after the read, in the window; 0 where
-// no window was opened. A target holds 0xEE in each byte before the copy. A window of more than 524,288 bits is refused by
-// document 01 and read by the Rust, so a case with one and the Rust's answer differs.
+// R the three values are the bit patterns of the three floats; of P the second is the bytes that the number took, and the
+// third 1 if it is padded), or a refusal's number by document 01, with the values of its table in its order; values that it
+// doesn't name are 0. The cursor is the one after the read, in the window; 0 where no window was opened. A target holds 0xEE
+// in each byte before the copy. A window of more than 524,288 bits is refused by document 01 and read by the Rust, so a case
+// with one and the Rust's answer differs.
 //
 // Tables are accepted (number 0) or refused (number 2). The Rust has no such tables: what is expected of them is derived
 // from document 01's layout by hand. So are refused walks, and the verdict on a struct or exact walk of no bits, which the Rust
 // calls clean.
 //
-// Of a fast-array body the answer's values are the deletes, items and fields, and its cursor the bits used; the lists are,
-// in u32, the two keys, the deleted ids, the items and the fields, and none where it is refused. What is recorded of a walk
-// (tables, walk, counts) the crate `walked` says. Mode, twelve and whole are 0 or 1; another number there is a fault of the case.
+// Of a fast-array body the answer's values are the deletes, items and fields, and its cursor the bits used; padded is how many
+// padded numbers were read, 0 where it is refused; the lists are, in u32, the two keys, the deleted ids, the items and the
+// fields, and none where it is refused. What is recorded of a walk (tables, walk, counts) the crate `walked` says. Mode, twelve
+// and whole are 0 or 1; another number there is a fault of the case.
 //
 // Each output of a walk or a fast-array body holds a pattern before the call, and is lent exactly as large as needed, then a
 // bit longer; a further call for each output that needs something lacks one number or byte there, and has to give 3 with the
@@ -273,7 +275,7 @@ fn run(fd: i32) {
             replay_file(fd);
         }
         Started::NoCases => {
-            say::failed(b"not a file of cases: its first bytes are not VRFCASE2");
+            say::failed(b"not a file of cases: its first bytes are not VRFCASE3");
         }
         Started::Unread => {
             say::unread();

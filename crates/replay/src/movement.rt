@@ -1,4 +1,4 @@
-// Kind M: a movement record. Its answer is followed by 19 numbers, all 0 behind a refusal.
+// Kind M: a movement record. Its answer is followed by 20 numbers, all 0 behind a refusal.
 use crate::geometric;
 use geometry::Movement;
 use geometry::MovementRead;
@@ -16,10 +16,11 @@ use recorded::fields;
 use recorded::say;
 
 // An answer with its record: sleep, physics, the patterns of the location, the rotation and the linear velocity, then
-// whether there is an angular velocity and its patterns, a frame and its number, a handle and its number.
+// whether there is an angular velocity and its patterns, a frame and its number, a handle and its number, and how many of these
+// two are padded.
 struct Found {
     answer: Answer,
-    record: [u64; 19],
+    record: [u64; 20],
 }
 
 fn one_if(b: bool) -> u64 {
@@ -59,7 +60,7 @@ fn spin_of(a: Spin) -> Vector {
     }
 }
 
-fn record_of(m: Movement) -> [u64; 19] {
+fn record_of(m: Movement) -> [u64; 20] {
     let location = m.location;
     let rotation = m.rotation;
     let linear = m.linear;
@@ -87,10 +88,11 @@ fn record_of(m: Movement) -> [u64; 19] {
         value_of(frame),
         is_there(handle),
         value_of(handle),
+        m.padded as u64,
     ]
 }
 
-fn made(answer: Answer, record: [u64; 19]) -> Found {
+fn made(answer: Answer, record: [u64; 20]) -> Found {
     Found { answer, record }
 }
 
@@ -103,16 +105,16 @@ fn read(bytes: &[u8], bits: u64, wide: bool, scale: VectorQuantization) -> Found
     let moved = geometry::read_rep_movement(bytes, bits, width, scale);
     match moved {
         MovementRead::Value(m, used) => made(answers::accepted(0, used), record_of(m)),
-        MovementRead::Refused(r) => made(geometric::refused(r, 0), [0; 19]),
+        MovementRead::Refused(r) => made(geometric::refused(r, 0), [0; 20]),
     }
 }
 
 // The recorded numbers.
-fn recorded(s: &[u8], at: usize) -> [u64; 19] {
-    let mut record = [0u64; 19];
+fn recorded(s: &[u8], at: usize) -> [u64; 20] {
+    let mut record = [0u64; 20];
     let mut here = at;
     let mut i = 0;
-    while i < 19 {
+    while i < 20 {
         let field = fields::number(s, here);
         record[i] = field.value;
         here = field.next;
@@ -121,9 +123,9 @@ fn recorded(s: &[u8], at: usize) -> [u64; 19] {
     record
 }
 
-fn same_record(a: [u64; 19], b: [u64; 19]) -> bool {
+fn same_record(a: [u64; 20], b: [u64; 20]) -> bool {
     let mut i = 0;
-    while i < 19 {
+    while i < 20 {
         if a[i] != b[i] {
             return false;
         }
@@ -137,7 +139,7 @@ fn say_found(f: Found) {
     say::text(b" record");
     let record = f.record;
     let mut i = 0;
-    while i < 19 {
+    while i < 20 {
         say::text(b" ");
         say::pattern(record[i]);
         i += 1;
@@ -146,7 +148,7 @@ fn say_found(f: Found) {
 
 fn judge(s: &[u8], expected: Expected, got: Found) -> Outcome {
     let rest = fields::rest(s, expected.next);
-    if rest.len() != 152 {
+    if rest.len() != 160 {
         return Outcome::Damaged(Fault::Layout);
     }
     let answer = expected.answer;

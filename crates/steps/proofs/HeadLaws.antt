@@ -8,6 +8,8 @@ use lib.Dec.{ltb}
 use borrow.Author.Tests.{lt-ltb, le-ltb, le-leb, lt-leb, eq-eqb, ne-eqb}
 use Rattle.bits.specs.Bits.{num, field}
 use Rattle.bits.specs.Packed.{Number, packed}
+use Rattle.bits.specs.Padded.{padded}
+use Rattle.bits.proofs.PaddedLaws as P
 use Rattle.bits.proofs.Never.{never}
 use Rattle.bits.specs.declared.Packed.{Packed}
 use Rattle.bits.specs.declared.Packed.the-variants.{Whole}
@@ -29,18 +31,19 @@ unfolding reading upTo
 number-is bytes end p r e = ap (λ (x : Packed). numberOf p (readingOf x)) (sym e)
 
 -- a number that the code got
-pub record Got (w : Window) (p v q : ℕ) : Type 0 where
+pub record Got (w : Window) (p v q : ℕ) (x : Bool) : Type 0 where
   pub bytes : ℕ
   pub is : reading w p ≡ got v bytes
   pub next-is : p + 8 * bytes ≡ q
+  pub told : padded v bytes ≡ x
 
 module _ (w : Window) (p : ℕ) where
-  pub number-got : (v q : ℕ) → numberOf p (reading w p) ≡ number.Value v q → Got w p v q
-  number-got v q e = go (reading w p) refl e
+  pub number-got : (v q : ℕ) {x : Bool} → numberOf p (reading w p) ≡ number.Value v q x → Got w p v q x
+  number-got v q {x} e = go (reading w p) refl e
     where
-      go : (r : Reading) → reading w p ≡ r → numberOf p r ≡ number.Value v q → Got w p v q
+      go : (r : Reading) → reading w p ≡ r → numberOf p r ≡ number.Value v q x → Got w p v q x
       go failed s h = let z : _≡_ {A = ℕ} 0 1 = cc in never z
-      go (got v′ b) s h = let f : v′ ≡ v = cc in record { bytes = b; is = s ∙ ap (λ (k : ℕ). got k b) f; next-is = cc }
+      go (got v′ b) s h = let f : v′ ≡ v = cc in record { bytes = b; is = s ∙ ap (λ (k : ℕ). got k b) f; next-is = cc; told = cc }
 
   pub number-failed : numberOf p (reading w p) ≡ number.Failed → reading w p ≡ failed
   number-failed e = go (reading w p) refl e
@@ -50,11 +53,11 @@ module _ (w : Window) (p : ℕ) where
       go (got v b) s h = let z : _≡_ {A = ℕ} 0 1 = cc in never z
 
   -- it takes a byte at least and lies in the window
-  pub number-within : (v q : ℕ) → numberOf p (reading w p) ≡ number.Value v q → (p + 8 ≤ q) × (q ≤ w .size)
+  pub number-within : (v q : ℕ) {x : Bool} → numberOf p (reading w p) ≡ number.Value v q x → (p + 8 ≤ q) × (q ≤ w .size)
   unfolding reading
-  number-within v q e = go (packed (w .bits) (w .size) p) (packed-lies (w .bits) (w .size) p) e
+  number-within v q {x} e = go (packed (w .bits) (w .size) p) (packed-lies (w .bits) (w .size) p) e
     where
-      go : (r : Packed) → Lies (w .size) p r → numberOf p (readingOf r) ≡ number.Value v q → (p + 8 ≤ q) × (q ≤ w .size)
+      go : (r : Packed) → Lies (w .size) p r → numberOf p (readingOf r) ≡ number.Value v q x → (p + 8 ≤ q) × (q ≤ w .size)
       go _ (whole {v = x} {n = n} h k) d =
           let f : p + 8 * n ≡ q = cc in
           let l : p + 8 ≤ q = omega arith in
@@ -70,20 +73,20 @@ module _ (w : Window) (p : ℕ) where
   unfolding levelHead
   level-failed e = ap countHead e
 
-  pub level-limit : (v q : ℕ) → numberOf p (reading w p) ≡ number.Value v q → maxElements < v → levelHead w p ≡ head.Limit q
+  pub level-limit : (v q : ℕ) {x : Bool} → numberOf p (reading w p) ≡ number.Value v q x → maxElements < v → levelHead w p ≡ head.Limit q
   unfolding levelHead
   level-limit v q e h = ap countHead e ∙ simp (lt-ltb maxElements v h)
 
-  pub level-go : (v q : ℕ) → numberOf p (reading w p) ≡ number.Value v q → v ≤ maxElements → levelHead w p ≡ head.Go v q q
+  pub level-go : (v q : ℕ) {x : Bool} → numberOf p (reading w p) ≡ number.Value v q x → v ≤ maxElements → levelHead w p ≡ head.Go v q q
   unfolding levelHead
   level-go v q e h = ap countHead e ∙ simp (le-ltb maxElements v h)
 
   -- ---- an index or a handle
 
-  lead-closed : (q : ℕ) → p < w .size → (g : Got w p 0 q) → lead w p ≡ closes (numberAt w p (g .bytes) 0) q
+  lead-closed : (q : ℕ) {x : Bool} → p < w .size → (g : Got w p 0 q x) → lead w p ≡ closes (numberAt w p (g .bytes) 0) q
   lead-closed q h g = lead-zero w p (g .bytes) h (g .is) ∙ ap (closes (numberAt w p (g .bytes) 0)) (g .next-is)
 
-  lead-opened : (v q : ℕ) → p < w .size → (g : Got w p v q) → (v ≡ 0 → ⊥) → lead w p ≡ opens (numberAt w p (g .bytes) v) (v - 1) q
+  lead-opened : (v q : ℕ) {x : Bool} → p < w .size → (g : Got w p v q x) → (v ≡ 0 → ⊥) → lead w p ≡ opens (numberAt w p (g .bytes) v) (v - 1) q
   lead-opened v q h g n = lead-more w p v (g .bytes) h (g .is) n ∙ ap (opens (numberAt w p (g .bytes) v) (v - 1)) (g .next-is)
 
   module _ (count left : ℕ) where
@@ -96,10 +99,10 @@ module _ (w : Window) (p : ℕ) where
       unfolding elementHead
       element-failed e = ap (indexHead count left p) (lead-fails w p h (number-failed e))
 
-      module _ (v q : ℕ) (e : numberOf p (reading w p) ≡ number.Value v q) where
+      module _ (v q : ℕ) {x : Bool} (e : numberOf p (reading w p) ≡ number.Value v q x) where
         pub element-closed : v ≡ 0 → elementHead w count left p ≡ head.Closed q
         unfolding elementHead
-        element-closed z = ap (indexHead count left p) (lead-closed q h (subst (λ (k : ℕ). Got w p k q) z (number-got v q e)))
+        element-closed z = ap (indexHead count left p) (lead-closed q h (subst (λ (k : ℕ). Got w p k q x) z (number-got v q e)))
 
         module _ (n : v ≡ 0 → ⊥) where
           opened : elementHead w count left p ≡ indexHead count left p (opens (numberAt w p (number-got v q e .bytes) v) (v - 1) q)
@@ -126,11 +129,11 @@ module _ (w : Window) (p : ℕ) where
     unfolding widthHead
     width-failed e = ap (sizedHead w handle) e
 
-    pub width-past : (k q : ℕ) → numberOf p (reading w p) ≡ number.Value k q → w .size < q + k → widthHead w handle p ≡ head.Failed
+    pub width-past : (k q : ℕ) {x : Bool} → numberOf p (reading w p) ≡ number.Value k q x → w .size < q + k → widthHead w handle p ≡ head.Failed
     unfolding widthHead
     width-past k q e h = ap (sizedHead w handle) e ∙ simp (lt-ltb (w .size) (q + k) h)
 
-    pub width-go : (k q : ℕ) → numberOf p (reading w p) ≡ number.Value k q → q + k ≤ w .size → widthHead w handle p ≡ head.Go handle q (q + k)
+    pub width-go : (k q : ℕ) {x : Bool} → numberOf p (reading w p) ≡ number.Value k q x → q + k ≤ w .size → widthHead w handle p ≡ head.Go handle q (q + k)
     unfolding widthHead
     width-go k q e h = ap (sizedHead w handle) e ∙ simp (le-ltb (w .size) (q + k) h)
 
@@ -156,12 +159,12 @@ module _ (w : Window) (p : ℕ) where
     field-failed zero e = ap (lastHead p) (lead-fails w p h (number-failed e))
     field-failed (suc left) e = ap dueHead (fieldAt-lead w p ∙ ap (fieldOf w) (lead-fails w p h (number-failed e)))
 
-    module _ (v q : ℕ) (e : numberOf p (reading w p) ≡ number.Value v q) where
+    module _ (v q : ℕ) {x : Bool} (e : numberOf p (reading w p) ≡ number.Value v q x) where
       pub field-closed : (left : ℕ) → v ≡ 0 → fieldHead w left p ≡ head.Closed q
       unfolding fieldHead
-      field-closed zero z = ap (lastHead p) (lead-closed q h (subst (λ (k : ℕ). Got w p k q) z (number-got v q e)))
+      field-closed zero z = ap (lastHead p) (lead-closed q h (subst (λ (k : ℕ). Got w p k q x) z (number-got v q e)))
       field-closed (suc left) z =
-          ap dueHead (fieldAt-lead w p ∙ ap (fieldOf w) (lead-closed q h (subst (λ (k : ℕ). Got w p k q) z (number-got v q e))))
+          ap dueHead (fieldAt-lead w p ∙ ap (fieldOf w) (lead-closed q h (subst (λ (k : ℕ). Got w p k q x) z (number-got v q e))))
 
       pub field-limit : (left : ℕ) → (v ≡ 0 → ⊥) → left ≡ 0 → fieldHead w left p ≡ head.Limit p
       unfolding fieldHead
@@ -178,18 +181,20 @@ module _ (w : Window) (p : ℕ) where
 -- ---- two numbers of one byte each
 
 -- a number of one byte
-one-byte : (bytes : List ℕ) (end p b : ℕ) → p + 8 ≤ end → b ≡ field (num bytes) p 8 → b % 2 ≡ 0
-    → numberOf p (reading (upTo bytes end) p) ≡ number.Value (b / 2) (p + 8)
-one-byte bytes end p b h eb e = sym (number-is bytes end p (Whole (b / 2) 1) (packed-one (num bytes) end p b h eb e))
+pub one-byte : (bytes : List ℕ) (end p b : ℕ) → p + 8 ≤ end → b ≡ field (num bytes) p 8 → b % 2 ≡ 0
+    → numberOf p (reading (upTo bytes end) p) ≡ number.Value (b / 2) (p + 8) false
+one-byte bytes end p b h eb e =
+    sym (number-is bytes end p (Whole (b / 2) 1) (packed-one (num bytes) end p b h eb e))
+    ∙ ap (number.Value (b / 2) (p + 8)) (P.one-byte (b / 2) 1 (omega arith))
 
 module _ (bytes : List ℕ) (end p left two : ℕ) (room : p + 16 ≤ end) (is : two ≡ field (num bytes) p 16) where
-  first-is : two % 256 ≡ field (num bytes) p 8
+  pub first-is : two % 256 ≡ field (num bytes) p 8
   first-is = ap (λ (k : ℕ). k % 2 ^ 8) is ∙ field-low (num bytes) p 8 16 (omega arith)
 
   second-is : two / 256 ≡ field (num bytes) (p + 8) 8
   second-is = ap (λ (k : ℕ). k / 2 ^ 8) is ∙ field-high (num bytes) p 16 8 (omega arith)
 
-  inside-window : p < upTo bytes end .size
+  pub inside-window : p < upTo bytes end .size
   unfolding upTo
   inside-window = omega arith
 
@@ -200,10 +205,10 @@ module _ (bytes : List ℕ) (end p left two : ℕ) (room : p + 16 ≤ end) (is :
       field-closed (upTo bytes end) p inside-window _ _ (one-byte bytes end p (two % 256) (omega arith) first-is e) left n
 
   module _ (some : two % 256 ≡ 0 → ⊥) (even : two % 256 % 2 ≡ 1 → ⊥) where
-    first-number : numberOf p (reading (upTo bytes end) p) ≡ number.Value (two % 256 / 2) (p + 8)
+    pub first-number : numberOf p (reading (upTo bytes end) p) ≡ number.Value (two % 256 / 2) (p + 8) false
     first-number = let e : two % 256 % 2 ≡ 0 = omega (arith, even) in one-byte bytes end p (two % 256) (omega arith) first-is e
 
-    not-zero : two % 256 / 2 ≡ 0 → ⊥
+    pub not-zero : two % 256 / 2 ≡ 0 → ⊥
     not-zero z = some (let e : two % 256 % 2 ≡ 0 = omega (arith, even) in omega arith)
 
     pub two-limit : left ≡ 0 → fieldHead (upTo bytes end) left p ≡ head.Limit p
@@ -214,11 +219,11 @@ module _ (bytes : List ℕ) (end p left two : ℕ) (room : p + 16 ≤ end) (is :
       two-wide = field-wide (upTo bytes end) p inside-window _ _ first-number left not-zero more
 
       module _ (short : two / 256 % 2 ≡ 1 → ⊥) where
-        second-number : numberOf (p + 8) (reading (upTo bytes end) (p + 8)) ≡ number.Value (two / 256 / 2) (p + 16)
+        pub second-number : numberOf (p + 8) (reading (upTo bytes end) (p + 8)) ≡ number.Value (two / 256 / 2) (p + 16) false
         second-number =
             let e : two / 256 % 2 ≡ 0 = omega (arith, short) in
             let q : p + 8 + 8 ≡ p + 16 = omega arith in
-            one-byte bytes end (p + 8) (two / 256) (omega arith) second-is e ∙ ap (number.Value (two / 256 / 2)) q
+            one-byte bytes end (p + 8) (two / 256) (omega arith) second-is e ∙ ap (λ (k : ℕ). number.Value (two / 256 / 2) k false) q
 
         pub two-past : end < p + 16 + two / 256 / 2 → fieldHead (upTo bytes end) left p ≡ head.Failed
         unfolding upTo

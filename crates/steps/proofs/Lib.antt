@@ -4,6 +4,7 @@ pub mod CaseLaws
 pub mod HeadLaws
 pub mod ViewLaws
 pub mod ShiftLaws
+pub mod PadLaws
 pub mod WithinLaws
 pub mod WalkLaws
 pub mod FieldKindLaws

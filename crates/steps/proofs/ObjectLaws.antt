@@ -5,18 +5,20 @@ use mathlib.Core.List.{List, [], _∷_}
 use Prim.Native.Nat.{ℕ, _-_, _*_, _≤_}
 use native.Mathlib.Omega.{arith}
 use borrow.Author.Tests.{eq-eqb, ne-eqb}
+use Rattle.bits.specs.Padded.{once, paddedAmong}
 use Rattle.framing.specs.Windows.{Reading, got, failed, reading}
 use Rattle.framing.specs.Events.{number, pair, error, nested, Trace}
 use Rattle.framing.specs.Walk.{numberAt}
 use Rattle.framing.specs.Sinks.{guidOf, objectField}
 use Rattle.outputs.specs.World.{World}
-use Rattle.steps.specs.Tally.{played}
+use Rattle.steps.specs.Tally.{played, padding}
 use Rattle.steps.specs.Views.{inner, upTo}
 use Rattle.steps.specs.Heads.{numberOf}
 use Rattle.steps.specs.declared.NumberRead.the-variants as number
 use Rattle.steps.proofs.TallyLaws.{played-none, played-number}
 use Rattle.steps.proofs.HeadLaws.{number-got, number-failed}
 use Rattle.steps.proofs.ViewLaws.{reading-start}
+use Rattle.steps.proofs.PadLaws.{one-there, level-there, count-took}
 
 -- The field that is the bits b..end of the bytes, in the world W, which the code makes W′.
 module _ (bytes : List ℕ) (b end o index : ℕ) (W W′ : World) (h : b ≤ end) where
@@ -50,24 +52,36 @@ module _ (bytes : List ℕ) (b end o index : ℕ) (W W′ : World) (h : b ≤ en
           → W′ ≡ played (objectField index first (inner bytes b end o)) W
       object-failed e d = gives first (error ∷ []) (guided-by failed (number-failed _ _ e)) d
 
-      module _ (v q : ℕ) (e : numberOf b (reading (upTo bytes end) b) ≡ number.Value v q) where
-        pub object-pair : q ≡ end → W′ ≡ played (pair (record { index = index; guid = v }) ∷ []) W
+      module _ (v q : ℕ) {told : Bool} (e : numberOf b (reading (upTo bytes end) b) ≡ number.Value v q told) (W₁ : World) where
+        -- the code has counted it by then, if it is padded
+        counted : W₁ ≡ padding (once told) W → W₁ ≡ padding (paddedAmong (numberAt (inner bytes b end o) 0 ((number-got (upTo bytes end) b v q e) .bytes) v ∷ [])) W
+        counted c =
+            c
+            ∙ ap (λ (k : ℕ). padding k W)
+            (sym (one-there (upTo bytes end) b v q e)
+            ∙ level-there bytes b end o h
+            ∙ count-took (inner bytes b end o) 0 v ((number-got (upTo bytes end) b v q e) .bytes)
+            (reading-start bytes b end o h ∙ (number-got (upTo bytes end) b v q e) .is))
+
+        pub object-pair : q ≡ end → W₁ ≡ padding (once told) W → W′ ≡ played (pair (record { index = index; guid = v }) ∷ []) W₁
             → W′ ≡ played (objectField index first (inner bytes b end o)) W
         unfolding inner
-        object-pair z d =
+        object-pair z c d =
             let g = number-got (upTo bytes end) b v q e in
             let l = g .next-is in
             let k : 8 * g .bytes ≡ end - b = omega arith in
             let x = numberAt (inner bytes b end o) 0 (g .bytes) v in
             gives first (number x ∷ pair (record { index = index; guid = v }) ∷ [])
-            (guided-by (got v (g .bytes)) (g .is) ∙ simp (eq-eqb (8 * g .bytes) (end - b) k)) (d ∙ played-number x _ W)
+            (guided-by (got v (g .bytes)) (g .is) ∙ simp (eq-eqb (8 * g .bytes) (end - b) k))
+            (d ∙ ap (played (pair (record { index = index; guid = v }) ∷ [])) (counted c) ∙ played-number x _ W)
 
-        pub object-longer : (q ≡ end → ⊥) → W′ ≡ played (error ∷ []) W → W′ ≡ played (objectField index first (inner bytes b end o)) W
+        pub object-longer : (q ≡ end → ⊥) → W₁ ≡ padding (once told) W → W′ ≡ played (error ∷ []) W₁ → W′ ≡ played (objectField index first (inner bytes b end o)) W
         unfolding inner
-        object-longer z d =
+        object-longer z c d =
             let g = number-got (upTo bytes end) b v q e in
             let l = g .next-is in
             let k : 8 * g .bytes ≡ end - b → ⊥ = λ m. z (omega arith) in
             let x = numberAt (inner bytes b end o) 0 (g .bytes) v in
             gives first (number x ∷ error ∷ [])
-            (guided-by (got v (g .bytes)) (g .is) ∙ simp (ne-eqb (8 * g .bytes) (end - b) k)) (d ∙ played-number x _ W)
+            (guided-by (got v (g .bytes)) (g .is) ∙ simp (ne-eqb (8 * g .bytes) (end - b) k))
+            (d ∙ ap (played (error ∷ [])) (counted c) ∙ played-number x _ W)

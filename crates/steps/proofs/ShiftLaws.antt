@@ -47,7 +47,7 @@ module _ (bytes : List ℕ) (b end o : ℕ) (h : b ≤ end) where
   unfolding inner
   size-inner = refl
 
-  past : (p : ℕ) → leb ((inner bytes b end o) .size) p ≡ leb ((upTo bytes end) .size) (b + p)
+  pub past : (p : ℕ) → leb ((inner bytes b end o) .size) p ≡ leb ((upTo bytes end) .size) (b + p)
   unfolding inner upTo
   past p = leb-shift b end p h
 

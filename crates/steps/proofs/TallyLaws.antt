@@ -1,8 +1,9 @@
 -- The tally: adding to one of its numbers changes that number and no other, so each count is the event that the slot stands for.
-use mathlib.Core.Path.{_≡_, refl, ap, _∙_}
+use mathlib.Core.Path.{_≡_, refl, sym, ap, _∙_}
 use mathlib.Core.Bool.{Bool, true, false}
-use mathlib.Core.List.{List, [], _∷_}
-use Prim.Native.Nat.{ℕ, _+_, _%_, _^_, _<_}
+use mathlib.Core.List.{List, [], _∷_, _++_}
+use Prim.Native.Nat.{ℕ, zero, suc, _+_, _%_, _^_, _<_}
+use native.Mathlib.Nat.{zero-add}
 use native.Mathlib.Omega.{arith}
 use lib.Dec.{eqb}
 use lib.ListN.{length, length-set, set}
@@ -11,10 +12,13 @@ use borrow.Author.Tests.{eqb-true, eqb-false}
 use Rattle.bits.specs.Choice.{if_then_else_}
 use Rattle.bits.specs.Runs.{store}
 use Rattle.bits.specs.Packed.{Number}
-use Rattle.framing.specs.Events.{Leaf, Pair, Event, number, element, array, leaf, pair, truncation, error, implicit, nested, root, Trace}
+use Rattle.bits.specs.Padded.{isPadded, paddedAmong}
+use Rattle.bits.proofs.ChoiceLaws.{by-cases}
+use Rattle.bits.proofs.PaddedLaws.{among-append}
+use Rattle.framing.specs.Events.{Leaf, Pair, numbers, Event, number, element, array, leaf, pair, truncation, error, implicit, nested, root, Trace}
 use Rattle.framing.specs.Records.{leafWords, leafRecord, pairWords, pairRecord, payloadOf}
-use Rattle.outputs.specs.World.{World, apply}
-use Rattle.steps.specs.Tally.{slots, slot, elementsSlot, fieldsSlot, truncationsSlot, errorsSlot, nestedSlot, rootSlot, implicitSlot, recordsSlot, pathsSlot, payloadsSlot, worldBy, worldOf, played, bumped, reserved}
+use Rattle.outputs.specs.World.{World, counting, apply}
+use Rattle.steps.specs.Tally.{slots, slot, elementsSlot, fieldsSlot, truncationsSlot, errorsSlot, nestedSlot, rootSlot, implicitSlot, recordsSlot, pathsSlot, payloadsSlot, paddedSlot, worldBy, worldOf, played, padding, Pads, bumped, reserved}
 
 -- ---- the code's sums
 
@@ -80,6 +84,10 @@ module _ (records paths payloads : List ℕ) where
   unfolding worldOf worldBy played apply
   count-root tally n sized = at-slot tally rootSlot n (omega arith)
 
+  count-padded : (tally : List ℕ) → length tally ≡ slots → worldOf (bumped tally paddedSlot 1) records paths payloads ≡ padding 1 (worldOf tally records paths payloads)
+  unfolding worldOf worldBy padding
+  count-padded tally sized = at-slot tally paddedSlot 1 (omega arith)
+
   pub count-implicit : (tally : List ℕ) → length tally ≡ slots → worldOf (bumped tally implicitSlot 1) records paths payloads ≡ played (implicit ∷ []) (worldOf tally records paths payloads)
   unfolding worldOf worldBy played apply
   count-implicit tally sized = at-slot tally implicitSlot 1 (omega arith)
@@ -92,7 +100,35 @@ by-count tally tally′ records paths payloads place n e did law = ap (λ (l : L
 
 -- ---- traces
 
--- no event; one event and then others; a number or an array entered, which the code does not record
+-- so many more padded numbers, and then others
+pub padding-more : (m n : ℕ) (w : World) → padding (m + n) w ≡ padding n (padding m w)
+unfolding padding
+padding-more zero n w = ap (λ (k : ℕ). padding k w) (zero-add n)
+padding-more (suc m) n w =
+    let e : suc m + n ≡ suc (m + n) = omega arith in
+    ap (λ (k : ℕ). padding k w) e ∙ padding-more m n (counting (w .counters) ((w .padded + 1) % 2 ^ 32) w)
+
+-- what the code counted of padded numbers: none, as many as the definition's, some and then more
+pub pads-none : (n : ℕ) (tally : List ℕ) → n ≡ 0 → Pads n tally tally
+unfolding padding
+pads-none n tally e records paths payloads = ap (λ (k : ℕ). padding k (worldOf tally records paths payloads)) (sym e)
+
+pub pads-as : (m n : ℕ) (tally tally′ : List ℕ) → m ≡ n → Pads n tally tally′ → Pads m tally tally′
+pads-as m n tally tally′ e did records paths payloads = did records paths payloads ∙ ap (λ (k : ℕ). padding k (worldOf tally records paths payloads)) (sym e)
+
+pub pads-then : (l m n : ℕ) (tally tally₁ tally₂ : List ℕ) → l ≡ m + n → Pads m tally tally₁ → Pads n tally₁ tally₂ → Pads l tally tally₂
+pads-then l m n tally tally₁ tally₂ e did then-did records paths payloads =
+    then-did records paths payloads
+    ∙ ap (padding n) (did records paths payloads)
+    ∙ sym (ap (λ (k : ℕ). padding k (worldOf tally records paths payloads)) e ∙ padding-more m n (worldOf tally records paths payloads))
+
+pub pads-one : (n : ℕ) (tally tally′ : List ℕ) → n ≡ 1 → (tally′ ≡ bumped tally paddedSlot 1) × (length tally ≡ slots) → Pads n tally tally′
+pads-one n tally tally′ e did records paths payloads =
+    ap (λ (l : List ℕ). worldOf l records paths payloads) (did .0)
+    ∙ count-padded records paths payloads tally (did .1)
+    ∙ ap (λ (k : ℕ). padding k (worldOf tally records paths payloads)) (sym e)
+
+-- no event; one event and then others; a number, of which the code records whether it is padded; an array entered, which it does not record
 pub played-none : (w : World) → w ≡ played [] w
 unfolding played apply
 played-none w = refl
@@ -101,9 +137,18 @@ pub played-then : (e : Event) (t : Trace) (w : World) → played t (played (e �
 unfolding played apply
 played-then e t w = refl
 
-pub played-number : (x : Number) (t : Trace) (w : World) → played t w ≡ played (number x ∷ t) w
-unfolding played apply
-played-number x t w = refl
+pub played-number : (x : Number) (t : Trace) (w : World) → played t (padding (paddedAmong (x ∷ [])) w) ≡ played (number x ∷ t) w
+unfolding played apply padding paddedAmong
+played-number x t w = by-cases (isPadded x) (λ e. simp e) (λ e. simp e)
+
+-- the same of several
+pub played-numbers : (ns : List Number) (t : Trace) (w : World) → played t (padding (paddedAmong ns) w) ≡ played (numbers ns ++ t) w
+unfolding padding paddedAmong
+played-numbers [] t w = refl
+played-numbers (x ∷ ns) t w =
+    ap (played t) (ap (λ (n : ℕ). padding n w) (among-append (x ∷ []) ns) ∙ padding-more (paddedAmong (x ∷ [])) (paddedAmong ns) w)
+    ∙ played-numbers ns t (padding (paddedAmong (x ∷ [])) w)
+    ∙ played-number x (numbers ns ++ t) w
 
 pub played-array : (path : List ℕ) (t : Trace) (w : World) → played t w ≡ played (array path ∷ t) w
 unfolding played apply

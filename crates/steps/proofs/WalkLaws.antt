@@ -2,7 +2,7 @@
 use Prim.Native.Nat.{ℕ, zero, suc, _+_, _-_, _*_, _≤_, _<_}
 use native.Mathlib.Nat.{zero-add, add-zero}
 use native.Mathlib.Omega.{arith}
-use mathlib.Core.Path.{_≡_, refl, sym, ap, subst, _∙_}
+use mathlib.Core.Path.{_≡_, refl, sym, ap, ap₂, subst, _∙_}
 use mathlib.Core.Bool.{Bool, true, false, _&&_}
 use mathlib.Core.List.{List, [], _∷_, _++_}
 use lib.Dec.{leb, ltb, eqb}
@@ -10,22 +10,24 @@ use borrow.Author.Tests.{lt-leb, le-ltb, ne-eqb}
 use Rattle.bits.proofs.Never.{never}
 use Rattle.bits.specs.Choice.{if_then_else_}
 use Rattle.bits.specs.Packed.{Number}
+use Rattle.bits.specs.Padded.{paddedAmong}
 use Rattle.bits.specs.Sizes.{maxElements, maxFields}
 use Rattle.framing.specs.Windows.{Window, part, Reading, got, failed, reading}
 use Rattle.framing.specs.Events.{numbers, number, element, truncation, error, implicit, Trace}
 use Rattle.framing.specs.Walk.{Sink, numberAt, Lead, ends, fails, closes, opens, lead, Due, cut, broken, closed, present, fieldAt, tail, Run, done, stopped, prepend, fields, closing, inItem, behind, elements, level}
 use Rattle.framing.proofs.StepLaws.{fields-last, fields-step, fields-present, elements-last, elements-step, level-count}
 use Rattle.outputs.specs.World.{World, wrapping}
-use Rattle.outputs.proofs.Paste.{apply-append, apply-numbers}
-use Rattle.steps.specs.Tally.{played}
+use Rattle.outputs.proofs.Paste.{apply-append}
+use Rattle.steps.specs.Tally.{played, padding}
 use Rattle.steps.specs.Views.{inner, upTo, HeadIn}
-use Rattle.steps.specs.Heads.{numberOf, countHead, levelHead, indexHead, elementHead, lastHead, dueHead, fieldHead, shifted}
+use Rattle.steps.specs.Heads.{numberOf, countHead, levelHead, indexHead, elementHead, lastHead, dueHead, fieldHead, shifted, padOf, numberPads, elementPads, fieldPads}
 use Rattle.steps.specs.Gives.{fieldsStop, levelStop}
 use Rattle.steps.specs.declared.Head.{Head}
 use Rattle.steps.specs.declared.Head.the-variants as head
 use Rattle.steps.proofs.CaseLaws.{NotGo, NotClosed, fields-stop}
-use Rattle.steps.proofs.TallyLaws.{played-none, played-then, played-number}
+use Rattle.steps.proofs.TallyLaws.{played-none, played-then, played-number, played-numbers}
 use Rattle.steps.proofs.ShiftLaws.{level-shift, element-shift, field-shift, tail-shift, closing-shift, part-inner, size-inner}
+use Rattle.steps.proofs.PadLaws.{level-there, element-there, field-there, single, count-took, indexTook, index-took, dueTook, last-took, due-took}
 use Rattle.steps.proofs.WithinLaws.{level-in, element-in, field-in, Counted, level-goes, Opened, element-goes, Presented, field-goes}
 
 -- ---- traces that run
@@ -33,10 +35,6 @@ use Rattle.steps.proofs.WithinLaws.{level-in, element-in, field-in, Cou
 pub played-append : (t u : Trace) (x : World) → played (t ++ u) x ≡ played u (played t x)
 unfolding played
 played-append t u x = apply-append (wrapping 4294967296) t u x
-
-pub played-numbers : (ns : List Number) (t : Trace) (x : World) → played (numbers ns ++ t) x ≡ played t x
-unfolding played
-played-numbers ns t x = apply-numbers (wrapping 4294967296) ns t x
 
 -- ---- heads that end a walk
 
@@ -85,36 +83,48 @@ stop-shift s e a bytes b end o path le (head.Limit q) i g = ap (λ (t : Trace). 
 stop-shift s e a bytes b end o path le (head.Go v q r) i g = absurd g
 
 module _ (s : Sink) (w : Window) (path : List ℕ) where
-  level-stops : (x : World) → NotGo (levelHead w 0) → played (level s w path) x ≡ played (stopAt s w path (levelHead w 0)) x
-  unfolding levelHead
-  level-stops x n = ap (λ (t : Trace). played t x) (level-count s w path) ∙ go (reading w 0) n
+  level-stops : (x : World) → NotGo (levelHead w 0) → played (level s w path) x ≡ played (stopAt s w path (levelHead w 0)) (padding (numberPads w 0) x)
+  unfolding levelHead numberPads padding
+  level-stops x n = ap (λ (t : Trace). played t x) (level-count s w path) ∙ go (reading w 0) refl n
     where
-      go : (r : Reading) → NotGo (countHead (numberOf 0 r)) → played (Rattle.framing.specs.Walk.onCount s w path r) x ≡ played (stopAt s w path (countHead (numberOf 0 r))) x
-      go failed g = refl
-      go (got v k) g = go2 (ltb maxElements v) refl g
+      go : (r : Reading) → reading w 0 ≡ r → NotGo (countHead (numberOf 0 r))
+          → played (Rattle.framing.specs.Walk.onCount s w path r) x ≡ played (stopAt s w path (countHead (numberOf 0 r))) (padding (padOf r) x)
+      go failed e g = refl
+      go (got v k) e g = go2 (ltb maxElements v) refl g
         where
           go2 : (y : Bool) → ltb maxElements v ≡ y → NotGo (if y then head.Limit (0 + 8 * k) else head.Go v (0 + 8 * k) (0 + 8 * k))
               → played (if y then number (numberAt w 0 k v) ∷ truncation ∷ tail s w path (8 * k) else number (numberAt w 0 k v) ∷ elements s w path v maxElements (8 * k)) x
-              ≡ played (stopAt s w path (if y then head.Limit (0 + 8 * k) else head.Go v (0 + 8 * k) (0 + 8 * k))) x
-          go2 true ey g = sym (played-number (numberAt w 0 k v) (truncation ∷ tail s w path (8 * k)) x) ∙ ap (λ (m : ℕ). played (truncation ∷ tail s w path m) x) (sym (zero-add (8 * k)))
+              ≡ played (stopAt s w path (if y then head.Limit (0 + 8 * k) else head.Go v (0 + 8 * k) (0 + 8 * k))) (padding (padOf (got v k)) x)
+          go2 true ey g =
+              sym (played-number (numberAt w 0 k v) (truncation ∷ tail s w path (8 * k)) x)
+              ∙ ap₂ (λ (m n : ℕ). played (truncation ∷ tail s w path m) (padding n x)) (sym (zero-add (8 * k))) (single (numberAt w 0 k v))
           go2 false ey g = absurd g
 
-  elements-stops : (count left p : ℕ) (x : World) → NotGo (elementHead w count left p) → played (elements s w path count left p) x ≡ played (stopAt s w path (elementHead w count left p)) x
-  unfolding elementHead
-  elements-stops count zero p x n = ap (λ (t : Trace). played t x) (elements-last s w path count p) ∙ go (lead w p) n
+  elements-stops : (count left p : ℕ) (x : World) → NotGo (elementHead w count left p)
+      → played (elements s w path count left p) x ≡ played (stopAt s w path (elementHead w count left p)) (padding (elementPads w left p) x)
+  unfolding elementHead padding
+  elements-stops count zero p x n =
+      ap (λ (t : Trace). played t x) (elements-last s w path count p)
+      ∙ go (lead w p) n
+      ∙ ap (λ (k : ℕ). played (stopAt s w path (indexHead count 0 p (lead w p))) (padding k x)) (sym (index-took w p 0))
     where
-      go : (l : Lead) → NotGo (indexHead count 0 p l) → played (Rattle.framing.specs.Walk.onLastIndex s w path p l) x ≡ played (stopAt s w path (indexHead count 0 p l)) x
+      go : (l : Lead) → NotGo (indexHead count 0 p l)
+          → played (Rattle.framing.specs.Walk.onLastIndex s w path p l) x ≡ played (stopAt s w path (indexHead count 0 p l)) (padding (indexTook w p 0 l) x)
       go ends g = refl
       go fails g = refl
       go (closes e q) g = sym (played-number e (closing s w q) x)
       go (opens e i q) g = refl
-  elements-stops count (suc left) p x n = ap (λ (t : Trace). played t x) (elements-step s w path count left p) ∙ go (lead w p) n
+  elements-stops count (suc left) p x n =
+      ap (λ (t : Trace). played t x) (elements-step s w path count left p)
+      ∙ go (lead w p) n
+      ∙ ap (λ (k : ℕ). played (stopAt s w path (indexHead count (suc left) p (lead w p))) (padding k x)) (sym (index-took w p (suc left)))
     where
       some : eqb (suc left) 0 ≡ false
       some = ne-eqb (suc left) 0 (λ z. omega arith)
 
       go : (l : Lead) → NotGo (indexHead count (suc left) p l)
-          → played (Rattle.framing.specs.Walk.onIndex s w path count (λ q. elements s w path count left q) l) x ≡ played (stopAt s w path (indexHead count (suc left) p l)) x
+          → played (Rattle.framing.specs.Walk.onIndex s w path count (λ q. elements s w path count left q) l) x
+          ≡ played (stopAt s w path (indexHead count (suc left) p l)) (padding (indexTook w p (suc left) l) x)
       go ends g = refl
       go fails g = refl
       go (closes e q) g = sym (played-number e (closing s w q) x)
@@ -122,54 +132,63 @@ module _ (s : Sink) (w : Window) (path : List ℕ) where
         where
           go2 : (y : Bool) → leb count i ≡ y → NotGo (if y then head.Failed else head.Go i q q)
               → played (if y then number e ∷ error ∷ [] else number e ∷ element (inItem s path i) ∷ behind (λ r. elements s w path count left r) (fields s w i (inItem s path i) maxFields q true)) x
-              ≡ played (stopAt s w path (if y then head.Failed else head.Go i q q)) x
+              ≡ played (stopAt s w path (if y then head.Failed else head.Go i q q)) (padding (paddedAmong (e ∷ [])) x)
           go2 true ey g = sym (played-number e (error ∷ []) x)
           go2 false ey g = absurd g
 
   -- an element's fields that end without closing give what the head gives
-  pub record Halted (r : Run) (u : Trace) : Type 0 where
+  pub record Halted (r : Run) (u : Trace) (pads : ℕ) : Type 0 where
     pub trace : Trace
     pub is : r ≡ stopped trace
-    pub same : (x : World) → played trace x ≡ played u x
+    pub same : (x : World) → played trace x ≡ played u (padding pads x)
 
   fields-halt : (i : ℕ) (left p : ℕ) (first : Bool) → NotGo (fieldHead w left p) → NotClosed (fieldHead w left p)
-      → Halted (fields s w i path left p first) (stopAt s w path (fieldHead w left p))
-  unfolding fieldHead
-  fields-halt i zero p first n c = go (lead w p) refl n c
+      → Halted (fields s w i path left p first) (stopAt s w path (fieldHead w left p)) (fieldPads w left p)
+  unfolding fieldHead padding paddedAmong
+  fields-halt i zero p first n c =
+      subst (Halted (fields s w i path 0 p first) (stopAt s w path (lastHead p (lead w p)))) (sym (last-took w p)) (go (lead w p) refl n c)
     where
-      go : (l : Lead) → lead w p ≡ l → NotGo (lastHead p l) → NotClosed (lastHead p l) → Halted (fields s w i path 0 p first) (stopAt s w path (lastHead p l))
+      go : (l : Lead) → lead w p ≡ l → NotGo (lastHead p l) → NotClosed (lastHead p l)
+          → Halted (fields s w i path 0 p first) (stopAt s w path (lastHead p l)) (indexTook w p 0 l)
       go ends e g d = record { trace = implicit ∷ []; is = rw (fields-last, e); same = λ x. refl }
       go fails e g d = record { trace = error ∷ []; is = rw (fields-last, e); same = λ x. refl }
       go (closes y q) e g d = absurd d
       go (opens y h q) e g d = record { trace = truncation ∷ tail s w path p; is = rw (fields-last, e); same = λ x. refl }
-  fields-halt i (suc left) p first n c = go (fieldAt w p) refl n c
+  fields-halt i (suc left) p first n c =
+      subst (Halted (fields s w i path (suc left) p first) (stopAt s w path (dueHead (fieldAt w p)))) (sym (due-took w p left)) (go (fieldAt w p) refl n c)
     where
-      go : (d : Due) → fieldAt w p ≡ d → NotGo (dueHead d) → NotClosed (dueHead d) → Halted (fields s w i path (suc left) p first) (stopAt s w path (dueHead d))
+      go : (d : Due) → fieldAt w p ≡ d → NotGo (dueHead d) → NotClosed (dueHead d)
+          → Halted (fields s w i path (suc left) p first) (stopAt s w path (dueHead d)) (dueTook w p d)
       go cut e g d = record { trace = implicit ∷ []; is = rw (fields-step, e); same = λ x. refl }
-      go (broken ns) e g d = record { trace = numbers ns ++ (error ∷ []); is = rw (fields-step, e); same = λ x. played-numbers ns (error ∷ []) x }
+      go (broken ns) e g d = record { trace = numbers ns ++ (error ∷ []); is = rw (fields-step, e); same = λ x. sym (played-numbers ns (error ∷ []) x) }
       go (closed y q) e g d = absurd d
       go (present ns h q k) e g d = absurd g
 
   -- and those that close give nothing more
-  pub record Closes (r : Run) (q : ℕ) : Type 0 where
+  pub record Closes (r : Run) (q pads : ℕ) : Type 0 where
     pub read : Number
     pub is : r ≡ done (number read ∷ []) q
+    pub took : pads ≡ paddedAmong (read ∷ [])
 
-  fields-close : (i : ℕ) (left p : ℕ) (first : Bool) (q : ℕ) → fieldHead w left p ≡ head.Closed q → Closes (fields s w i path left p first) q
+  fields-close : (i : ℕ) (left p : ℕ) (first : Bool) (q : ℕ) → fieldHead w left p ≡ head.Closed q → Closes (fields s w i path left p first) q (fieldPads w left p)
   unfolding fieldHead
   fields-close i zero p first q e = go (lead w p) refl e
     where
-      go : (l : Lead) → lead w p ≡ l → lastHead p l ≡ head.Closed q → Closes (fields s w i path 0 p first) q
+      go : (l : Lead) → lead w p ≡ l → lastHead p l ≡ head.Closed q → Closes (fields s w i path 0 p first) q (fieldPads w 0 p)
       go ends el f = never cc
       go fails el f = never cc
-      go (closes y r) el f = let z : r ≡ q = cc in record { read = y; is = rw (fields-last, el) (ap (done (number y ∷ [])) z) }
+      go (closes y r) el f =
+          let z : r ≡ q = cc in
+          record { read = y; is = rw (fields-last, el) (ap (done (number y ∷ [])) z); took = last-took w p ∙ ap (indexTook w p 0) el }
       go (opens y h r) el f = never cc
   fields-close i (suc left) p first q e = go (fieldAt w p) refl e
     where
-      go : (d : Due) → fieldAt w p ≡ d → dueHead d ≡ head.Closed q → Closes (fields s w i path (suc left) p first) q
+      go : (d : Due) → fieldAt w p ≡ d → dueHead d ≡ head.Closed q → Closes (fields s w i path (suc left) p first) q (fieldPads w (suc left) p)
       go cut ed f = never cc
       go (broken ns) ed f = never cc
-      go (closed y r) ed f = let z : r ≡ q = cc in record { read = y; is = rw (fields-step, ed) (ap (done (number y ∷ [])) z) }
+      go (closed y r) ed f =
+          let z : r ≡ q = cc in
+          record { read = y; is = rw (fields-step, ed) (ap (done (number y ∷ [])) z); took = due-took w p left ∙ ap (dueTook w p) ed }
       go (present ns h r k) ed f = never cc
 
 -- ---- the same at positions of the bytes
@@ -229,18 +248,18 @@ pub field-head-in : (bytes : List ℕ) (end left at : ℕ) (h : Head) → fieldH
 unfolding upTo
 field-head-in bytes end left at h e = subst (HeadIn end) e (field-in (upTo bytes end) left at)
 
--- how fields end: not closed, with the world y; closed before bit n of the bytes, with the world as it was; or going on as r′, with the world y
+-- how fields end: not closed, with the world y; closed before bit n of the bytes, with the world y; or going on as r′, with the world y
 pub record Ends (r : Run) (x y : World) : Type 0 where
   pub trace : Trace
   pub is : r ≡ stopped trace
   pub world : y ≡ played trace x
 
-pub record Shuts (b : ℕ) (r : Run) (x : World) (n : ℕ) : Type 0 where
+pub record Shuts (b : ℕ) (r : Run) (x y : World) (n : ℕ) : Type 0 where
   pub trace : Trace
   pub next : ℕ
   pub is : r ≡ done trace next
   pub at : n ≡ b + next
-  pub world : x ≡ played trace x
+  pub world : y ≡ played trace x
 
 pub record Goes (r r′ : Run) (x y : World) : Type 0 where
   pub trace : Trace
@@ -257,18 +276,21 @@ module _ (s e : Sink) (a : Alike s e) (bytes : List ℕ) (b end : ℕ) (path : L
       ∙ ap (λ (t : Trace). played t x) (sym (stop-shift s e a bytes b end o path le g i (not-go-back b g (subst NotGo q n))))
 
   -- a level that ends at its count
-  pub level-exit : (h : Head) → levelHead (upTo bytes end) b ≡ h → NotGo h → (x y : World) → ((k : ℕ) → y ≡ played (levelStop e bytes end k path h) x)
+  pub level-exit : (h : Head) → levelHead (upTo bytes end) b ≡ h → NotGo h → (x y : World)
+      → ((k : ℕ) → y ≡ played (levelStop e bytes end k path h) (padding (numberPads (upTo bytes end) b) x))
       → (o : ℕ) → y ≡ played (level s (inner bytes b end o) path) x
   level-exit h eh n x y out o =
       let w = inner bytes b end o in
       let g = levelHead w 0 in
       let q : h ≡ shifted b g = sym eh ∙ ap (levelHead (upTo bytes end)) (sym (add-zero b)) ∙ level-shift bytes b end o le 0 in
       let i : HeadIn (end - b) g = subst (λ (k : ℕ). HeadIn k g) (size-inner bytes b end o le) (level-in w 0) in
-      exit-by o h g q i n x y out ∙ sym (level-stops s w path x (not-go-back b g (subst NotGo q n)))
+      exit-by o h g q i n (padding (numberPads (upTo bytes end) b) x) y out
+      ∙ ap (λ (k : ℕ). played (stopAt s w path g) (padding k x)) (level-there bytes b end o le)
+      ∙ sym (level-stops s w path x (not-go-back b g (subst NotGo q n)))
 
   -- one that goes on to its elements
   pub level-walks : {v f m : ℕ} → levelHead (upTo bytes end) b ≡ head.Go v f m → (x : World) (o : ℕ)
-      → played (level s (inner bytes b end o) path) x ≡ played (elements s (inner bytes b end o) path v maxElements (f - b)) x
+      → played (level s (inner bytes b end o) path) x ≡ played (elements s (inner bytes b end o) path v maxElements (f - b)) (padding (numberPads (upTo bytes end) b) x)
   level-walks {v} {f} {m} eh x o =
       let w = inner bytes b end o in
       let k = go-back b (levelHead w 0) (sym (ap (levelHead (upTo bytes end)) (sym (add-zero b)) ∙ level-shift bytes b end o le 0) ∙ eh) in
@@ -278,7 +300,7 @@ module _ (s e : Sink) (a : Alike s e) (bytes : List ℕ) (b end : ℕ) (path : L
       let d : 8 * c .bytes ≡ f - b = omega arith in
       ap (λ (t : Trace). played t x) (level-count s w path ∙ counts w c)
       ∙ sym (played-number (numberAt w 0 (c .bytes) v) (elements s w path v maxElements (8 * c .bytes)) x)
-      ∙ ap (λ (p : ℕ). played (elements s w path v maxElements p) x) d
+      ∙ ap₂ (λ (p k : ℕ). played (elements s w path v maxElements p) (padding k x)) d (sym (level-there bytes b end o le ∙ count-took w 0 v (c .bytes) (c .reads)))
     where
       counts : (w : Window) {q : ℕ} → (c : Counted w 0 v q) → Rattle.framing.specs.Walk.onCount s w path (reading w 0) ≡ number (numberAt w 0 (c .bytes) v) ∷ elements s w path v maxElements (8 * c .bytes)
       counts w c = rw (c .reads, le-ltb maxElements v (c .few))
@@ -287,20 +309,27 @@ module _ (s e : Sink) (a : Alike s e) (bytes : List ℕ) (b end : ℕ) (path : L
     element-here : (o : ℕ) → elementHead (upTo bytes end) count left at ≡ shifted b (elementHead (inner bytes b end o) count left (at - b))
     element-here o = let z : b + (at - b) ≡ at = omega arith in ap (elementHead (upTo bytes end) count left) (sym z) ∙ element-shift bytes b end o le count left (at - b)
 
+    element-pads : (o : ℕ) → elementPads (upTo bytes end) left at ≡ elementPads (inner bytes b end o) left (at - b)
+    element-pads o = let z : b + (at - b) ≡ at = omega arith in ap (elementPads (upTo bytes end) left) (sym z) ∙ element-there bytes b end o le left (at - b)
+
     -- elements that end
-    pub elements-exit : (h : Head) → elementHead (upTo bytes end) count left at ≡ h → NotGo h → (x y : World) → ((k : ℕ) → y ≡ played (levelStop e bytes end k path h) x)
+    pub elements-exit : (h : Head) → elementHead (upTo bytes end) count left at ≡ h → NotGo h → (x y : World)
+        → ((k : ℕ) → y ≡ played (levelStop e bytes end k path h) (padding (elementPads (upTo bytes end) left at) x))
         → (o : ℕ) → y ≡ played (elements s (inner bytes b end o) path count left (at - b)) x
     elements-exit h eh n x y out o =
         let w = inner bytes b end o in
         let g = elementHead w count left (at - b) in
         let q : h ≡ shifted b g = sym eh ∙ element-here o in
         let i : HeadIn (end - b) g = subst (λ (k : ℕ). HeadIn k g) (size-inner bytes b end o le) (element-in w count left (at - b)) in
-        exit-by o h g q i n x y out ∙ sym (elements-stops s w path count left (at - b) x (not-go-back b g (subst NotGo q n)))
+        exit-by o h g q i n (padding (elementPads (upTo bytes end) left at) x) y out
+        ∙ ap (λ (k : ℕ). played (stopAt s w path g) (padding k x)) (element-pads o)
+        ∙ sym (elements-stops s w path count left (at - b) x (not-go-back b g (subst NotGo q n)))
 
     -- an element, and those behind it
     pub elements-walk : {i n m : ℕ} → elementHead (upTo bytes end) count left at ≡ head.Go i n m → (x : World) (o : ℕ)
         → played (elements s (inner bytes b end o) path count left (at - b)) x
-        ≡ played (behind (λ r. elements s (inner bytes b end o) path count (left - 1) r) (fields s (inner bytes b end o) i (inItem s path i) maxFields (n - b) true)) (played (element (inItem s path i) ∷ []) x)
+        ≡ played (behind (λ r. elements s (inner bytes b end o) path count (left - 1) r) (fields s (inner bytes b end o) i (inItem s path i) maxFields (n - b) true))
+        (played (element (inItem s path i) ∷ []) (padding (elementPads (upTo bytes end) left at) x))
     elements-walk {i} {n} {m} eh x o =
         let w = inner bytes b end o in
         let k = go-back b (elementHead w count left (at - b)) (sym (element-here o) ∙ eh) in
@@ -309,11 +338,17 @@ module _ (s e : Sink) (a : Alike s e) (bytes : List ℕ) (b end : ℕ) (path : L
         let d : k .next ≡ n - b = omega arith in
         ap (λ (t : Trace). played t x) (steps w left c)
         ∙ sym (played-number (c .number) (element (inItem s path i) ∷ rest w (k .next)) x)
-        ∙ sym (played-then (element (inItem s path i)) (rest w (k .next)) x)
-        ∙ ap (λ (p : ℕ). played (rest w p) (played (element (inItem s path i) ∷ []) x)) d
+        ∙ sym (played-then (element (inItem s path i)) (rest w (k .next)) (padding (paddedAmong (c .number ∷ [])) x))
+        ∙ ap₂ (λ (p n : ℕ). played (rest w p) (played (element (inItem s path i) ∷ []) (padding n x))) d (sym (element-pads o ∙ takes w c))
       where
         rest : Window → ℕ → Trace
         rest w q = behind (λ r. elements s w path count (left - 1) r) (fields s w i (inItem s path i) maxFields q true)
+
+        takes : (w : Window) {q : ℕ} → (c : Opened w count left (at - b) i q) → elementPads w left (at - b) ≡ paddedAmong (c .number ∷ [])
+        takes w c =
+            index-took w (at - b) left
+            ∙ ap (indexTook w (at - b) left) (c .leads)
+            ∙ simp (ne-eqb left 0 (λ z. let l = c .allowed in absurd (omega arith)))
 
         steps : (w : Window) (l : ℕ) {q : ℕ} → (c : Opened w count l (at - b) i q)
             → elements s w path count l (at - b) ≡ number (c .number) ∷ element (inItem s path i) ∷ behind (λ r. elements s w path count (l - 1) r) (fields s w i (inItem s path i) maxFields q true)
@@ -324,8 +359,12 @@ module _ (s e : Sink) (a : Alike s e) (bytes : List ℕ) (b end : ℕ) (path : L
     field-here : (o : ℕ) → fieldHead (upTo bytes end) left at ≡ shifted b (fieldHead (inner bytes b end o) left (at - b))
     field-here o = let z : b + (at - b) ≡ at = omega arith in ap (fieldHead (upTo bytes end) left) (sym z) ∙ field-shift bytes b end o le left (at - b)
 
+    field-pads : (o : ℕ) → fieldPads (upTo bytes end) left at ≡ fieldPads (inner bytes b end o) left (at - b)
+    field-pads o = let z : b + (at - b) ≡ at = omega arith in ap (fieldPads (upTo bytes end) left) (sym z) ∙ field-there bytes b end o le left (at - b)
+
     -- fields that end without closing
-    pub fields-exit : (h : Head) → fieldHead (upTo bytes end) left at ≡ h → NotGo h → NotClosed h → (x y : World) → ((k : ℕ) → y ≡ played (fieldsStop e bytes end k path h) x)
+    pub fields-exit : (h : Head) → fieldHead (upTo bytes end) left at ≡ h → NotGo h → NotClosed h → (x y : World)
+        → ((k : ℕ) → y ≡ played (fieldsStop e bytes end k path h) (padding (fieldPads (upTo bytes end) left at) x))
         → (o : ℕ) → Ends (fields s (inner bytes b end o) i path left (at - b) first) x y
     fields-exit h eh n c x y out o =
         let w = inner bytes b end o in
@@ -333,21 +372,36 @@ module _ (s e : Sink) (a : Alike s e) (bytes : List ℕ) (b end : ℕ) (path : L
         let q : h ≡ shifted b g = sym eh ∙ field-here o in
         let i′ : HeadIn (end - b) g = subst (λ (k : ℕ). HeadIn k g) (size-inner bytes b end o le) (field-in w left (at - b)) in
         let halt = fields-halt s w path i left (at - b) first (not-go-back b g (subst NotGo q n)) (not-closed-back b g (subst NotClosed q c)) in
-        let all : (k : ℕ) → y ≡ played (levelStop e bytes end k path h) x = λ k. out k ∙ ap (λ (t : Trace). played t x) (sym (fields-stop e bytes end k path h c)) in
-        record { trace = halt .trace; is = halt .is; world = exit-by o h g q i′ n x y all ∙ sym (halt .same x) }
+        let z = padding (fieldPads (upTo bytes end) left at) x in
+        let all : (k : ℕ) → y ≡ played (levelStop e bytes end k path h) z = λ k. out k ∙ ap (λ (t : Trace). played t z) (sym (fields-stop e bytes end k path h c)) in
+        record {
+          trace = halt .trace;
+          is = halt .is;
+          world = exit-by o h g q i′ n z y all ∙ ap (λ (k : ℕ). played (stopAt s w path g) (padding k x)) (field-pads o) ∙ sym (halt .same x);
+        }
 
     -- fields that close before bit n
-    pub fields-closed : {n : ℕ} → fieldHead (upTo bytes end) left at ≡ head.Closed n → (x : World) (o : ℕ) → Shuts b (fields s (inner bytes b end o) i path left (at - b) first) x n
+    pub fields-closed : {n : ℕ} → fieldHead (upTo bytes end) left at ≡ head.Closed n → (x : World) (o : ℕ)
+        → Shuts b (fields s (inner bytes b end o) i path left (at - b) first) x (padding (fieldPads (upTo bytes end) left at) x) n
     fields-closed {n} eh x o =
         let w = inner bytes b end o in
         let k = closed-back b (fieldHead w left (at - b)) (sym (field-here o) ∙ eh) in
         let c = fields-close s w path i left (at - b) first (n - b) (k .0) in
-        record { trace = number (c .read) ∷ []; next = n - b; is = c .is; at = k .1; world = played-none x ∙ played-number (c .read) [] x }
+        record {
+          trace = number (c .read) ∷ [];
+          next = n - b;
+          is = c .is;
+          at = k .1;
+          world =
+              ap (λ (m : ℕ). padding m x) (field-pads o ∙ c .took)
+              ∙ played-none (padding (paddedAmong (c .read ∷ [])) x)
+              ∙ played-number (c .read) [] x;
+        }
 
     -- a field, and those behind it
     pub fields-walk : {h body next : ℕ} → fieldHead (upTo bytes end) left at ≡ head.Go h body next → (x : World) (o : ℕ)
         → Goes (fields s (inner bytes b end o) i path left (at - b) first) (fields s (inner bytes b end o) i path (left - 1) (next - b) (first && eqb (next - body) 0)) x
-        (played (s .field i path first h (inner bytes body next (o + (body - b)))) x)
+        (played (s .field i path first h (inner bytes body next (o + (body - b)))) (padding (fieldPads (upTo bytes end) left at) x))
     fields-walk {h} {body} {next} eh x o =
         let w = inner bytes b end o in
         let k = go-back b (fieldHead w left (at - b)) (sym (field-here o) ∙ eh) in
@@ -362,7 +416,9 @@ module _ (s e : Sink) (a : Alike s e) (bytes : List ℕ) (b end : ℕ) (path : L
         record {
           trace = numbers (c .numbers) ++ s .field i path first h (part w (k .next) (c .width));
           is = walks w left c ∙ (λ j. prepend (numbers (c .numbers) ++ s .field i path first h (part w (k .next) (c .width))) (fields s w i path (left - 1) (here4 (k .next) (c .width) (k .last) e2 wide j) (first && eqb (here5 (k .next) (c .width) (k .last) e1 e2 wide j) 0)));
-          world = sym (played-numbers (c .numbers) (s .field i path first h (part w (k .next) (c .width))) x ∙ ap (λ (v : Window). played (s .field i path first h v) x) same);
+          world =
+              ap₂ (λ (v : Window) (m : ℕ). played (s .field i path first h v) (padding m x)) (sym same) (field-pads o ∙ takes w left c)
+              ∙ played-numbers (c .numbers) (s .field i path first h (part w (k .next) (c .width))) x;
         }
       where
         here1 : (q : ℕ) → body ≡ b + q → b + q ≡ body
@@ -379,6 +435,9 @@ module _ (s e : Sink) (a : Alike s e) (bytes : List ℕ) (b end : ℕ) (path : L
 
         here5 : (q width last : ℕ) → body ≡ b + q → next ≡ b + last → last ≡ q + width → width ≡ next - body
         here5 q width last e f g = omega arith
+
+        takes : (w : Window) (l : ℕ) {q r : ℕ} → (c : Presented w l (at - b) h q r) → fieldPads w l (at - b) ≡ paddedAmong (c .numbers)
+        takes w l c = ap (λ (m : ℕ). fieldPads w m (at - b)) (c .allowed) ∙ due-took w (at - b) (c .less) ∙ ap (dueTook w (at - b)) (c .due)
 
         walks : (w : Window) (l : ℕ) {q r : ℕ} → (c : Presented w l (at - b) h q r)
             → fields s w i path l (at - b) first ≡ prepend (numbers (c .numbers) ++ s .field i path first h (part w q (c .width))) (fields s w i path (l - 1) (q + c .width) (first && eqb (c .width) 0))

@@ -26,7 +26,7 @@ level-in w p = go (reading-inside w p)
   where
     go : {r : Reading} → Inside (w .size) p r → HeadIn (w .size) (countHead (numberOf p r))
     go nothing = tt
-    go (inside {v = v} {b = n} h k) = go2 (ltb maxElements v)
+    go (inside {v = v} {b = n} h k l) = go2 (ltb maxElements v)
       where
         go2 : (x : Bool) → HeadIn (w .size) (if x then head.Limit (p + 8 * n) else head.Go v (p + 8 * n) (p + 8 * n))
         go2 true = h
@@ -85,7 +85,7 @@ level-goes w p {v} {q} {m} e = go (reading w p) refl (reading-inside w p) e
   where
     go : (r : Reading) → reading w p ≡ r → Inside (w .size) p r → countHead (numberOf p r) ≡ head.Go v q m → Counted w p v q
     go failed er i f = never cc
-    go (got k n) er (inside h pos) f = go2 (ltb maxElements k) refl f
+    go (got k n) er (inside h pos l) f = go2 (ltb maxElements k) refl f
       where
         go2 : (x : Bool) → ltb maxElements k ≡ x → (if x then head.Limit (p + 8 * n) else head.Go k (p + 8 * n) (p + 8 * n)) ≡ head.Go v q m → Counted w p v q
         go2 true ex g = never cc

@@ -57,7 +57,7 @@ fn close_level(tally: &mut Tally, bytes: &[u8], at: u64, end: u64, walk: Walk, i
     }
     let number = number_at(bytes, at, end);
     match number {
-        NumberRead::Value(v, _) => {
+        NumberRead::Value(v, _, _) => {
             if v == 0 {
                 return count_left(tally, inside, 0);
             }

@@ -17,9 +17,9 @@ pub mod walks;
 
 use schema::Label;
 
-// A packed number and the bit behind it.
+// A packed number, the bit behind it, and whether it is padded.
 pub enum NumberRead {
-    Value(u32, u64),
+    Value(u32, u64, bool),
     Failed,
 }
 

@@ -9,6 +9,7 @@ ghost use Rattle.steps.specs.Steps.{Lies};
 ghost use Rattle.steps.specs.Views.{inner};
 use crate::NumberRead;
 use crate::heads::number_at;
+use crate::heads::take_number;
 use crate::tally::ERRORS;
 use crate::tally::FIELDS;
 use crate::tally::NESTED;
@@ -53,7 +54,8 @@ pub fn object_field(
     }
     let number = number_at(bytes, from, end);
     match number {
-        NumberRead::Value(guid, next) => {
+        NumberRead::Value(guid, next, padded) => {
+            take_number(&mut *tally, padded);
             if next == end {
                 put_pair(tally, records, index, guid);
                 return;

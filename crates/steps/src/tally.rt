@@ -1,4 +1,4 @@
-// The tally of a walk: the seven counters, and the places of the next writes.
+// The tally of a walk: the seven counters, the places of the next writes, and the padded numbers.
 ghost use mathlib.Core.Path.{_≡_};
 ghost use Prim.Native.Nat.{_<_};
 ghost use lib.ListN.{length};
@@ -24,7 +24,9 @@ pub const PATHS: usize = 8;
 
 pub const PAYLOADS: usize = 9;
 
-pub const SLOTS: usize = 10;
+pub const PADDED: usize = 10;
+
+pub const SLOTS: usize = 11;
 
 pub type Tally = [u32; SLOTS];
 

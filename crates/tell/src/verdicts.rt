@@ -1,4 +1,4 @@
-// The seven counters by name, and the verdict in words.
+// The seven counters by name, the padded numbers, and the verdict in words.
 use crate::say;
 use array::ArrayDecodeStats;
 use array::Verdict;
@@ -57,9 +57,10 @@ fn say_partial(c: ArrayDecodeStats) {
 }
 
 // The end of a walk's output.
-pub fn report(c: ArrayDecodeStats, judged: Verdict) {
+pub fn report(c: ArrayDecodeStats, judged: Verdict, padded: u32) {
     say::text(b"\n");
     say_counters(c);
+    say::named(b"padded numbers", say::wide(padded));
     match judged {
         Verdict::Clean => say::text(
             b"verdict: clean; the window was read to its end and nothing is missing\n",

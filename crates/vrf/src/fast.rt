@@ -57,6 +57,7 @@ fn say_header(delta: Delta) {
     say::named(b"deleted ids", say::wide(delta.deletes));
     say::named(b"changed items", say::wide(delta.changes));
     say::named(b"fields", say::wide(delta.fields));
+    say::named(b"padded numbers", say::wide(delta.padded));
 }
 
 fn say_deleted(ids: &[i32], count: usize)

@@ -29,7 +29,10 @@ fn usage() {
     error::text(
         b"flag of each item; SCALE is 1, 10 or 100 and WIDTH 8 or 16. The window is the first BITS bits of the file,\n",
     );
-    error::text(b"without BITS all of it; of an empty file that is no bits.\n");
+    error::text(
+        b"without BITS all of it; of an empty file that is no bits. Padded numbers stand in more bytes than they need:\n",
+    );
+    error::text(b"this box's recorder build writes long forms, and nothing is damaged.\n");
 }
 
 fn run(job: Job, bytes: &[u8], bits: u32) {

@@ -70,6 +70,7 @@ fn say_record(m: Movement) {
     say_angular(angular);
     say_number(b"server frame", frame);
     say_number(b"physics handle", handle);
+    say::named(b"padded numbers", say::wide(m.padded));
 }
 
 pub fn record(

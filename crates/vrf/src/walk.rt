@@ -96,10 +96,10 @@ fn say_leaves(count: usize, leaves: &[u32], paths: &[u8], payloads: &[u8])
 
 fn report(r: StructArray, leaves: &[u32], paths: &[u8], payloads: &[u8]) {
     match r {
-        StructArray::Decoded(stats, judged, extent) => {
+        StructArray::Decoded(stats, judged, extent, padded) => {
             let count = say::least(say::index(extent.leaves), leaves.len() / LEAF_WORDS);
             say_leaves(count, leaves, paths, payloads);
-            verdicts::report(stats, judged);
+            verdicts::report(stats, judged, padded);
         }
         _ => refusals::unwalked(r),
     }
@@ -123,10 +123,10 @@ fn say_pairs(count: usize, pairs: &[u32])
 
 fn report_pairs(r: ObjectArray, pairs: &[u32]) {
     match r {
-        ObjectArray::Decoded(stats, judged, given) => {
+        ObjectArray::Decoded(stats, judged, given, padded) => {
             let count = say::least(say::index(given), pairs.len() / PAIR_WORDS);
             say_pairs(count, pairs);
-            verdicts::report(stats, judged);
+            verdicts::report(stats, judged, padded);
         }
         _ => refusals::unpaired(r),
     }

@@ -1,17 +1,20 @@
 -- `bitio::read_int_packed` meets its contract: the window's number is one of the bytes, and each of its cases has its answer.
 use borrow.Author.Needs.{needs}
 use mathlib.Core.Path.{_≡_, sym, ap, _∙_}
-use mathlib.Core.Bool.{true}
+use mathlib.Core.Bool.{Bool, true}
 use Prim.Native.Nat.{ℕ, _+_, _*_, _≤_}
 use native.Mathlib.Omega.{arith}
 use Rattle.bitio.proofs.CursorLaws.{bad-way, at-good, passed, good-le}
 use Rattle.bitio.proofs.ReadLaws.{packed-here}
-use Rattle.bits.proofs.PackedLaws.{whole-within, cut-within}
-use Rattle.bits.specs.declared.Packed.{Packed}
-use Rattle.bits.specs.declared.Packed.the-variants.{Whole, Cut}
+use Rattle.bits.proofs.PackedLaws.{whole-within, whole-bytes, cut-within}
+use Rattle.bits.specs.Packed.{mostBytes}
+use Rattle.bits.specs.Padded.{padded}
+use Rattle.bits.proofs.PaddedLaws.{plain, plain-found, found-padded}
+use Rattle.bits.specs.declared.Found.{Found}
+use Rattle.bits.specs.declared.Found.the-variants.{Whole, Cut}
 use Rattle.bitio.specs.Cursors.{good, bitsOf}
-use Rattle.bitio.specs.Numbers.{packedAnswer, readIntPacked}
-use Rattle.bitio.specs.declared.PackedRead.the-variants.{Refused}
+use Rattle.bitio.specs.Numbers.{packedNumber, packedAnswer, readIntPacked}
+use Rattle.bitio.specs.declared.PackedRead.the-variants.{Value, Refused}
 use Rattle.bitio.proofs.read_int_packed.Statement.{statement}
 use Rattle.bitio.proofs.read_int_packed.Tie as tie
 
@@ -38,10 +41,15 @@ packed-at-requires : tie.Need-packed-at-requires
 packed-at-requires c κs = let l = good-le _ _ (fine c) in omega arith
 
 -- what was found is the answer's number
-found-is : (c : tie.After-packed-at) (r : Packed) → c .packed-at .result ≡ r →
+found-is : (c : tie.After-packed-at) (x : Found) → c .packed-at .result ≡ x →
     let a = c .before .before .before .before .args in
-    packedAnswer (a .c .len) (a .c .pos) r ≡ readIntPacked (a .bytes .now) (a .c)
-found-is c r e = sym (at-good _ _ Refused _ (fine (c .before)) ∙ ap (packedAnswer _ _) (packed-here _ _ ∙ sym (c .packed-at .ensures) ∙ e))
+    packedAnswer (a .c .len) (a .c .pos) (plain x) ≡ readIntPacked (a .bytes .now) (a .c)
+found-is c x e =
+    sym (at-good _ _ Refused _ (fine (c .before)) ∙ ap (packedAnswer _ _) (packed-here _ _ ∙ plain-found _ (sym e ∙ c .packed-at .ensures)))
+
+-- whether it is padded, as it was found out
+told : (v n p : ℕ) {b : Bool} → b ≡ padded v n → Value (record { value = v; bytes = n; padded = b }) p ≡ Value (packedNumber v n) p
+told v n p e = ap (λ (b : Bool). Value (record { value = v; bytes = n; padded = b }) p) e
 
 -- and it ends in the window
 ends : (c : tie.After-packed-at) (n : ℕ) →
@@ -49,19 +57,23 @@ ends : (c : tie.After-packed-at) (n : ℕ) →
     a .c .start + a .c .pos + 8 * n ≤ a .c .start + a .c .len → a .c .pos + 8 * n ≤ bitsOf (a .bytes .now)
 ends c n h = let l = good-le _ _ (fine (c .before)) in omega arith
 
-whole-ends : (c : tie.After-packed-at) (v n : ℕ) → c .packed-at .result ≡ Whole v n →
+whole-ends : (c : tie.After-packed-at) (v n : ℕ) {b : Bool} → c .packed-at .result ≡ Whole v n b →
     let a = c .before .before .before .before .args in
     a .c .pos + 8 * n ≤ bitsOf (a .bytes .now)
 whole-ends c v n e =
     let l = good-le _ _ (fine (c .before)) in
-    ends c n (whole-within _ _ _ (omega arith) v n (sym (c .packed-at .ensures) ∙ e))
+    ends c n (whole-within _ _ _ (omega arith) v n (plain-found _ (sym e ∙ c .packed-at .ensures)))
+
+-- a number has at most five bytes
+few-bytes : (c : tie.After-packed-at) (v n : ℕ) {b : Bool} → c .packed-at .result ≡ Whole v n b → n ≤ mostBytes
+few-bytes c v n e = whole-bytes _ _ _ v n (plain-found _ (sym e ∙ c .packed-at .ensures))
 
 cut-ends : (c : tie.After-packed-at) (n : ℕ) → c .packed-at .result ≡ Cut n →
     let a = c .before .before .before .before .args in
     a .c .pos + 8 * n ≤ bitsOf (a .bytes .now)
 cut-ends c n e =
     let l = good-le _ _ (fine (c .before)) in
-    ends c n (cut-within _ _ _ (omega arith) n (sym (c .packed-at .ensures) ∙ e))
+    ends c n (cut-within _ _ _ (omega arith) n (plain-found _ (sym e ∙ c .packed-at .ensures)))
 
 enum-known-found : tie.Need-enum-known-found
 enum-known-found c = search needs
@@ -71,6 +83,9 @@ mul-next c = omega (arith, whole-ends (c .before .before .before) _ _ (c .before
 
 add-next : tie.Need-add-next
 add-next c = omega (arith, whole-ends (c .before .before .before) _ _ (c .before .found .given .1))
+
+cast-taken : tie.Need-cast-taken
+cast-taken c = omega (arith, few-bytes (c .before .before .before) _ _ (c .before .found .given .1))
 
 enum-known-found-2 : tie.Need-enum-known-found-2
 enum-known-found-2 c = search needs
@@ -89,7 +104,10 @@ enum-told-2 c = search needs
 
 returns-2 : tie.Need-returns-2
 unfolding packedAnswer
-returns-2 c = found-is (c .before .before .before) _ (c .before .found .given .1)
+returns-2 c =
+    let e = c .before .found .given .1 in
+    let a = c .before .before .before in
+    told _ _ _ (found-padded _ (sym e ∙ a .packed-at .ensures)) ∙ found-is a _ e
 
 returns-3 : tie.Need-returns-3
 unfolding packedAnswer
@@ -116,6 +134,7 @@ read-int-packed-spec =
     enum-known-found
     mul-next
     add-next
+    cast-taken
     enum-known-found-2
     mul-stop
     add-stop

@@ -29,18 +29,18 @@ use Prim.Native.Nat.{_+_, _*_, _-_, _/_}
 use native.Mathlib.Omega.{arith}
 use mathlib.Core.Path.{_≡_, refl, sym, ap, _∙_}
 use mathlib.Core.Bool.{true}
-use mathlib.Core.List.{List}
+use mathlib.Core.List.{List, [], _∷_}
 use lib.ListN.{length, take}
 use Rattle.schema.specs.Tables.{tables}
 use Rattle.schema.specs.Labels.{dot}
-use Rattle.framing.specs.Events.{Trace}
+use Rattle.framing.specs.Events.{element, Trace}
 use Rattle.steps.specs.Tally.{worldOf, played}
 use Rattle.cycle.specs.Cycle.{place}
 use Rattle.steps.proofs.CaseLaws.{not-go, not-closed, not-array}
 use Rattle.steps.proofs.ShiftLaws.{part-bytes}
 use Rattle.steps.proofs.WalkLaws.{level-head-in, element-head-in, field-head-in, level-next, element-next, field-next}
 use Rattle.steps.proofs.FieldKindLaws.{pool-bytes, pool-lies, kind-pools, flat-pools, array-below}
-use Rattle.cycle.proofs.CycleLaws.{kind-is, kind-ready, Fielding, fields-begin, fields-turn, fields-shut, fields-end, Leveling, prefix, level-end, level-begin, elements-end, elements-turn, elements-open, field-put, field-walked, up-to, ready-child, ready-part}
+use Rattle.cycle.proofs.CycleLaws.{kind-is, kind-ready, Fielding, fields-begin, fields-turn, fields-shut, fields-end, Leveling, prefix, level-end, level-begin, level-whole, elements-end, elements-turn, elements-open, field-put, field-walked, up-to, ready-child, ready-part}
 
 abbrev μ-walk-field : Measures 10 walk-field-kinds.ps ℕ
 μ-walk-field κs a =
@@ -258,7 +258,7 @@ walk-fields-loop-holds t c =
 
 walk-fields-field-head-requires : (t : ℕ) → walk-fields-lts.Need-field-head-requires (walk-fields-claims t) (walk-fields-at t) walk-fields.Post walk-fields-Inv-loop walk-fields-μ-loop
 walk-fields-field-head-requires t c κs =
-    let at-start = c .before .before .before .before .before .before .before .before .before in
+    let at-start = c .before .before .before .before .before .before .before .before .before .before in
     up-to (at-start .pre .1)
 
 walk-fields-enum-known-h : (t : ℕ) → walk-fields-lts.Need-enum-known-h (walk-fields-claims t) (walk-fields-at t) walk-fields.Post walk-fields-Inv-loop walk-fields-μ-loop
@@ -266,27 +266,29 @@ walk-fields-enum-known-h t c = search needs
 
 walk-fields-same-length : (t : ℕ) → walk-fields-lts.Need-same-length (walk-fields-claims t) (walk-fields-at t) walk-fields.Post walk-fields-Inv-loop walk-fields-μ-loop
 walk-fields-same-length t c =
-    let at-at-loop = c .before .before .before .before in
+    let at-at-loop = c .before .before .before .before .before in
     at-at-loop .loop .inv .1
 
 walk-fields-same-length-2 : (t : ℕ) → walk-fields-lts.Need-same-length-2 (walk-fields-claims t) (walk-fields-at t) walk-fields.Post walk-fields-Inv-loop walk-fields-μ-loop
 walk-fields-same-length-2 t c =
-    let at-at-loop = c .before .before .before .before in
+    let at-at-loop = c .before .before .before .before .before in
     at-at-loop .loop .inv .2
 
 walk-fields-same-length-3 : (t : ℕ) → walk-fields-lts.Need-same-length-3 (walk-fields-claims t) (walk-fields-at t) walk-fields.Post walk-fields-Inv-loop walk-fields-μ-loop
 walk-fields-same-length-3 t c =
-    let at-at-loop = c .before .before .before .before in
+    let at-at-loop = c .before .before .before .before .before in
     at-at-loop .loop .inv .3
 
 walk-fields-returns : (t : ℕ) → walk-fields-lts.Need-returns (walk-fields-claims t) (walk-fields-at t) walk-fields.Post walk-fields-Inv-loop walk-fields-μ-loop
 walk-fields-returns t c =
     let at-after-h = c .before in
     let at-after-field-head = at-after-h .before .before in
-    let at-at-loop = at-after-field-head .before in
+    let at-at-loop = at-after-field-head .before .before in
     let at-start = at-at-loop .before .before .before .before .before .before .before .before .before in
-    fields-shut _ _ _ _ _ _ _ _ _ (at-start .pre .1 .lies .0) (at-at-loop .loop .inv .0)
-    (sym (at-after-field-head .field-head .ensures) ∙ at-after-h .h .given .1)
+    let loop = at-at-loop .loop in
+    fields-shut _ _ _ _ _ _ _ _ _ (at-start .pre .1 .lies .0) (loop .inv .0) _
+    (at-after-field-head .field-head .ensures .1 (loop .records) (loop .paths) (loop .payloads))
+    (sym (at-after-field-head .field-head .ensures .0) ∙ at-after-h .h .given .1)
 
 walk-fields-enum-known-h-2 : (t : ℕ) → walk-fields-lts.Need-enum-known-h-2 (walk-fields-claims t) (walk-fields-at t) walk-fields.Post walk-fields-Inv-loop walk-fields-μ-loop
 walk-fields-enum-known-h-2 t c = search needs
@@ -294,10 +296,10 @@ walk-fields-enum-known-h-2 t c = search needs
 walk-fields-stop-fields-requires : (t : ℕ) → walk-fields-lts.Need-stop-fields-requires (walk-fields-claims t) (walk-fields-at t) walk-fields.Post walk-fields-Inv-loop walk-fields-μ-loop
 walk-fields-stop-fields-requires t c κs =
     let at-after-field-head = c .before .before .before .before .before .before .before in
-    let at-at-loop = at-after-field-head .before in
+    let at-at-loop = at-after-field-head .before .before in
     let at-start = at-at-loop .before .before .before .before .before .before .before .before .before in
     let ready = at-start .pre .1 in
-    (field-head-in _ _ _ _ _ (sym (at-after-field-head .field-head .ensures)), up-to ready, omega (arith, ready .path))
+    (field-head-in _ _ _ _ _ (sym (at-after-field-head .field-head .ensures .0)), up-to ready, omega (arith, ready .path))
 
 walk-fields-same-length-4 : (t : ℕ) → walk-fields-lts.Need-same-length-4 (walk-fields-claims t) (walk-fields-at t) walk-fields.Post walk-fields-Inv-loop walk-fields-μ-loop
 walk-fields-same-length-4 t c = search needs
@@ -314,20 +316,22 @@ walk-fields-returns-2 t c =
     let at-at-match2-keys2 = at-after-stop-fields .before .before .before .before .before .before in
     let at-at-match-keys2 = at-at-match2-keys2 .before in
     let at-after-field-head = at-at-match-keys2 .before in
-    let at-at-loop = at-after-field-head .before in
+    let at-at-loop = at-after-field-head .before .before in
     let at-start = at-at-loop .before .before .before .before .before .before .before .before .before in
     let h = at-after-field-head .field-head .result in
     let stop = at-after-stop-fields .stop-fields .ensures in
-    fields-end _ _ _ _ _ _ _ _ _ (at-start .pre .1 .lies .0) (at-at-loop .loop .inv .0) h (sym (at-after-field-head .field-head .ensures))
+    let loop = at-at-loop .loop in
+    fields-end _ _ _ _ _ _ _ _ _ (at-start .pre .1 .lies .0) (loop .inv .0) _
+    (at-after-field-head .field-head .ensures .1 (loop .records) (loop .paths) (loop .payloads)) h (sym (at-after-field-head .field-head .ensures .0))
     (not-go h (at-at-match2-keys2 .match2 .keys2)) (not-closed h (at-at-match-keys2 .match .keys2)) _ _ (λ o inside. stop inside .out o) (stop true .kept)
 
 walk-fields-walk-field-requires : (t : ℕ) → walk-fields-lts.Need-walk-field-requires (walk-fields-claims t) (walk-fields-at t) walk-fields.Post walk-fields-Inv-loop walk-fields-μ-loop
 walk-fields-walk-field-requires t c κs =
     let at-after-h2 = c .before .before .before .before .before .before in
     let at-after-field-head = at-after-h2 .before .before .before in
-    let at-at-loop = at-after-field-head .before in
+    let at-at-loop = at-after-field-head .before .before in
     let at-start = at-at-loop .before .before .before .before .before .before .before .before .before in
-    let n = field-next _ _ _ _ (sym (at-after-field-head .field-head .ensures) ∙ at-after-h2 .h2 .given .1) in
+    let n = field-next _ _ _ _ (sym (at-after-field-head .field-head .ensures .0) ∙ at-after-h2 .h2 .given .1) in
     let z = at-at-loop .loop .inv .0 .later in
     (omega (arith, at-start .pre .0), ready-part _ _ _ _ _ _ _ _ _ _ _ (at-start .pre .1) (n .2) (n .3) (at-start .pre .1 .path))
 
@@ -335,26 +339,26 @@ walk-fields-still-first-requires : (t : ℕ) → walk-fields-lts.Need-still-firs
 walk-fields-still-first-requires t c κs =
     let at-after-h2 = c .before .before .before .before .before .before .before .before .before .before .before .before .before in
     let at-after-field-head = at-after-h2 .before .before .before in
-    let at-at-loop = at-after-field-head .before in
+    let at-at-loop = at-after-field-head .before .before in
     let at-start = at-at-loop .before .before .before .before .before .before .before .before .before in
-    (field-next _ _ _ _ (sym (at-after-field-head .field-head .ensures) ∙ at-after-h2 .h2 .given .1)) .2
+    (field-next _ _ _ _ (sym (at-after-field-head .field-head .ensures .0) ∙ at-after-h2 .h2 .given .1)) .2
 
 walk-fields-sub-left : (t : ℕ) → walk-fields-lts.Need-sub-left (walk-fields-claims t) (walk-fields-at t) walk-fields.Post walk-fields-Inv-loop walk-fields-μ-loop
 walk-fields-sub-left t c =
     let at-after-h2 = c .before .before .before .before .before .before .before .before .before .before .before .before .before .before in
     let at-after-field-head = at-after-h2 .before .before .before in
-    let at-at-loop = at-after-field-head .before in
+    let at-at-loop = at-after-field-head .before .before in
     let at-start = at-at-loop .before .before .before .before .before .before .before .before .before in
-    let n = field-next _ _ _ _ (sym (at-after-field-head .field-head .ensures) ∙ at-after-h2 .h2 .given .1) in
+    let n = field-next _ _ _ _ (sym (at-after-field-head .field-head .ensures .0) ∙ at-after-h2 .h2 .given .1) in
     omega arith
 
 walk-fields-loop-less : (t : ℕ) → walk-fields-lts.Need-loop-less (walk-fields-claims t) (walk-fields-at t) walk-fields.Post walk-fields-Inv-loop walk-fields-μ-loop
 walk-fields-loop-less t c =
     let at-after-h2 = c .before .before .before .before .before .before .before .before .before .before .before .before .before .before in
     let at-after-field-head = at-after-h2 .before .before .before in
-    let at-at-loop = at-after-field-head .before in
+    let at-at-loop = at-after-field-head .before .before in
     let at-start = at-at-loop .before .before .before .before .before .before .before .before .before in
-    let n = field-next _ _ _ _ (sym (at-after-field-head .field-head .ensures) ∙ at-after-h2 .h2 .given .1) in
+    let n = field-next _ _ _ _ (sym (at-after-field-head .field-head .ensures .0) ∙ at-after-h2 .h2 .given .1) in
     omega arith
 
 walk-fields-loop-again : (t : ℕ) → walk-fields-lts.Need-loop-again (walk-fields-claims t) (walk-fields-at t) walk-fields.Post walk-fields-Inv-loop walk-fields-μ-loop
@@ -362,11 +366,13 @@ walk-fields-loop-again t c =
     let at-after-walk-field = c .before .before .before .before .before .before .before in
     let at-after-h2 = at-after-walk-field .before .before .before .before .before .before .before in
     let at-after-field-head = at-after-h2 .before .before .before in
-    let at-at-loop = at-after-field-head .before in
+    let at-at-loop = at-after-field-head .before .before in
     let at-start = at-at-loop .before .before .before .before .before .before .before .before .before in
     let kept = at-after-walk-field .walk-field .kept .1 .1 .1 .1 .1 .1 .1 .1 .1 .1 .1 .1 .1 .1 .1 .1 .1 in
-    let inv = at-at-loop .loop .inv in (
-      fields-turn _ _ _ _ _ _ _ _ _ (at-start .pre .1 .lies .0) (inv .0) (sym (at-after-field-head .field-head .ensures) ∙ at-after-h2 .h2 .given .1) _ _ _
+    let loop = at-at-loop .loop in
+    let inv = loop .inv in (
+      fields-turn _ _ _ _ _ _ _ _ _ (at-start .pre .1 .lies .0) (inv .0) _
+          (at-after-field-head .field-head .ensures .1 (loop .records) (loop .paths) (loop .payloads)) (sym (at-after-field-head .field-head .ensures .0) ∙ at-after-h2 .h2 .given .1) _ _ _
           (at-after-walk-field .walk-field .ensures) (c .still-first .ensures),
       kept .0 ∙ inv .1,
       kept .1 .0 ∙ inv .2,
@@ -375,7 +381,7 @@ walk-fields-loop-again t c =
 
 abbrev walk-level-Inv-loop : walk-level-lts.InvT-loop
 walk-level-Inv-loop tally₀ bytes from end walk inside below level plen rows spans names declared declaredNames path₀ records₀ paths₀ payloads₀ total first at₀ left₀ tally path records paths payloads at left =
-    Leveling (place walk (tables rows names declared declaredNames) below level bytes end (take plen path₀)) inside «from» total
+    Leveling (place walk (tables rows names declared declaredNames) below level bytes end (take plen path₀)) inside «from» total first
     (worldOf tally₀ records₀ paths₀ payloads₀) (worldOf tally records paths payloads) (take plen path) at left
     × (length records ≡ length records₀) × (length paths ≡ length paths₀) × (length payloads ≡ length payloads₀)
 
@@ -385,7 +391,7 @@ walk-level-μ-loop tally₀ bytes from end walk inside below level plen rows spa
 
 walk-level-level-head-requires : (t : ℕ) → walk-level-lts.Need-level-head-requires (walk-level-claims t) (walk-level-at t) walk-level.Post walk-level-Inv-loop walk-level-μ-loop
 walk-level-level-head-requires t c κs =
-    let at-start = c .before .before .before .before .before .before .before .before in
+    let at-start = c .before .before .before .before .before .before .before .before .before in
     at-start .pre .1 .lies
 
 walk-level-enum-known-o : (t : ℕ) → walk-level-lts.Need-enum-known-o (walk-level-claims t) (walk-level-at t) walk-level.Post walk-level-Inv-loop walk-level-μ-loop
@@ -394,9 +400,9 @@ walk-level-enum-known-o t c = search needs
 walk-level-stop-level-requires : (t : ℕ) → walk-level-lts.Need-stop-level-requires (walk-level-claims t) (walk-level-at t) walk-level.Post walk-level-Inv-loop walk-level-μ-loop
 walk-level-stop-level-requires t c κs =
     let at-after-level-head = c .before .before .before .before .before .before in
-    let at-start = at-after-level-head .before .before .before .before .before .before .before .before .before in
+    let at-start = at-after-level-head .before .before .before .before .before .before .before .before .before .before in
     let ready = at-start .pre .1 in
-    (level-head-in _ _ _ _ (sym (at-after-level-head .level-head .ensures)), up-to ready, omega (arith, ready .path))
+    (level-head-in _ _ _ _ (sym (at-after-level-head .level-head .ensures .0)), up-to ready, omega (arith, ready .path))
 
 walk-level-same-length : (t : ℕ) → walk-level-lts.Need-same-length (walk-level-claims t) (walk-level-at t) walk-level.Post walk-level-Inv-loop walk-level-μ-loop
 walk-level-same-length t c = search needs
@@ -412,22 +418,23 @@ walk-level-returns t c =
     let at-after-stop-level = c .before .before .before .before .before .before in
     let at-at-match-keys2 = at-after-stop-level .before .before .before .before .before .before in
     let at-after-level-head = at-at-match-keys2 .before in
-    let at-start = at-after-level-head .before .before .before .before .before .before .before .before .before in
+    let at-start = at-after-level-head .before .before .before .before .before .before .before .before .before .before in
     let h = at-after-level-head .level-head .result in
     let stop = at-after-stop-level .stop-level .ensures in
-    level-end _ _ _ (at-start .pre .1 .lies .0) h (sym (at-after-level-head .level-head .ensures)) (not-go h (at-at-match-keys2 .match .keys2)) _ _ _
+    level-end _ _ _ (at-start .pre .1 .lies .0) h (sym (at-after-level-head .level-head .ensures .0)) (not-go h (at-at-match-keys2 .match .keys2)) _ _ _
+    (at-after-level-head .level-head .ensures .1 (at-start .args .records .now) (at-start .args .paths .now) (at-start .args .payloads .now)) _
     (stop .out) (stop .kept)
 
 walk-level-loop-holds : (t : ℕ) → walk-level-lts.Need-loop-holds (walk-level-claims t) (walk-level-at t) walk-level.Post walk-level-Inv-loop walk-level-μ-loop
 walk-level-loop-holds t c =
     let at-after-o = c .before in
     let at-after-level-head = at-after-o .before .before in
-    let at-start = at-after-level-head .before .before .before .before .before .before .before .before .before in
-    (level-begin _ _ _ (at-start .pre .1 .lies .0) (sym (at-after-level-head .level-head .ensures) ∙ at-after-o .o .given .1) _, refl, refl, refl)
+    let at-start = at-after-level-head .before .before .before .before .before .before .before .before .before .before in
+    (level-begin _ _ _ (at-start .pre .1 .lies .0) (sym (at-after-level-head .level-head .ensures .0) ∙ at-after-o .o .given .1) _, refl, refl, refl)
 
 walk-level-element-head-requires : (t : ℕ) → walk-level-lts.Need-element-head-requires (walk-level-claims t) (walk-level-at t) walk-level.Post walk-level-Inv-loop walk-level-μ-loop
 walk-level-element-head-requires t c κs =
-    let at-start = c .before .before .before .before .before .before .before .before .before .before .before .before .before in
+    let at-start = c .before .before .before .before .before .before .before .before .before .before .before .before .before .before .before in
     up-to (at-start .pre .1)
 
 walk-level-enum-known-h : (t : ℕ) → walk-level-lts.Need-enum-known-h (walk-level-claims t) (walk-level-at t) walk-level.Post walk-level-Inv-loop walk-level-μ-loop
@@ -436,11 +443,11 @@ walk-level-enum-known-h t c = search needs
 walk-level-stop-level-requires-2 : (t : ℕ) → walk-level-lts.Need-stop-level-requires-2 (walk-level-claims t) (walk-level-at t) walk-level.Post walk-level-Inv-loop walk-level-μ-loop
 walk-level-stop-level-requires-2 t c κs =
     let at-after-element-head = c .before .before .before .before .before .before in
-    let at-at-loop = at-after-element-head .before in
+    let at-at-loop = at-after-element-head .before .before in
     let at-after-o = at-at-loop .before .before in
-    let at-start = at-after-o .before .before .before .before .before .before .before .before .before .before .before in
+    let at-start = at-after-o .before .before .before .before .before .before .before .before .before .before .before .before in
     let ready = at-start .pre .1 in
-    (element-head-in _ _ _ _ _ _ (sym (at-after-element-head .element-head .ensures)), up-to ready, omega (arith, ready .path))
+    (element-head-in _ _ _ _ _ _ (sym (at-after-element-head .element-head .ensures .0)), up-to ready, omega (arith, ready .path))
 
 walk-level-same-length-4 : (t : ℕ) → walk-level-lts.Need-same-length-4 (walk-level-claims t) (walk-level-at t) walk-level.Post walk-level-Inv-loop walk-level-μ-loop
 walk-level-same-length-4 t c = search needs
@@ -456,24 +463,29 @@ walk-level-returns-2 t c =
     let at-after-stop-level2 = c .before .before .before .before .before .before in
     let at-at-match2-keys2 = at-after-stop-level2 .before .before .before .before .before .before in
     let at-after-element-head = at-at-match2-keys2 .before in
-    let at-at-loop = at-after-element-head .before in
+    let at-at-loop = at-after-element-head .before .before in
     let at-after-o = at-at-loop .before .before in
-    let at-start = at-after-o .before .before .before .before .before .before .before .before .before .before .before in
+    let at-after-level-head = at-after-o .before .before in
+    let at-start = at-after-o .before .before .before .before .before .before .before .before .before .before .before .before in
     let h = at-after-element-head .element-head .result in
     let stop = at-after-stop-level2 .stop-level2 .ensures in
-    elements-end _ _ _ (at-start .pre .1 .lies .0) _ _ _ _ _ _ (at-at-loop .loop .inv .0) h (sym (at-after-element-head .element-head .ensures))
-    (not-go h (at-at-match2-keys2 .match2 .keys2)) _ _ (stop .out) (stop .kept)
+    let loop = at-at-loop .loop in
+    level-whole _ _ _ (at-start .pre .1 .lies .0) (sym (at-after-level-head .level-head .ensures .0) ∙ at-after-o .o .given .1) _ _
+    (at-after-level-head .level-head .ensures .1 (at-start .args .records .now) (at-start .args .paths .now) (at-start .args .payloads .now)) _ _
+    (elements-end _ _ _ (at-start .pre .1 .lies .0) _ _ _ _ _ _ _ (loop .inv .0) h (sym (at-after-element-head .element-head .ensures .0))
+    (not-go h (at-at-match2-keys2 .match2 .keys2)) _ _
+    (at-after-element-head .element-head .ensures .1 (loop .records) (loop .paths) (loop .payloads)) _ (stop .out) (stop .kept))
 
 walk-level-enter-requires : (t : ℕ) → walk-level-lts.Need-enter-requires (walk-level-claims t) (walk-level-at t) walk-level.Post walk-level-Inv-loop walk-level-μ-loop
 walk-level-enter-requires t c κs =
     let at-after-h = c .before .before .before in
     let at-after-element-head = at-after-h .before .before in
-    let at-at-loop = at-after-element-head .before in
+    let at-at-loop = at-after-element-head .before .before in
     let at-after-o = at-at-loop .before .before in
     let at-after-level-head = at-after-o .before .before in
-    let at-start = at-after-level-head .before .before .before .before .before .before .before .before .before in
-    let few = level-next _ _ _ (sym (at-after-level-head .level-head .ensures) ∙ at-after-o .o .given .1) .2 in
-    let low = element-next _ _ _ _ _ (sym (at-after-element-head .element-head .ensures) ∙ at-after-h .h .given .1) .3 in
+    let at-start = at-after-level-head .before .before .before .before .before .before .before .before .before .before in
+    let few = level-next _ _ _ (sym (at-after-level-head .level-head .ensures .0) ∙ at-after-o .o .given .1) .2 in
+    let low = element-next _ _ _ _ _ (sym (at-after-element-head .element-head .ensures .0) ∙ at-after-h .h .given .1) .3 in
     (omega (arith, few, low), omega (arith, at-start .pre .1 .path))
 
 walk-level-walk-fields-requires : (t : ℕ) → walk-level-lts.Need-walk-fields-requires (walk-level-claims t) (walk-level-at t) walk-level.Post walk-level-Inv-loop walk-level-μ-loop
@@ -481,10 +493,10 @@ walk-level-walk-fields-requires t c κs =
     let at-after-enter = c .before .before .before .before .before in
     let at-after-h = at-after-enter .before .before .before .before in
     let at-after-element-head = at-after-h .before .before in
-    let at-at-loop = at-after-element-head .before in
+    let at-at-loop = at-after-element-head .before .before in
     let at-after-o = at-at-loop .before .before in
-    let at-start = at-after-o .before .before .before .before .before .before .before .before .before .before .before in
-    let n = element-next _ _ _ _ _ (sym (at-after-element-head .element-head .ensures) ∙ at-after-h .h .given .1) in
+    let at-start = at-after-o .before .before .before .before .before .before .before .before .before .before .before .before in
+    let n = element-next _ _ _ _ _ (sym (at-after-element-head .element-head .ensures .0) ∙ at-after-h .h .given .1) in
     let z = at-at-loop .loop .inv .0 .later in
     (omega (arith, at-start .pre .0), ready-part _ _ _ _ _ _ _ _ _ _ _ (at-start .pre .1) (n .2) (omega arith) (omega (arith, at-start .pre .1 .path, at-after-enter .enter .ensures .grew .within)))
 
@@ -497,19 +509,19 @@ walk-level-enum-told t c = search needs
 walk-level-same-length-7 : (t : ℕ) → walk-level-lts.Need-same-length-7 (walk-level-claims t) (walk-level-at t) walk-level.Post walk-level-Inv-loop walk-level-μ-loop
 walk-level-same-length-7 t c =
     let at-after-walk-fields = c .before .before .before .before .before .before .before .before in
-    let at-at-loop = at-after-walk-fields .before .before .before .before .before .before .before .before .before .before .before .before .before in
+    let at-at-loop = at-after-walk-fields .before .before .before .before .before .before .before .before .before .before .before .before .before .before in
     at-after-walk-fields .walk-fields .kept .1 .1 .1 .1 .1 .1 .1 .1 .1 .1 .1 .1 .1 .1 .1 .0 ∙ at-at-loop .loop .inv .1
 
 walk-level-same-length-8 : (t : ℕ) → walk-level-lts.Need-same-length-8 (walk-level-claims t) (walk-level-at t) walk-level.Post walk-level-Inv-loop walk-level-μ-loop
 walk-level-same-length-8 t c =
     let at-after-walk-fields = c .before .before .before .before .before .before .before .before in
-    let at-at-loop = at-after-walk-fields .before .before .before .before .before .before .before .before .before .before .before .before .before in
+    let at-at-loop = at-after-walk-fields .before .before .before .before .before .before .before .before .before .before .before .before .before .before in
     at-after-walk-fields .walk-fields .kept .1 .1 .1 .1 .1 .1 .1 .1 .1 .1 .1 .1 .1 .1 .1 .1 .0 ∙ at-at-loop .loop .inv .2
 
 walk-level-same-length-9 : (t : ℕ) → walk-level-lts.Need-same-length-9 (walk-level-claims t) (walk-level-at t) walk-level.Post walk-level-Inv-loop walk-level-μ-loop
 walk-level-same-length-9 t c =
     let at-after-walk-fields = c .before .before .before .before .before .before .before .before in
-    let at-at-loop = at-after-walk-fields .before .before .before .before .before .before .before .before .before .before .before .before .before in
+    let at-at-loop = at-after-walk-fields .before .before .before .before .before .before .before .before .before .before .before .before .before .before in
     at-after-walk-fields .walk-fields .kept .1 .1 .1 .1 .1 .1 .1 .1 .1 .1 .1 .1 .1 .1 .1 .1 .1 .0 ∙ at-at-loop .loop .inv .3
 
 walk-level-returns-3 : (t : ℕ) → walk-level-lts.Need-returns-3 (walk-level-claims t) (walk-level-at t) walk-level.Post walk-level-Inv-loop walk-level-μ-loop
@@ -518,34 +530,37 @@ walk-level-returns-3 t c =
     let at-after-enter = at-after-walk-fields .before .before .before .before .before .before in
     let at-after-h = at-after-enter .before .before .before .before in
     let at-after-element-head = at-after-h .before .before in
-    let at-at-loop = at-after-element-head .before in
+    let at-at-loop = at-after-element-head .before .before in
     let at-after-o = at-at-loop .before .before in
-    let at-start = at-after-o .before .before .before .before .before .before .before .before .before .before .before in
+    let at-after-level-head = at-after-o .before .before in
+    let at-start = at-after-o .before .before .before .before .before .before .before .before .before .before .before .before in
     let entered = at-after-enter .enter .ensures in
     let loop = at-at-loop .loop in
     let fields = at-after-walk-fields .walk-fields .ensures in
-    elements-open _ _ _ (at-start .pre .1 .lies .0) _ _ _ _ _ _ (loop .inv .0) _ _ _ (sym (at-after-element-head .element-head .ensures) ∙ at-after-h .h .given .1)
-    _ _ _ _ (λ p. entered .counts p (loop .records) (loop .paths) (loop .payloads)) (entered .grew .is) _ _ fields
-    (prefix _ _ _ _ (entered .grew .more) (fields .kept) ∙ entered .grew .kept) (c .enum-told .given .1)
+    level-whole _ _ _ (at-start .pre .1 .lies .0) (sym (at-after-level-head .level-head .ensures .0) ∙ at-after-o .o .given .1) _ _
+    (at-after-level-head .level-head .ensures .1 (at-start .args .records .now) (at-start .args .paths .now) (at-start .args .payloads .now)) _ _
+    (elements-open _ _ _ (at-start .pre .1 .lies .0) _ _ _ _ _ _ _ (loop .inv .0) _ _ _ (sym (at-after-element-head .element-head .ensures .0) ∙ at-after-h .h .given .1)
+    _ _ _ _ (λ p. entered .counts p (loop .records) (loop .paths) (loop .payloads) ∙ ap (played (element p ∷ [])) (at-after-element-head .element-head .ensures .1 (loop .records) (loop .paths) (loop .payloads))) (entered .grew .is) _ _ fields
+    (prefix _ _ _ _ (entered .grew .more) (fields .kept) ∙ entered .grew .kept) (c .enum-told .given .1))
 
 walk-level-sub-left : (t : ℕ) → walk-level-lts.Need-sub-left (walk-level-claims t) (walk-level-at t) walk-level.Post walk-level-Inv-loop walk-level-μ-loop
 walk-level-sub-left t c =
     let at-after-h = c .before .before .before .before .before .before .before .before .before .before .before .before .before .before .before .before .before .before .before in
     let at-after-element-head = at-after-h .before .before in
-    let at-at-loop = at-after-element-head .before in
+    let at-at-loop = at-after-element-head .before .before in
     let at-after-o = at-at-loop .before .before in
-    let at-start = at-after-o .before .before .before .before .before .before .before .before .before .before .before in
-    let n = element-next _ _ _ _ _ (sym (at-after-element-head .element-head .ensures) ∙ at-after-h .h .given .1) in
+    let at-start = at-after-o .before .before .before .before .before .before .before .before .before .before .before .before in
+    let n = element-next _ _ _ _ _ (sym (at-after-element-head .element-head .ensures .0) ∙ at-after-h .h .given .1) in
     omega arith
 
 walk-level-loop-less : (t : ℕ) → walk-level-lts.Need-loop-less (walk-level-claims t) (walk-level-at t) walk-level.Post walk-level-Inv-loop walk-level-μ-loop
 walk-level-loop-less t c =
     let at-after-h = c .before .before .before .before .before .before .before .before .before .before .before .before .before .before .before .before .before .before .before in
     let at-after-element-head = at-after-h .before .before in
-    let at-at-loop = at-after-element-head .before in
+    let at-at-loop = at-after-element-head .before .before in
     let at-after-o = at-at-loop .before .before in
-    let at-start = at-after-o .before .before .before .before .before .before .before .before .before .before .before in
-    let n = element-next _ _ _ _ _ (sym (at-after-element-head .element-head .ensures) ∙ at-after-h .h .given .1) in
+    let at-start = at-after-o .before .before .before .before .before .before .before .before .before .before .before .before in
+    let n = element-next _ _ _ _ _ (sym (at-after-element-head .element-head .ensures .0) ∙ at-after-h .h .given .1) in
     omega arith
 
 walk-level-loop-again : (t : ℕ) → walk-level-lts.Need-loop-again (walk-level-claims t) (walk-level-at t) walk-level.Post walk-level-Inv-loop walk-level-μ-loop
@@ -555,15 +570,15 @@ walk-level-loop-again t c =
     let at-after-enter = at-after-walk-fields .before .before .before .before .before .before in
     let at-after-h = at-after-enter .before .before .before .before in
     let at-after-element-head = at-after-h .before .before in
-    let at-at-loop = at-after-element-head .before in
+    let at-at-loop = at-after-element-head .before .before in
     let at-after-o = at-at-loop .before .before in
-    let at-start = at-after-o .before .before .before .before .before .before .before .before .before .before .before in
+    let at-start = at-after-o .before .before .before .before .before .before .before .before .before .before .before .before in
     let entered = at-after-enter .enter .ensures in
     let loop = at-at-loop .loop in
     let fields = at-after-walk-fields .walk-fields .ensures in
     let kept = at-after-walk-fields .walk-fields .kept .1 .1 .1 .1 .1 .1 .1 .1 .1 .1 .1 .1 .1 .1 .1 in (
-      elements-turn _ _ _ (at-start .pre .1 .lies .0) _ _ _ _ _ _ (loop .inv .0) _ _ _ (sym (at-after-element-head .element-head .ensures) ∙ at-after-h .h .given .1)
-          _ _ _ _ (λ p. entered .counts p (loop .records) (loop .paths) (loop .payloads)) (entered .grew .is) _ _ fields
+      elements-turn _ _ _ (at-start .pre .1 .lies .0) _ _ _ _ _ _ _ (loop .inv .0) _ _ _ (sym (at-after-element-head .element-head .ensures .0) ∙ at-after-h .h .given .1)
+          _ _ _ _ (λ p. entered .counts p (loop .records) (loop .paths) (loop .payloads) ∙ ap (played (element p ∷ [])) (at-after-element-head .element-head .ensures .1 (loop .records) (loop .paths) (loop .payloads))) (entered .grew .is) _ _ fields
           (prefix _ _ _ _ (entered .grew .more) (fields .kept) ∙ entered .grew .kept) _ (at-after-w .w .given .1),
       kept .0 ∙ loop .inv .1,
       kept .1 .0 ∙ loop .inv .2,

@@ -4,7 +4,7 @@ use borrow.Author.Tests.{not-true, not-false}
 use mathlib.Core.Path.{sym, ap, _∙_}
 use Rattle.steps.specs.Tally.{played}
 use Rattle.array.specs.Passing.{too-short, has-room}
-use Rattle.array.proofs.PassLaws.{starts-fresh, needs-in, held-in, stats-in}
+use Rattle.array.proofs.PassLaws.{starts-fresh, needs-in, held-in, stats-in, pads-in}
 use Rattle.array.proofs.twice.two_passes.Statement.{statement}
 use Rattle.array.proofs.twice.two_passes.Tie as tie
 
@@ -42,6 +42,9 @@ stats-of-requires c κs = search needs
 window-verdict-requires : tie.Need-window-verdict-requires
 window-verdict-requires c κs = search needs
 
+padded-of-requires : tie.Need-padded-of-requires
+padded-of-requires c κs = search needs
+
 same-length : tie.Need-same-length
 same-length c = search needs
 
@@ -53,14 +56,15 @@ same-length-3 c = search needs
 
 returns-2 : tie.Need-returns-2
 returns-2 c =
-    let wrote = c .before .before .before .before .before .before .before .before .before in
+    let judged = c .before .before in
+    let wrote = judged .before .before .before .before .before .before .before .before .before in
     let fits = wrote .before .before .before .before .before .before .before in
     let found = fits .before .before in
     let measured = found .before .before in
     let again = wrote .pass .ensures ∙ ap (played _) (starts-fresh _ _ _) in
     has-room (needs-in _ _ _ _ _ (measured .measure .ensures) (found .extent-of .ensures))
-    (sym (fits .before .has-room .ensures) ∙ not-false _ (fits .if1 .left)) (held-in _ _ _ _ _ again) (c .before .stats-of .ensures ∙ stats-in _ _ _ _ _ again)
-    (c .window-verdict .ensures _ _)
+    (sym (fits .before .has-room .ensures) ∙ not-false _ (fits .if1 .left)) (held-in _ _ _ _ _ again) (judged .before .stats-of .ensures ∙ stats-in _ _ _ _ _ again)
+    (judged .window-verdict .ensures _ _) (c .padded-of .ensures ∙ pads-in _ _ _ _ _ again)
 
 pub two-passes-spec : {M : Type 1} → statement M
 two-passes-spec =
@@ -74,6 +78,7 @@ two-passes-spec =
     pass-requires
     stats-of-requires
     window-verdict-requires
+    padded-of-requires
     same-length
     same-length-2
     same-length-3

@@ -3,13 +3,15 @@
 use borrow.Author.Needs.{needs}
 use mathlib.Core.Path.{_≡_, refl, sym, ap, ap₂, _∙_, subst}
 use Prim.Native.Nat.{ℕ, _+_, _-_, _*_, _/_, _%_, _^_, _≤_, _<_}
-use native.Mathlib.Nat.{mul-le-mul-right, lt-of-lt-of-le}
+use native.Mathlib.Nat.{one-mul, mul-le-mul-right, lt-of-lt-of-le}
 use native.Mathlib.Omega.{arith}
 use lib.Pow.{shl-exact, pow-mono, pow-add}
 use Rattle.bits.specs.Bits.{num, field}
 use Rattle.bits.specs.Packed.{after, packedFrom}
 use Rattle.bits.proofs.FieldLaws.{bound}
 use Rattle.bits.proofs.PackedLaws.{byte-cut, byte-ends, byte-follows}
+use Rattle.bits.proofs.PaddedLaws.{found-more}
+use Rattle.bits.specs.Padded.{found}
 use Rattle.bits.proofs.number.packed_more.Statement.{statement}
 use Rattle.bits.proofs.number.packed_more.Tie as tie
 
@@ -39,23 +41,24 @@ sub-if1 : tie.Need-sub-if1 Inv-loop μ-loop
 sub-if1 c = omega arith
 
 returns : tie.Need-returns Inv-loop μ-loop
+unfolding found
 returns c =
     let v = c .before .before .loop .inv in
-    sym (byte-cut _ _ _ _ _ _ (omega arith)) ∙ v .same
+    ap found (sym (byte-cut _ _ _ _ _ _ (omega arith)) ∙ v .same)
 
 byte-at-requires : tie.Need-byte-at-requires Inv-loop μ-loop
 byte-at-requires c κs = omega arith
 
-mul-value : tie.Need-mul-value Inv-loop μ-loop
-mul-value c = omega arith
+mul-weight : tie.Need-mul-weight Inv-loop μ-loop
+mul-weight c = omega arith
 
-shl-value : tie.Need-shl-value Inv-loop μ-loop
-shl-value c = omega arith
+shl-weight : tie.Need-shl-weight Inv-loop μ-loop
+shl-weight c = omega arith
 
--- a group is not shifted out, and the value with it is below the next group's weight
+-- a group's weight is not shifted out, and the value with the group is below the next one's
 module _ (b taken value : ℕ) (hb : b < 2 ^ 8) (ht : taken < 4) (hv : value < 2 ^ (7 * taken)) where
-  exact : value + (b / 2 * 2 ^ (7 * taken)) % 2 ^ 64 ≡ value + b / 2 * 2 ^ (7 * taken)
-  exact = ap (λ (g : ℕ). value + g) (shl-exact 7 (7 * taken) 64 (omega arith) (omega arith))
+  exact : (1 * 2 ^ (7 * taken)) % 2 ^ 64 ≡ 2 ^ (7 * taken)
+  exact = shl-exact 1 (7 * taken) 64 (omega arith) (omega arith) ∙ one-mul (2 ^ (7 * taken))
 
   grown : value + b / 2 * 2 ^ (7 * taken) < 2 ^ (7 * (taken + 1))
   grown =
@@ -71,7 +74,7 @@ module _ (b taken value : ℕ) (hb : b < 2 ^ 8) (ht : taken < 4) (hv : value < 2
 of-byte : (c : tie.After-byte-at Inv-loop μ-loop) →
     let l = c .before .before .before .loop in
     let b = c .byte-at .result in
-    (l .value + (b / 2 * 2 ^ (7 * l .taken)) % 2 ^ 64 ≡ l .value + b / 2 * 2 ^ (7 * l .taken))
+    ((1 * 2 ^ (7 * l .taken)) % 2 ^ 64 ≡ 2 ^ (7 * l .taken))
     × (l .value + b / 2 * 2 ^ (7 * l .taken) < 2 ^ (7 * (l .taken + 1)))
     × (l .value + b / 2 * 2 ^ (7 * l .taken) < 2 ^ 28)
 of-byte c =
@@ -81,20 +84,25 @@ of-byte c =
     let t = c .before .before .loop-test .taken in
     (exact b (l .taken) (l .value) h t (l .inv .small), grown b (l .taken) (l .value) h t (l .inv .small), bounded b (l .taken) (l .value) h t (l .inv .small))
 
+mul-value : tie.Need-mul-value Inv-loop μ-loop
+mul-value c = rw (of-byte c .0) (omega (arith, of-byte c .2))
+
 add-value : tie.Need-add-value Inv-loop μ-loop
-add-value c = omega (arith, of-byte c)
+add-value c = rw (of-byte c .0) (omega (arith, of-byte c .2))
 
 add-taken : tie.Need-add-taken Inv-loop μ-loop
 add-taken c = omega arith
 
 cast-whole : tie.Need-cast-whole Inv-loop μ-loop
-cast-whole c = omega (arith, of-byte (c .before))
+cast-whole c = rw (of-byte (c .before) .0) (omega (arith, of-byte (c .before) .2))
 
 returns-2 : tie.Need-returns-2 Inv-loop μ-loop
+unfolding found
 returns-2 c =
     let v = c .before .before .before .before .loop .inv in
     rw (of-byte (c .before) .0)
-    (sym (byte-ends _ _ _ _ _ _ (omega arith) (c .before .byte-at .ensures) _ (omega arith) (c .if2 .taken)) ∙ v .same)
+    (found-more _ _ (v .some)
+    ∙ ap found (sym (byte-ends _ _ _ _ _ _ (omega arith) (c .before .byte-at .ensures) _ (omega arith) (c .if2 .taken)) ∙ v .same))
 
 -- one more byte, after which another follows
 next : (N at end value taken b : ℕ) → taken < 4 → at + 8 * taken + 8 ≤ end → b ≡ field N (at + 8 * taken) 8 → (b % 2 ≡ 0 → ⊥)
@@ -135,7 +143,7 @@ returns-3 : tie.Need-returns-3 Inv-loop μ-loop
 returns-3 c =
     let l = c .before .before .loop in
     let e : l .taken ≡ 4 = omega arith in
-    c .packed-fifth .ensures ∙ (rw e at (l .inv .same))
+    c .packed-fifth .ensures ∙ ap found (rw e at (l .inv .same))
 
 pub packed-more-spec : {M : Type 1} → statement M
 packed-more-spec =
@@ -149,8 +157,9 @@ packed-more-spec =
     sub-if1
     returns
     byte-at-requires
+    mul-weight
+    shl-weight
     mul-value
-    shl-value
     add-value
     add-taken
     cast-whole

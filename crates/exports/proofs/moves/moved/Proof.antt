@@ -49,6 +49,7 @@ returns c =
       frame = f i;
       handle = h i;
       position = used;
+      padded = m .padded;
     }
 
 pub moved-spec : {M : Type 1} → statement M

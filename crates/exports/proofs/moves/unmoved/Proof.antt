@@ -46,6 +46,7 @@ returns c =
       frame = f i;
       handle = h i;
       position = unread .position;
+      padded = 0;
     }
 
 pub unmoved-spec : {M : Type 1} → statement M

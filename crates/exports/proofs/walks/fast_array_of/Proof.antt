@@ -34,7 +34,7 @@ returns c =
     let k = toZ-ofZ {w = w32} {z = d .key} (record { sfits = c .struct-told .given .0 .1 }) in
     let b = toZ-ofZ {w = w32} {z = d .base} (record { sfits = c .struct-told .given .1 .0 .1 }) in
     by-form bodyResult (c .before .before .a .given .1)
-    (λ i. record { refusal = 0; deletes = d .deletes; items = d .changes; fields = d .fields; key = k i; base = b i; used = d .used })
+    (λ i. record { refusal = 0; deletes = d .deletes; items = d .changes; fields = d .fields; key = k i; base = b i; used = d .used; padded = d .padded })
 
 returns-2 : tie.Need-returns-2
 returns-2 c = search needs

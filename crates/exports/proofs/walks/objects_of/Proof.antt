@@ -30,8 +30,8 @@ returns : tie.Need-returns
 returns c =
     let k = c .before .counters-of .ensures in
     let n = c .verdict-number .ensures in
-    let p = c .before .before .before .a .given .0 .1 .1 .0 in
-    by-form objectsOf (c .before .before .before .a .given .1) (λ i. record { refusal = 0; pairs = p; counters = k i; verdict = n i })
+    let told = c .before .before .before .a .given .0 .1 .1 in
+    by-form objectsOf (c .before .before .before .a .given .1) (λ i. record { refusal = 0; pairs = told .0; counters = k i; verdict = n i; padded = told .1 .0 })
 
 returns-2 : tie.Need-returns-2
 returns-2 c = search needs

@@ -69,11 +69,11 @@ tested c = c .before .before .before .before .before .before .before
 said : (c : tie.After-read-items) (r : ItemsRead) → c .read-items .result ≡ r →
     let a = tested c .before .before .before .args in
     let W = window (a .s .now) (a .end) in
-    itemsReadOf 0 (itemsFrom (changes W) (a .flag) W (a .end) (headerBits + 32 * deletes W)) ≡ r
+    itemsReadOf 0 0 (itemsFrom (changes W) (a .flag) W (a .end) (headerBits + 32 * deletes W)) ≡ r
 said c r e =
     let a = tested c .before .before .before .args in
     sym
-    (ap₂ (λ (n d : ℕ). itemsReadOf 0 (itemsFrom n (a .flag) (window (a .s .now) (a .end)) (a .end) (headerBits + 32 * d)))
+    (ap₂ (λ (n d : ℕ). itemsReadOf 0 0 (itemsFrom n (a .flag) (window (a .s .now) (a .end)) (a .end) (headerBits + 32 * d)))
     (c .before .before .before .word-of2 .ensures) (c .before .before .before .before .word-of .ensures))
     ∙ sym (c .read-items .ensures .0)
     ∙ e
@@ -88,20 +88,27 @@ returns-2 : tie.Need-returns-2
 returns-2 c =
     let at-if2 = c .before in
     let at-read-items = at-if2 .before .before .before .before .before in
-    not-ended _ _ _ (fine (tested at-read-items)) _ _ (said at-read-items _ (c .before .before .read .given .1)) (c .if2 .taken)
+    not-ended _ _ _ (fine (tested at-read-items)) _ _ _ (said at-read-items _ (c .before .before .read .given .1)) (c .if2 .taken)
 
 cast-fields : tie.Need-cast-fields
 cast-fields c =
     let at-if2 = c .before in
     let at-read-items = at-if2 .before .before .before .before .before in
-    let k = counted-within _ _ _ (fine (tested at-read-items)) _ _ (said at-read-items _ (c .before .before .read .given .1)) in
+    let k = counted-within _ _ _ (fine (tested at-read-items)) _ _ _ (said at-read-items _ (c .before .before .read .given .1)) in
     omega (arith, k, tested at-read-items .before .before .before .pre .1)
 
 cast-used : tie.Need-cast-used
 cast-used c =
     let at-if2 = c .before in
     let at-read-items = at-if2 .before .before .before .before .before in
-    let k = counted-within _ _ _ (fine (tested at-read-items)) _ _ (said at-read-items _ (c .before .before .read .given .1)) in
+    let k = counted-within _ _ _ (fine (tested at-read-items)) _ _ _ (said at-read-items _ (c .before .before .read .given .1)) in
+    omega (arith, k, tested at-read-items .before .before .before .pre .1)
+
+cast-padded : tie.Need-cast-padded
+cast-padded c =
+    let at-if2 = c .before in
+    let at-read-items = at-if2 .before .before .before .before .before in
+    let k = counted-within _ _ _ (fine (tested at-read-items)) _ _ _ (said at-read-items _ (c .before .before .read .given .1)) in
     omega (arith, k, tested at-read-items .before .before .before .pre .1)
 
 returns-3 : tie.Need-returns-3
@@ -117,7 +124,7 @@ returns-4 c =
     let at-word-of = at-word-of2 .before in
     let at-signed-of2 = at-word-of .before in
     let at-signed-of = at-signed-of2 .before in
-    body-measured _ _ _ (fine (tested at-read-items)) _ _ (said at-read-items _ (c .before .before .read .given .1)) (c .if2 .left) _ _ _ _
+    body-measured _ _ _ (fine (tested at-read-items)) _ _ _ (said at-read-items _ (c .before .before .read .given .1)) (c .if2 .left) _ _ _ _
     (read-back _ _ _ (at-signed-of .signed-of .ensures)) (read-back _ _ _ (at-signed-of2 .signed-of2 .ensures))
     (at-word-of .word-of .ensures) (at-word-of2 .word-of2 .ensures)
 
@@ -143,5 +150,6 @@ measure-spec =
     returns-2
     cast-fields
     cast-used
+    cast-padded
     returns-3
     returns-4)

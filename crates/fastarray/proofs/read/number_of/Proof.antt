@@ -1,11 +1,9 @@
 -- `fastarray::number_of` meets its contract: the window's number is one of the bytes, and each of its cases has its answer.
 use borrow.Author.Needs.{needs}
 use mathlib.Core.Path.{_≡_, sym, ap, _∙_}
-use Prim.Native.Nat.{ℕ, _+_, _*_, _≤_}
-use native.Mathlib.Omega.{arith}
-use Rattle.bits.proofs.PackedLaws.{whole-within}
 use Rattle.bits.specs.declared.Packed.{Packed}
-use Rattle.bits.specs.declared.Packed.the-variants.{Whole}
+use Rattle.bits.specs.declared.Found.{Found}
+use Rattle.bits.proofs.PaddedLaws.{plain, plain-found}
 use Rattle.fastarray.specs.Body.{window, asNumber, packedAt}
 use Rattle.fastarray.specs.Parts.{takenOf}
 use Rattle.fastarray.proofs.ReadLaws.{window-packed}
@@ -18,18 +16,9 @@ packed-at-requires c κs = search needs
 enum-known-number : tie.Need-enum-known-number
 enum-known-number c = search needs
 
-ends : (c : tie.After-packed-at) (v n : ℕ) → c .packed-at .result ≡ Whole v n → c .before .before .args .at + 8 * n ≤ c .before .before .args .end
-ends c v n e = whole-within _ _ _ (omega arith) v n (sym (c .packed-at .ensures) ∙ e)
-
-found-is : (c : tie.After-packed-at) (r : Packed) → c .packed-at .result ≡ r
-    → takenOf (asNumber (c .before .before .args .at) r) ≡ takenOf (packedAt (window (c .before .before .args .s .now) (c .before .before .args .end)) (c .before .before .args .end) (c .before .before .args .at))
-found-is c r e = sym (ap (λ (x : Packed). takenOf (asNumber (c .before .before .args .at) x)) (window-packed _ _ _ ∙ sym (c .packed-at .ensures) ∙ e))
-
-mul-next : tie.Need-mul-next
-mul-next c = omega (arith, ends (c .before .before .before) _ _ (c .before .number .given .1))
-
-add-next : tie.Need-add-next
-add-next c = omega (arith, ends (c .before .before .before) _ _ (c .before .number .given .1))
+found-is : (c : tie.After-packed-at) (r : Found) → c .packed-at .result ≡ r
+    → takenOf (asNumber (c .before .before .args .at) (plain r)) ≡ takenOf (packedAt (window (c .before .before .args .s .now) (c .before .before .args .end)) (c .before .before .args .end) (c .before .before .args .at))
+found-is c r e = sym (ap (λ (x : Packed). takenOf (asNumber (c .before .before .args .at) x)) (window-packed _ _ _ ∙ plain-found _ (sym e ∙ c .packed-at .ensures)))
 
 enum-told : tie.Need-enum-told
 enum-told c = search needs
@@ -62,8 +51,6 @@ number-of-spec =
     (tie.spec
     packed-at-requires
     enum-known-number
-    mul-next
-    add-next
     enum-told
     enum-told-2
     enum-told-3

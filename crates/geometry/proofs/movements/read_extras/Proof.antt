@@ -28,6 +28,9 @@ read-number-requires-2 c κs = search needs
 enum-known-third : tie.Need-enum-known-third
 enum-known-third c = search needs
 
+how-many-requires : tie.Need-how-many-requires
+how-many-requires c κs = search needs
+
 enum-known-third-2 : tie.Need-enum-known-third-2
 enum-known-third-2 c = search needs
 
@@ -39,12 +42,12 @@ enum-known-first-2 c = search needs
 
 returns : tie.Need-returns
 returns c =
-    let k₃ = c .before in
+    let k₃ = c .before .before in
     let k₂ = k₃ .before .before .before .before .before in
     let k₁ = k₂ .before .before .before .before .before in
     extras-read _ _ _ _ _ (k₁ .before .before .read-spin .ensures) (k₁ .first .given .1) (k₂ .before .before .before .moved .ensures)
     (k₂ .before .before .read-number .ensures) (k₂ .second .given .1) (k₃ .before .before .before .moved2 .ensures)
-    (k₃ .before .before .read-number2 .ensures) (k₃ .third .given .1)
+    (k₃ .before .before .read-number2 .ensures) (k₃ .third .given .1) (c .how-many .ensures)
 
 returns-2 : tie.Need-returns-2
 returns-2 c =
@@ -78,6 +81,7 @@ read-extras-spec =
     moved-requires-2
     read-number-requires-2
     enum-known-third
+    how-many-requires
     enum-known-third-2
     enum-known-second-2
     enum-known-first-2

@@ -1,4 +1,4 @@
--- `replay::movement::recorded` is safe and ends: a record has 19 numbers, and i rises to that.
+-- `replay::movement::recorded` is safe and ends: a record has 20 numbers, and i rises to that.
 use mathlib.Core.Path.{_≡_}
 use Prim.Native.Nat.{_≤_, _-_}
 use lib.ListN.{length}
@@ -7,10 +7,10 @@ use Rattle.replay.proofs.movement.recorded.Statement.{statement}
 use Rattle.replay.proofs.movement.recorded.Tie as tie
 
 abbrev Inv-loop : tie.InvT-loop
-Inv-loop s at record₀ here₀ i₀ «record» here i = (i ≤ 19) × (length «record» ≡ 19)
+Inv-loop s at record₀ here₀ i₀ «record» here i = (i ≤ 20) × (length «record» ≡ 20)
 
 abbrev μ-loop : tie.MeasureT-loop
-μ-loop s at record₀ here₀ i₀ «record» here i = 19 - i
+μ-loop s at record₀ here₀ i₀ «record» here i = 20 - i
 
 loop-holds : tie.Need-loop-holds Inv-loop μ-loop
 loop-holds c = search needs

@@ -1,14 +1,14 @@
--- `replay::movement::same_record` is safe and ends: both records have 19 numbers, and i rises to that.
+-- `replay::movement::same_record` is safe and ends: both records have 20 numbers, and i rises to that.
 use Prim.Native.Nat.{_≤_, _-_}
 use borrow.Author.Needs.{needs}
 use Rattle.replay.proofs.movement.same_record.Statement.{statement}
 use Rattle.replay.proofs.movement.same_record.Tie as tie
 
 abbrev Inv-loop : tie.InvT-loop
-Inv-loop a b i₀ i = i ≤ 19
+Inv-loop a b i₀ i = i ≤ 20
 
 abbrev μ-loop : tie.MeasureT-loop
-μ-loop a b i₀ i = 19 - i
+μ-loop a b i₀ i = 20 - i
 
 loop-holds : tie.Need-loop-holds Inv-loop μ-loop
 loop-holds c = search needs

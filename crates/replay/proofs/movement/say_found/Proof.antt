@@ -1,14 +1,14 @@
--- `replay::movement::say_found` is safe and ends: a record has 19 numbers, and i rises to that.
+-- `replay::movement::say_found` is safe and ends: a record has 20 numbers, and i rises to that.
 use Prim.Native.Nat.{_≤_, _-_}
 use borrow.Author.Needs.{needs}
 use Rattle.replay.proofs.movement.say_found.Statement.{statement}
 use Rattle.replay.proofs.movement.say_found.Tie as tie
 
 abbrev Inv-loop : tie.InvT-loop
-Inv-loop «record» i₀ t5 i = i ≤ 19
+Inv-loop «record» i₀ t5 i = i ≤ 20
 
 abbrev μ-loop : tie.MeasureT-loop
-μ-loop «record» i₀ t5 i = 19 - i
+μ-loop «record» i₀ t5 i = 20 - i
 
 answer-requires : tie.Need-answer-requires Inv-loop μ-loop
 answer-requires c κs = search needs

@@ -1,4 +1,4 @@
--- `steps::object_field` meets its contract: each case of the field has its event.
+-- `steps::object_field` meets its contract: each case of the field has its event, and a number that was read was taken before.
 use borrow.Author.Needs.{needs}
 use borrow.Author.Tests.{not-true, not-false}
 use mathlib.Core.Path.{refl, sym, _∙_}
@@ -22,8 +22,10 @@ count-requires c κs = search needs
 
 returns-2 : tie.Need-returns-2
 returns-2 c o paths payloads =
-    let at-start = c .before .before .before .before .before .before in
-    object-later _ _ _ o (at-start .args .index) _ _ (omega arith) (c .before .before .before .if1 .left) (at-start .args .first) (not-true _ (c .before .before .if2 .taken))
+    let then-2 = c .before .before in
+    let else-1 = then-2 .before in
+    let at-start = else-1 .before .before .before in
+    object-later _ _ _ o (at-start .args .index) _ _ (omega arith) (else-1 .if1 .left) (at-start .args .first) (not-true _ (then-2 .if2 .taken))
     (by-count _ _ _ _ _ _ _ _ (c .count .ensures) (count-nested _ _ _ _ _))
 
 number-at-requires : tie.Need-number-at-requires
@@ -31,6 +33,9 @@ number-at-requires c κs = search needs
 
 enum-known-number : tie.Need-enum-known-number
 enum-known-number c = search needs
+
+take-number-requires : tie.Need-take-number-requires
+take-number-requires c κs = search needs
 
 put-pair-requires : tie.Need-put-pair-requires
 put-pair-requires c κs = search needs
@@ -40,17 +45,17 @@ same-length c = search needs
 
 returns-3 : tie.Need-returns-3
 returns-3 c o paths payloads =
-    let then-3 = c .before .before .before .before .before in
-    let after-number = then-3 .before .before in
+    let after-put-pair = c .before .before in
+    let then-3 = after-put-pair .before .before .before in
+    let after-take-number = then-3 .before in
+    let after-number = after-take-number .before .before .before in
     let after-number-at = after-number .before .before in
     let else-2 = after-number-at .before in
     let else-1 = else-2 .before in
     let at-start = else-1 .before .before .before in
-    object-pair _ _ _ o (at-start .args .index) _ _ (omega arith) (else-1 .if1 .left) (at-start .args .first)
-    (not-false _ (else-2 .if2 .left)) _ _
-    (sym (after-number-at .number-at .ensures)
-    ∙ after-number .number .given .1)
-    (then-3 .if3 .taken) (c .before .before .put-pair .ensures paths payloads)
+    let e = sym (after-number-at .number-at .ensures) ∙ after-number .number .given .1 in
+    object-pair _ _ _ o (at-start .args .index) _ _ (omega arith) (else-1 .if1 .left) (at-start .args .first) (not-false _ (else-2 .if2 .left)) _ _ e _
+    (then-3 .if3 .taken) (after-take-number .take-number .ensures (at-start .args .records .now) paths payloads) (after-put-pair .put-pair .ensures paths payloads)
 
 count-requires-2 : tie.Need-count-requires-2
 count-requires-2 c κs = search needs
@@ -63,26 +68,27 @@ count-requires-3 c κs = search needs
 
 returns-4 : tie.Need-returns-4
 returns-4 c o paths payloads =
-    let after-number = c .before .before .before .before in
+    let else-3 = c .before .before in
+    let after-take-number = else-3 .before in
+    let after-number = after-take-number .before .before .before in
     let after-number-at = after-number .before .before in
     let else-2 = after-number-at .before in
     let else-1 = else-2 .before in
     let at-start = else-1 .before .before .before in
-    object-longer _ _ _ o (at-start .args .index) _ _ (omega arith) (else-1 .if1 .left) (at-start .args .first)
-    (not-false _ (else-2 .if2 .left)) _ _
-    (sym (after-number-at .number-at .ensures) ∙ after-number .number .given .1)
-    (c .before .before .if3 .left)
+    let e = sym (after-number-at .number-at .ensures) ∙ after-number .number .given .1 in
+    object-longer _ _ _ o (at-start .args .index) _ _ (omega arith) (else-1 .if1 .left) (at-start .args .first) (not-false _ (else-2 .if2 .left)) _ _ e _
+    (else-3 .if3 .left) (after-take-number .take-number .ensures (at-start .args .records .now) paths payloads)
     (by-count _ _ _ _ _ _ _ _ (c .count2 .ensures) (count-error _ _ _ _))
 
 returns-5 : tie.Need-returns-5
 returns-5 c o paths payloads =
-    let after-number-at = c .before .before .before .before in
+    let after-enum-told = c .before .before in
+    let after-number-at = after-enum-told .before .before in
     let else-2 = after-number-at .before in
     let else-1 = else-2 .before in
     let at-start = else-1 .before .before .before in
-    object-failed _ _ _ o (at-start .args .index) _ _ (omega arith) (else-1 .if1 .left) (at-start .args .first)
-    (not-false _ (else-2 .if2 .left))
-    (sym (after-number-at .number-at .ensures) ∙ c .before .before .enum-told .given .1)
+    object-failed _ _ _ o (at-start .args .index) _ _ (omega arith) (else-1 .if1 .left) (at-start .args .first) (not-false _ (else-2 .if2 .left))
+    (sym (after-number-at .number-at .ensures) ∙ after-enum-told .enum-told .given .1)
     (by-count _ _ _ _ _ _ _ _ (c .count3 .ensures) (count-error _ _ _ _))
 
 pub object-field-spec : {M : Type 1} → statement M
@@ -96,6 +102,7 @@ object-field-spec =
     returns-2
     number-at-requires
     enum-known-number
+    take-number-requires
     put-pair-requires
     same-length
     returns-3

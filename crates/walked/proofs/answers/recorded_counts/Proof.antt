@@ -7,10 +7,10 @@ use Rattle.walked.proofs.answers.recorded_counts.Statement.{statement}
 use Rattle.walked.proofs.answers.recorded_counts.Tie as tie
 
 abbrev Inv-loop : tie.InvT-loop
-Inv-loop s at counts₀ next₀ i₀ counts next i = (i ≤ 8) × (length counts ≡ 8)
+Inv-loop s at counts₀ next₀ i₀ counts next i = (i ≤ 9) × (length counts ≡ 9)
 
 abbrev μ-loop : tie.MeasureT-loop
-μ-loop s at counts₀ next₀ i₀ counts next i = 8 - i
+μ-loop s at counts₀ next₀ i₀ counts next i = 9 - i
 
 loop-holds : tie.Need-loop-holds Inv-loop μ-loop
 loop-holds c = search needs

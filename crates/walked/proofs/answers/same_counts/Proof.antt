@@ -5,10 +5,10 @@ use Rattle.walked.proofs.answers.same_counts.Statement.{statement}
 use Rattle.walked.proofs.answers.same_counts.Tie as tie
 
 abbrev Inv-loop : tie.InvT-loop
-Inv-loop a b i₀ i = i ≤ 8
+Inv-loop a b i₀ i = i ≤ 9
 
 abbrev μ-loop : tie.MeasureT-loop
-μ-loop a b i₀ i = 8 - i
+μ-loop a b i₀ i = 9 - i
 
 loop-holds : tie.Need-loop-holds Inv-loop μ-loop
 loop-holds c = search needs

@@ -5,10 +5,10 @@ use Rattle.walked.proofs.answers.say_counts.Statement.{statement}
 use Rattle.walked.proofs.answers.say_counts.Tie as tie
 
 abbrev Inv-loop : tie.InvT-loop
-Inv-loop counts i₀ t4 i = i ≤ 8
+Inv-loop counts i₀ t4 i = i ≤ 9
 
 abbrev μ-loop : tie.MeasureT-loop
-μ-loop counts i₀ t4 i = 8 - i
+μ-loop counts i₀ t4 i = 9 - i
 
 loop-holds : tie.Need-loop-holds Inv-loop μ-loop
 loop-holds c = search needs
