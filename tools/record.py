@@ -3,18 +3,29 @@
 
     record.py CASES ANSWERS OUT
 
-CASES and ANSWERS are text, one line a case, matched by the id that starts each line. A case that the Rust can't answer
-has its expected answer in its own line, behind a `=`. A `#` between blanks, or at a line's start, begins a comment. A struct
-or exact walk of no bits, which the Rust calls clean, is recorded as empty. OUT is eight bytes of magic, then for each case its
-size, its kind's letter, its id, its fields and the answer, all numbers with the low byte first; the comment at the top of
-crates/replay/src/main.rt states the format. Cases of other kinds are left out and counted on standard error.
+CASES and ANSWERS are text, one line a case, matched by the id that starts each line. ANSWERS come from `oracle answer CASES
+--trace`. A case that the Rust can't answer has its expected answer in its own line, behind a `=`. A `#` between blanks, or at a
+line's start, begins a comment. A struct or exact walk of no bits, which the Rust calls clean, is recorded as empty. OUT is eight
+bytes of magic, then for each case its size, its kind's letter, its id, its fields and the answer, all numbers with the low byte
+first; the comment at the top of crates/replay/src/main.rt states the format. Cases of other kinds are left out and counted on
+standard error.
+
+How many padded numbers were read is recorded, as a number of 64 bits, of these kinds:
+
+    S X O   behind the verdict: the first number of the trace; a window that has no place for a padded number wants no trace
+    F       behind the bits used, before the keys: the first number of the trace
+    P       the answer's second and third value: the number's bytes, and 1 if it is padded, else 0
+    M       behind the record: how many of frame and handle are padded
+
+The Rust doesn't say it of P and M, so there it is read off the window; the answer's values and cursor have to be those found
+there. In a refused answer of the other kinds the number stands too, and is 0.
 
 In the lists and pools of a case of kind L parts may be joined by `+` and repeated by `count*`: `2*0,1+5` is `0,1,0,1,5`.
 """
 import struct
 import sys
 
-MAGIC = b"VRFCASE2"
+MAGIC = b"VRFCASE3"
 # The most bytes of a case that the replay takes.
 LARGEST = 1310720
 # The numbers that it takes of a case of kind L: of rows, of declared names.
@@ -55,6 +66,38 @@ def hexed(word):
 
 def run(data):
     return u64(len(data)) + data
+
+
+class Bits:
+    """The bits of a window from a place on, taken one part behind the other."""
+
+    def __init__(self, data, at=0):
+        self.whole, self.end, self.at = int.from_bytes(data, "little"), 8 * len(data), at
+
+    def take(self, count):
+        if self.end - self.at < count:
+            raise Broken("the answer says more bits than the window has")
+        value = self.whole >> self.at & (1 << count) - 1
+        self.at += count
+        return value
+
+    def packed(self):
+        """A packed number: its value, its bytes, and whether it is padded: several bytes, the last of which adds nothing."""
+        value = size = 0
+        more = 1
+        while more:
+            more, group = self.take(1), self.take(7)
+            value |= group << 7 * size
+            size += 1
+        return value, size, int(size > 1 and group == 0)
+
+
+def traced(answer):
+    """The words of an answer, and the first number of its trace: how many padded numbers were read."""
+    words, trace = before(answer, "trace")
+    if not trace:
+        raise Broken("no trace behind the answer: `oracle answer CASES --trace` gives it")
+    return words, number(trace[0], 32)
 
 
 def cursor(words):
@@ -164,6 +207,18 @@ def plain(count):
     return record
 
 
+def packed(words, answer):
+    if len(words) != 3:
+        raise Broken("3 fields were expected")
+    if answer[:1] != ["ok"]:
+        return window(words) + read(answer)
+    r = Bits(hexed(words[2]), number(words[0]))
+    value, size, padded = r.packed()
+    if answer[1:] != [str(value), "@%d" % r.at]:
+        raise Broken("the window holds the packed number %d up to bit %d" % (value, r.at))
+    return window(words) + u64(0, value, size, padded, r.at)
+
+
 def copied(words, answer):
     if len(words) != 5:
         raise Broken("5 fields were expected")
@@ -218,6 +273,39 @@ def floats(count, digits):
     return record
 
 
+def pass_vector(r):
+    """A quantized vector: three components of its width or, where that is 0, three floats."""
+    info = r.take(7)
+    r.take(3 * (info & 63) or 96 << (info >> 6))
+
+
+def pass_rotation(r, width):
+    for _ in range(3):
+        if r.take(1):
+            r.take(width)
+
+
+def frame_and_handle(width, data):
+    """The packed numbers at the end of a movement, `None` for one that is absent, and the bits up to there."""
+    r = Bits(data)
+    _, physics, frame, handle = (r.take(1) for _ in range(4))
+    pass_vector(r)
+    pass_rotation(r, width)
+    pass_vector(r)
+    if physics:
+        pass_vector(r)
+    return [r.packed() if there else None for there in (frame, handle)], r.at
+
+
+def padded_of(width, data, words, after):
+    """How many of a movement's frame and handle are padded; its answer has to end in these two, at the same bit."""
+    found, end = frame_and_handle(width, data)
+    frame, handle = ("-" if n is None else str(n[0]) for n in found)
+    if words[-4:] != ["frame", frame, "handle", handle] or end != after:
+        raise Broken("the window holds the frame %s and the handle %s up to bit %d" % (frame, handle, end))
+    return sum(n[2] for n in found if n is not None)
+
+
 def moved(words, answer):
     if len(words) != 4:
         raise Broken("4 fields were expected")
@@ -225,22 +313,23 @@ def moved(words, answer):
     case = u64(number(scale), number(width), number(bits)) + run(hexed(data))
     answer, after = cursor(answer)
     if answer[:1] == ["ok"]:
-        return case + u64(0, 0, 0, 0, after, *record_of(answer[1:]))
+        padded = padded_of(number(width), hexed(data), answer, after)
+        return case + u64(0, 0, 0, 0, after, *record_of(answer[1:]), padded)
     if answer[:1] != ["ERR"]:
         raise Broken("no answer of a movement")
     refused, rest = refusal(answer[1:], after)
     if rest:
         raise Broken("words after the answer")
-    return case + refused + u64(*[0] * RECORD)
+    return case + refused + u64(*[0] * RECORD, 0)
 
 
 def u32(*values):
     return struct.pack("<%dI" % len(values), *(v & 0xFFFFFFFF for v in values))
 
 
-def body(words):
+def body(words, padded):
     """`<keys> <deletes> <changes> used <bits> need <deletes> <items> <fields> D <id>.. I <id>:<fields> <field>..`: the counts and the
-    bits used as an answer, then the keys, the ids, the items and the fields, each number as 32 bits."""
+    bits used as an answer, the padded numbers, then the keys, the ids, the items and the fields, each number as 32 bits."""
     if len(words) < 11 or words[4] != "used" or words[6] != "need" or words[10] != "D":
         raise Broken("no fast-array body")
     key, base, deletes, changes, used, items, fields = (int(words[i]) for i in (0, 1, 2, 3, 5, 8, 9))
@@ -255,7 +344,7 @@ def body(words):
         (item_words if rest[at - 1] == "I" else field_words).extend(parts)
     if len(ids) != deletes or len(item_words) != 2 * changes or items != changes or len(field_words) != 3 * fields:
         raise Broken("the lists don't have as many entries as the counts say")
-    return u64(0, deletes, changes, fields, used) + u32(key, base, *ids, *item_words, *field_words)
+    return u64(0, deletes, changes, fields, used, padded) + u32(key, base, *ids, *item_words, *field_words)
 
 
 def fast(words, answer):
@@ -263,13 +352,14 @@ def fast(words, answer):
         raise Broken("3 fields were expected")
     front = u64(number(words[0]), number(words[1])) + run(hexed(words[2]))
     if answer[:1] == ["ok"]:
-        return front + body(answer[1:])
+        words, padded = traced(answer)
+        return front + body(words[1:], padded)
     if answer[:1] != ["ERR"]:
         raise Broken("no answer of a fast array")
     refused, rest = refusal(answer[1:], 0)
     if rest:
         raise Broken("words after the answer")
-    return front + refused
+    return front + refused + u64(0)
 
 
 # ---- walks
@@ -319,17 +409,27 @@ VERDICTS = {"clean": 0, "partial": 1, "empty": 2}
 REFUSED_WALKS = {"refused 1": 1, "refused 2": 2}
 
 
-def counted(words):
-    """No refusal, seven counters and the verdict, and the words behind `need`."""
+def counted(words, padded):
+    """No refusal, seven counters, the verdict and the padded numbers, and the words behind `need`."""
     if len(words) < 9 or words[7] not in VERDICTS or words[8] != "need":
         raise Broken("no answer of a walk")
-    return u64(0, *map(number, words[:7]), VERDICTS[words[7]]), words[9:]
+    return u64(0, *map(number, words[:7]), VERDICTS[words[7]], padded), words[9:]
 
 
-def refused_walk(words):
-    """The refusal of a walk, with no counters and no verdict; `None` for any other answer."""
-    refusal = REFUSED_WALKS.get(" ".join(words))
-    return None if refusal is None else u64(refusal, *[0] * 8)
+def may_pad(bits, data):
+    """Whether a padded number could stand anywhere in the window: eight bits that say that more follow, and then eight zeros."""
+    places = range(min(bits, 8 * len(data)) - 15)
+    return any(int.from_bytes(data[at // 8 : at // 8 + 3], "little") >> at % 8 & 0xFF01 == 1 for at in places)
+
+
+def walked(bits, data, answer):
+    """The same of a walk of this window; of a refusal, with no counters and no verdict, no words stand behind it."""
+    refusal = REFUSED_WALKS.get(" ".join(answer))
+    if refusal is not None:
+        return u64(refusal, *[0] * 9), None
+    if "trace" not in answer and not may_pad(bits, data):
+        return counted(answer, 0)
+    return counted(*traced(answer))
 
 
 def unescaped(text):
@@ -364,36 +464,36 @@ def leaves_of(words):
     return u64(*needs, 1) + run(u32(*records)) + run(bytes(paths)) + run(bytes(payloads))
 
 
-def flattened(answer):
-    """The answer of a struct or exact walk."""
-    refused = refused_walk(answer)
-    counts, rest = (refused, ["0", "0", "0"]) if refused else counted(answer)
-    return counts + leaves_of(rest)
+def flattened(bits, data, answer):
+    """The window and the answer of a struct or exact walk."""
+    counts, rest = walked(bits, data, answer)
+    return u64(bits) + run(data) + counts + leaves_of(["0", "0", "0"] if rest is None else rest)
 
 
 def struct_walk(words, answer):
     if len(words) != 4:
         raise Broken("4 fields were expected")
     bits, data, schema, declared = words
-    return schema_of(schema) + declared_of(declared) + u64(number(bits, 32)) + run(hexed(data)) + flattened(answer)
+    return schema_of(schema) + declared_of(declared) + flattened(number(bits, 32), hexed(data), answer)
 
 
 def exact_walk(words, answer):
     if len(words) != 4 or words[2] != "-":
         raise Broken("4 fields were expected, the third `-`")
     bits, data, _, declared = words
-    return declared_of(declared) + u64(number(bits, 32)) + run(hexed(data)) + flattened(answer)
+    return declared_of(declared) + flattened(number(bits, 32), hexed(data), answer)
 
 
 def object_walk(words, answer):
     if len(words) != 2:
         raise Broken("2 fields were expected")
-    refused = refused_walk(answer)
-    counts, rest = (refused, ["0"]) if refused else counted(answer)
-    pairs = [number(v, 32) for w in rest[1:] for v in w.split(":")]
-    if number(rest[0]) != len(pairs) // 2:
+    bits, data = number(words[0], 32), hexed(words[1])
+    counts, rest = walked(bits, data, answer)
+    needed, *given = ["0"] if rest is None else rest
+    pairs = [number(v, 32) for w in given for v in w.split(":")]
+    if number(needed) != len(pairs) // 2:
         raise Broken("the need is not that of the pairs")
-    return u64(number(words[0], 32)) + run(hexed(words[1])) + counts + u64(len(pairs) // 2) + run(u32(*pairs))
+    return u64(bits) + run(data) + counts + u64(len(pairs) // 2) + run(u32(*pairs))
 
 
 # A kind's fields and answer as bytes.
@@ -401,7 +501,7 @@ KINDS = {
     "S": struct_walk,
     "X": exact_walk,
     "O": object_walk,
-    "P": plain(0),
+    "P": packed,
     "I": plain(1),
     "G": plain(1),
     "C": copied,
@@ -429,12 +529,12 @@ def lines(path):
 
 
 def answers_of(path):
-    """The words of each answer by id, without the trace."""
+    """The words of each answer by id."""
     answers = {}
     for at, words in lines(path):
         if words[0] in answers:
             raise Broken("%s:%d: a second answer of case %s" % (path, at, words[0]))
-        answers[words[0]] = before(words, "trace")[0][1:]
+        answers[words[0]] = words[1:]
     return answers
 
 

@@ -168,7 +168,7 @@ def module_named(path):
     if not m:
         return None
     crate, kind, rest = m[1], m[2], m[3] or "Lib"
-    d = re.match(r"declared\.([^.]+)", rest)
+    d = re.match(r"declared\.(?:[a-z_]\w*\.)*([A-Z]\w*)", rest)
     if d:
         return crate, None, d[1]
     return crate, f"{kind}/{rest.replace('.', '/')}", None

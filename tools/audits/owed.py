@@ -45,6 +45,16 @@ FINITE = {
     "VrfRotation": ("SoundRotationInC", ("width",)),
     "VrfMovement": ("SoundMovementInC", (WIDTH_OF, ROTATION_KIND, "rotation")),
 }
+# calls that read a packed number: the word of promises/specs/Padded that is said of the answer
+PACKED = {"bitio::read_int_packed": "PaddedAnswer", "exports::vrf_read_packed": "PaddedInC"}
+# calls whose answer counts padded numbers: the word of promises/specs/PaddedCounts that is said of it
+COUNTING = {
+    "array::decode_struct_array": "CountsTaken", "array::decode_struct_array_exact": "CountsTaken", "array::decode_object_ref_array": "CountsInPairs",
+    "exports::vrf_struct_array": "CountsTakenInC", "exports::vrf_struct_array_exact": "CountsTakenInC", "exports::vrf_object_array": "CountsPairsInC",
+    "fastarray::decode_fast_array_delta": "CountsInBody", "exports::vrf_fast_array": "CountsBodyInC",
+}
+# calls whose answer counts a movement's: the word of promises/specs/PaddedMovements, the same way
+COUNTING_TWO = {"geometry::read_rep_movement": "CountsInMovement", "exports::vrf_movement": "CountsMovementInC"}
 
 
 def refuses(call):
@@ -76,6 +86,7 @@ KINDS = {
     "longer": lambda call: window_of(call) is not None and call.name not in WHOLE,
     "stays": lambda call: cursor_of(call) is not None and refuses(call) and call.name not in STILL | IN_PARTS,
     "finite": lambda call: call.returns in FINITE,
+    "padded": lambda call: call.name in PACKED or call.name in COUNTING or call.name in COUNTING_TWO,
     "prefix": lambda call: call.name in WALKS,
     "clean": lambda call: call.name in WALKS,
     "judged": lambda call: call.name in JUDGE,

@@ -18,6 +18,9 @@ for several lists side by side (MAKERS of contracts.py). In all kinds:
              haven't (AlikeBodies)
   stays-     under the contract: Stays of the cursor's position and of the refusal, told as in the refused- theorem; StaysInC of the struct for C
   finite-    under the contract: the word of promises/specs/Finite that owed.py names, of the answer
+  padded-    under the contract: the word of promises/specs/Padded that owed.py names, of the cursor's position and the answer; or that of
+             promises/specs/PaddedCounts, of what the contract says is walked or decoded, and the answer; or that of PaddedMovements, of
+             all that is handed in, and the answer
   prefix-    under FirstBits, and two accepted answers that meet the contract: Begins, or PairsBegin, of these answers and buffers; of two
              structs for C that meet it BeginsInC, or PairsBeginInC
   clean-     under the contract: CleanLeaves, or CleanPairs, of an accepted answer and its buffers; CleanInC, or CleanPairsInC, of the struct for C
@@ -32,7 +35,7 @@ import re
 from . import terms
 from .contracts import ANSWER, at_exit
 from .merge_shapes import MergeShapes
-from .owed import COUNTS, FINITE, agreement_of, cursor_of, refuses, window_of
+from .owed import COUNTING, COUNTING_TWO, COUNTS, FINITE, OBJECTS, PACKED, agreement_of, cursor_of, refuses, window_of
 from .statement import Wrong, signature
 from .terms import arguments, head, parts, parts_as_variables, sides, variables
 from .walk_shapes import applied
@@ -48,6 +51,9 @@ AGREEMENTS = {(*OF_OUTSIDE, word) for word in ("Agree", "Hold", "Alike", "AlikeB
 CURSOR_OF = ("exports", "specs/ReadResults", "cursorOf")
 OF_STAYS = ("promises", "specs/Stays")
 OF_FINITE = ("promises", "specs/Finite")
+OF_PADDED = ("promises", "specs/Padded")
+OF_COUNTS = ("promises", "specs/PaddedCounts")
+OF_TWO = ("promises", "specs/PaddedMovements")
 
 
 def length(tree):
@@ -221,7 +227,7 @@ class Shapes(MergeShapes):
 
     def stays(self, statement):
         found = self.meets(statement)
-        at = ("get", ("var", next(v for v in found if found[v] == ("var", cursor_of(self.call)))), "pos")
+        at = self.position_in(found)
         if self.call.name.startswith("exports::"):
             self.ends_in(statement, (*OF_STAYS, "StaysInC"), (at, self.answer_in(found)))
             return
@@ -240,6 +246,23 @@ class Shapes(MergeShapes):
                 width = applied(definition, width)
             said.insert(0, width)
         self.ends_in(statement, (*OF_FINITE, word), said)
+
+    def padded(self, statement):
+        found = self.meets(statement)
+        r = self.answer_in(found)
+        if self.call.name in PACKED:
+            self.ends_in(statement, (*OF_PADDED, PACKED[self.call.name]), (self.position_in(found), r))
+            return
+        if self.call.name in COUNTING_TWO:
+            said = [("var", next(v for v in found if found[v] == ("var", p.name))) for p in self.call.parameters]
+            self.ends_in(statement, (*OF_TWO, COUNTING_TWO[self.call.name]), (*said, r))
+            return
+        handed = arguments(statement.premises[0])[:2 if self.call.name in OBJECTS else 1]
+        self.ends_in(statement, (*OF_COUNTS, COUNTING[self.call.name]), (*handed, r))
+
+    def position_in(self, found):
+        """Where the call's cursor stood."""
+        return ("get", ("var", next(v for v in found if found[v] == ("var", cursor_of(self.call)))), "pos")
 
     def meets(self, statement):
         """What the variables stand for, where the one premise is an answer that meets the contract."""

@@ -245,6 +245,227 @@ STATED = {
         abbrev pub SoundMovementInC : (w : ℕ) → VrfMovement → Type 0
         SoundMovementInC w r = r .refusal ≡ 0 → SoundMovementFields w r
         """,
+    ("promises", "specs/Padded"): """
+        use Prim.Native.Nat.{ℕ, _+_, _*_}
+        use mathlib.Core.Path.{_≡_}
+        use mathlib.Core.Bool.{Bool, true, false}
+        use Rattle.bits.specs.Padded.{ShorterForm}
+        use Rattle.bitio.specs.declared.PackedRead.{PackedRead}
+        use Rattle.bitio.specs.declared.PackedRead.the-variants as P
+        use Rattle.exports.specs.declared.VrfPacked.{VrfPacked}
+        use Rattle.promises.specs.Verdicts.{Exactly}
+
+        pub record Told (at value bytes next : ℕ) (padded : Bool) : Type 0 where
+          pub took : next ≡ at + 8 * bytes
+          pub shorter : Exactly (padded ≡ true) (ShorterForm value bytes)
+
+        abbrev pub PaddedAnswer : (at : ℕ) → PackedRead → Type 0
+        PaddedAnswer at (P.Value x next) = Told at (x .value) (x .bytes) next (x .padded)
+        PaddedAnswer at (P.Refused r) = Unit {0}
+
+        pub record PaddedInC (at : ℕ) (r : VrfPacked) : Type 0 where
+          pub accepted : r .refusal ≡ 0 → Told at (r .value) (r .bytes) (r .position) (r .padded)
+          pub refused-took : (r .refusal ≡ 0 → ⊥) → r .bytes ≡ 0
+          pub refused-padded : (r .refusal ≡ 0 → ⊥) → r .padded ≡ false
+        """,
+    ("promises", "specs/PaddedCounts"): """
+        use Prim.Native.Nat.{ℕ, _*_, _≤_}
+        use mathlib.Core.Path.{_≡_}
+        use mathlib.Core.Bool.{true}
+        use mathlib.Core.List.{List}
+        use mathlib.Core.Option.{some}
+        use Rattle.bits.specs.Members.{All}
+        use Rattle.bits.specs.Packed.{Number}
+        use Rattle.bits.specs.Padded.{isPadded, paddedAmong, ShorterForm}
+        use Rattle.framing.specs.Events.{taken}
+        use Rattle.outputs.specs.Answers.{Call, traceOf, pairTrace}
+        use Rattle.array.specs.declared.StructArray.{StructArray}
+        use Rattle.array.specs.declared.StructArray.the-variants as structs
+        use Rattle.array.specs.declared.ObjectArray.{ObjectArray}
+        use Rattle.array.specs.declared.ObjectArray.the-variants as objects
+        use Rattle.fastarray.specs.Answers as F
+        use Rattle.fastarray.specs.Body.{Body, numbersOf}
+        use Rattle.fastarray.specs.declared.FastArray.{FastArray}
+        use Rattle.fastarray.specs.declared.FastArray.the-variants as body
+        use Rattle.exports.specs.declared.VrfWalk.{VrfWalk}
+        use Rattle.exports.specs.declared.VrfObjects.{VrfObjects}
+        use Rattle.exports.specs.declared.VrfFastArray.{VrfFastArray}
+        use Rattle.promises.specs.Verdicts.{Exactly}
+
+        pub record Counts (numbers : List Number) (bits n : ℕ) : Type 0 where
+          pub counts : n ≡ paddedAmong numbers
+          pub shorter : All (λ x. Exactly (isPadded x ≡ true) (ShorterForm (x .value) (x .bytes))) numbers
+          pub bounded : 16 * n ≤ bits
+
+        abbrev pub CountsTaken : Call → StructArray → Type 0
+        CountsTaken call (structs.Decoded st v e p) = Counts (taken (traceOf call)) (call .bits) p
+        CountsTaken call structs.TooLong = Unit {0}
+        CountsTaken call structs.BrokenTables = Unit {0}
+        CountsTaken call (structs.Short e) = Unit {0}
+
+        abbrev pub CountsInPairs : (bytes : List ℕ) (bits : ℕ) → ObjectArray → Type 0
+        CountsInPairs bytes bits (objects.Decoded st v n p) = Counts (taken (pairTrace bytes bits)) bits p
+        CountsInPairs bytes bits objects.TooLong = Unit {0}
+        CountsInPairs bytes bits (objects.Short n) = Unit {0}
+
+        pub record BodyCounts (call : F.Call) (n : ℕ) : Type 0 where
+          pub body : Body
+          pub holds : F.found call ≡ some body
+          pub counts : Counts (numbersOf (body .items)) (call .bits) n
+
+        abbrev pub CountsInBody : F.Call → FastArray → Type 0
+        CountsInBody call (body.Decoded d) = BodyCounts call (d .padded)
+        CountsInBody call body.TooLong = Unit {0}
+        CountsInBody call body.NotFastArray = Unit {0}
+        CountsInBody call (body.Short d i f) = Unit {0}
+
+        pub record CountsTakenInC (call : Call) (r : VrfWalk) : Type 0 where
+          pub accepted : r .refusal ≡ 0 → Counts (taken (traceOf call)) (call .bits) (r .padded)
+          pub refused : (r .refusal ≡ 0 → ⊥) → r .padded ≡ 0
+
+        pub record CountsPairsInC (bytes : List ℕ) (bits : ℕ) (r : VrfObjects) : Type 0 where
+          pub accepted : r .refusal ≡ 0 → Counts (taken (pairTrace bytes bits)) bits (r .padded)
+          pub refused : (r .refusal ≡ 0 → ⊥) → r .padded ≡ 0
+
+        pub record CountsBodyInC (call : F.Call) (r : VrfFastArray) : Type 0 where
+          pub accepted : r .refusal ≡ 0 → BodyCounts call (r .padded)
+          pub refused : (r .refusal ≡ 0 → ⊥) → r .padded ≡ 0
+        """,
+    ("promises", "specs/PaddedMovements"): """
+        use Prim.Native.Nat.{ℕ, _+_}
+        use mathlib.Core.Path.{_≡_}
+        use mathlib.Core.Bool.{Bool, true, false}
+        use mathlib.Core.List.{List}
+        use Rattle.bits.specs.Packed.{packed}
+        use Rattle.bits.specs.Padded.{once}
+        use Rattle.bits.specs.declared.Packed.the-variants.{Whole}
+        use Rattle.bitio.specs.Cursors.{window}
+        use Rattle.bitio.specs.declared.Cursor.{Cursor}
+        use Rattle.geometry.specs.Parts.{at}
+        use Rattle.geometry.specs.Movements.{flagsAt, poseAt, spinAt}
+        use Rattle.geometry.specs.declared.Spin.{Spin}
+        use Rattle.geometry.specs.declared.OptionalNumber.{OptionalNumber}
+        use Rattle.geometry.specs.declared.OptionalNumber.the-variants as number
+        use Rattle.geometry.specs.declared.Movement.{Movement}
+        use Rattle.geometry.specs.declared.MovementRead.{MovementRead}
+        use Rattle.geometry.specs.declared.MovementRead.the-variants as M
+        use Rattle.geometry.specs.declared.RotatorQuantization.{RotatorQuantization}
+        use Rattle.geometry.specs.declared.VectorQuantization.{VectorQuantization}
+        use Rattle.geometry.specs.declared.movements.Flags.{Flags}
+        use Rattle.geometry.specs.declared.movements.FlagsRead.the-variants as F
+        use Rattle.geometry.specs.declared.movements.Pose.{Pose}
+        use Rattle.geometry.specs.declared.movements.PoseRead.the-variants as Q
+        use Rattle.geometry.specs.declared.movements.SpinRead.the-variants as S
+        use Rattle.exports.specs.MoveResults.{movedResult, rotationKind, locationKind}
+        use Rattle.exports.specs.declared.VrfMovement.{VrfMovement}
+        use Rattle.promises.specs.Padded.{Told}
+
+        pub record Stands (W len p value : ℕ) (padded : Bool) (q : ℕ) : Type 0 where
+          pub bytes : ℕ
+          pub reads : packed W len p ≡ Whole value bytes
+          pub told : Told p value bytes q padded
+
+        abbrev pub MayStand : (W len p : ℕ) (flag : Bool) → OptionalNumber → (padded : Bool) (q : ℕ) → Type 0
+        MayStand W len p false number.Absent b q = (b ≡ false) × (q ≡ p)
+        MayStand W len p false (number.Present v) b q = ⊥
+        MayStand W len p true number.Absent b q = ⊥
+        MayStand W len p true (number.Present v) b q = Stands W len p v b q
+
+        pub record CountsTwo (s : List ℕ) (f : Flags) (c : Cursor) (angular : Spin) (frame handle : OptionalNumber) (n next : ℕ) : Type 0 where
+          pub behind-spin : ℕ
+          pub spin-read : spinAt s (f .physics) c ≡ S.Value angular behind-spin
+          pub frame-padded : Bool
+          pub behind-frame : ℕ
+          pub frame-stands : MayStand (window s c) (c .len) behind-spin (f .frame) frame frame-padded behind-frame
+          pub handle-padded : Bool
+          pub handle-stands : MayStand (window s c) (c .len) behind-frame (f .handle) handle handle-padded next
+          pub counts : n ≡ once frame-padded + once handle-padded
+
+        pub record CountsBehind (s : List ℕ) (rotation : RotatorQuantization) (location : VectorQuantization) (c : Cursor) (m : Movement) (next : ℕ) : Type 0 where
+          pub flags : Flags
+          pub behind-flags : ℕ
+          pub flags-read : flagsAt s c ≡ F.Value flags behind-flags
+          pub pose : Pose
+          pub behind-pose : ℕ
+          pub pose-read : poseAt s rotation location (at c behind-flags) ≡ Q.Value pose behind-pose
+          pub numbers : CountsTwo s flags (at c behind-pose) (m .angular) (m .frame) (m .handle) (m .padded) next
+
+        abbrev pub CountsAt : (s : List ℕ) (rotation : RotatorQuantization) (location : VectorQuantization) → Cursor → MovementRead → Type 0
+        CountsAt s rotation location c (M.Value m next) = CountsBehind s rotation location c m next
+        CountsAt s rotation location c (M.Refused r) = Unit {0}
+
+        abbrev pub firstBits : (bits : ℕ) → Cursor
+        firstBits n = record { start = 0; pos = 0; len = n }
+
+        abbrev pub CountsInMovement : (bytes : List ℕ) (bits : ℕ) (rotation : RotatorQuantization) (location : VectorQuantization) → MovementRead → Type 0
+        CountsInMovement s n rotation location r = CountsAt s rotation location (firstBits n) r
+
+        pub record MovementInC (bytes : List ℕ) (bits rotation location : ℕ) (r : VrfMovement) : Type 0 where
+          pub read : Movement
+          pub used : ℕ
+          pub is : r ≡ movedResult read used
+          pub counts : CountsBehind bytes (rotationKind rotation) (locationKind location) (firstBits bits) read used
+
+        pub record CountsMovementInC (bytes : List ℕ) (bits rotation location : ℕ) (r : VrfMovement) : Type 0 where
+          pub accepted : r .refusal ≡ 0 → MovementInC bytes bits rotation location r
+          pub refused : (r .refusal ≡ 0 → ⊥) → r .padded ≡ 0
+        """,
+    ("framing", "specs/Events"): """
+        use mathlib.Core.List.{List, [], _∷_}
+        use Rattle.bits.specs.Packed.{Number}
+
+        abbrev pub taken : Trace → List Number
+        taken [] = []
+        taken (number x ∷ t) = x ∷ taken t
+        taken (element p ∷ t) = taken t
+        taken (array p ∷ t) = taken t
+        taken (leaf x ∷ t) = taken t
+        taken (pair x ∷ t) = taken t
+        taken (truncation ∷ t) = taken t
+        taken (error ∷ t) = taken t
+        taken (implicit ∷ t) = taken t
+        taken (nested n ∷ t) = taken t
+        taken (root n ∷ t) = taken t
+        """,
+    ("fastarray", "specs/Body"): """
+        use mathlib.Core.List.{List, [], _∷_, _++_}
+        use Rattle.bits.specs.Packed.{Number}
+
+        unfoldable pub numbersOf : List Item → List Number
+        numbersOf [] = []
+        numbersOf (x ∷ l) = x .numbers ++ numbersOf l
+        """,
+    ("bits", "specs/Padded"): """
+        use Prim.Native.Nat.{ℕ, _+_, _-_, _*_, _^_, _<_}
+        use mathlib.Core.Path.{_≡_}
+        use mathlib.Core.Bool.{Bool, _&&_}
+        use mathlib.Core.List.{List, [], _∷_}
+        use lib.Dec.{ltb}
+        use Rattle.bits.specs.Choice.{if_then_else_}
+        use Rattle.bits.specs.Packed.{packed, Number}
+        use Rattle.bits.specs.declared.Packed.the-variants.{Whole, Cut, GoesOn, Overflows}
+
+        unfoldable pub padded : (value bytes : ℕ) → Bool
+        padded v n = ltb 1 n && ltb v (2 ^ (7 * (n - 1)))
+
+        abbrev pub isPadded : Number → Bool
+        isPadded x = padded (x .value) (x .bytes)
+
+        abbrev pub once : Bool → ℕ
+        once b = if b then 1 else 0
+
+        unfoldable pub paddedAmong : List Number → ℕ
+        paddedAmong [] = 0
+        paddedAmong (x ∷ l) = once (isPadded x) + paddedAmong l
+
+        pub record ShorterForm (value bytes : ℕ) : Type 0 where
+          pub window : ℕ
+          pub size : ℕ
+          pub place : ℕ
+          pub fewer : ℕ
+          pub reads : packed window size place ≡ Whole value fewer
+          pub less : fewer < bytes
+        """,
     ("geometry", "specs/Finite"): """
         use Prim.Native.Nat.{ℕ, _^_, _<_}
         use mathlib.Core.Path.{_≡_}
@@ -324,7 +545,7 @@ STATED = {
         use Rattle.bits.specs.Choice.{if_then_else_}
         use Rattle.bits.specs.Sizes.{maxElements, maxFields}
         use Rattle.framing.specs.Windows.{Window, windowOf, Reading, got, failed, reading}
-        use Rattle.framing.specs.Events.{Pair, number, element, array, leaf, pair, truncation, error, implicit, nested, root, leaves, pairs, Trace}
+        use Rattle.framing.specs.Events.{Pair, number, element, array, leaf, pair, truncation, error, implicit, nested, root, leaves, pairs, taken, Trace}
         use Rattle.framing.specs.Counters.{counters}
         use Rattle.framing.specs.Walk.{numberAt, Lead, ends, fails, closes, opens, lead, tail, Run, done, stopped, fields, closing, behind, beyond, onLastIndex, tooMany}
         use Rattle.framing.specs.Sinks.{objectSink}
@@ -379,6 +600,7 @@ STATED = {
           pub same-leaves : leaves t ≡ leaves u
           pub same-pairs : pairs t ≡ pairs u
           pub same-counters : counters t ≡ counters u
+          pub same-numbers : taken t ≡ taken u
         """,
     ("floats", "specs/Numbers"): """
         use mathlib.Core.Path.{_≡_}
@@ -606,7 +828,7 @@ STATED = {
 
         abbrev pub PathsFit : Answer Room → Type 0
         PathsFit (refused n need) = need .pathBytes ≤ longestPath * need .leaves
-        PathsFit (accepted c need) = need .pathBytes ≤ longestPath * need .leaves
+        PathsFit (accepted c p need) = need .pathBytes ≤ longestPath * need .leaves
 
         abbrev pub PathsFitInC : VrfWalk → Type 0
         PathsFitInC r = r .«path_bytes» ≤ longestPath * r .leaves

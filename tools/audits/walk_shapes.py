@@ -71,7 +71,7 @@ class WalkShapes(Spoken):
         pairs = head(arguments(rest[0])[0]) is None
         windows = (longer, n, m) if pairs else (arguments(rest[0])[0], arguments(rest[1])[0])
         if self.in_rattle:
-            (_, v, e), (_, w, f) = [[("var", name) for name in names] for names in told]
+            (_, v, e, _), (_, w, f, _) = [[("var", name) for name in names] for names in told]
             filled = (e, f) if pairs else (applied(ROOM_IN, e), applied(ROOM_IN, f))
             word, expected = "PairsBegin" if pairs else "Begins", (named(VERDICT_NAMED), *windows, v, w, *filled, *ends)
         else:
@@ -117,7 +117,7 @@ class WalkShapes(Spoken):
         pairs = head(arguments(premise)[0]) is None
         window = arguments(premise)[:2] if pairs else arguments(premise)[:1]
         if self.in_rattle:
-            stats, verdict, filled = (("var", name) for name in told)
+            stats, verdict, filled, _ = (("var", name) for name in told)
             filled = filled if pairs else applied(ROOM_IN, filled)
             word, expected = "CleanPairs" if pairs else "CleanLeaves", (named(VERDICT_NAMED), *window, applied(COUNTERS_OF, stats), verdict, filled, end)
         else:
