@@ -17,13 +17,13 @@ class Bits:
         self.bits += [value >> i & 1 for i in range(width)]
         return self
 
-    def packed(self, value):
-        """A packed number: seven bits to a byte, the low bit says that another byte follows."""
+    def packed(self, value, padded=False):
+        """A packed number: seven bits to a byte, the low bit says that another byte follows; a padded one has a byte 0 more."""
         while True:
             low, value = value & 127, value >> 7
-            self.field(low << 1 | (value > 0), 8)
+            self.field(low << 1 | (value > 0 or padded), 8)
             if value == 0:
-                return self
+                return self.field(0, 8) if padded else self
 
     def add(self, other):
         self.bits += other.bits
@@ -36,15 +36,15 @@ class Bits:
         return bytes(out)
 
 
-def array(count, elements, trailer=False):
+def array(count, elements, trailer=False, padded=False):
     """An array: its count, each element (index, its fields), the closing zero, and the trailer if it has one."""
-    out = Bits().packed(count)
+    out = Bits().packed(count, padded)
     for index, fields in elements:
-        out.packed(index + 1)
+        out.packed(index + 1, padded)
         for handle, payload in fields:
-            out.packed(handle + 1).packed(len(payload.bits)).add(payload)
-        out.packed(0)
-    out.packed(0)
+            out.packed(handle + 1, padded).packed(len(payload.bits), padded).add(payload)
+        out.packed(0, padded)
+    out.packed(0, padded)
     return out.packed(0) if trailer else out
 
 
@@ -56,9 +56,9 @@ def number(value):
     return raw(struct.pack("<f", value))
 
 
-def combat_rounds():
-    reports = array(1, [(0, [(1, raw(b"\xab"))])])
-    return array(1, [(0, [(4, reports)])])
+def combat_rounds(padded=False):
+    reports = array(1, [(0, [(1, raw(b"\xab"))])], padded=padded)
+    return array(1, [(0, [(4, reports)])], padded=padded)
 
 
 def ability_casts():
@@ -81,8 +81,8 @@ def objects():
     return array(3, [(0, [(1, Bits().packed(7))]), (2, [(1, Bits().packed(1200))])])
 
 
-def fast_array(flag):
-    """A body with one deleted id and two changed items; with `flag` a checksum flag in each item."""
+def fast_array(flag, padded=False):
+    """A body with one deleted id and two changed items; with `flag` a checksum flag in each item; with `padded` eight padded numbers."""
     out = Bits().field(1, 1)
     for word in (12, 11, 1, 2, -3):
         out.field(word, 32)
@@ -91,8 +91,8 @@ def fast_array(flag):
         if flag:
             out.field(0, 1)
         for handle, payload in fields:
-            out.packed(handle + 1).packed(len(payload.bits)).add(payload)
-        out.packed(0)
+            out.packed(handle + 1, padded).packed(len(payload.bits), padded).add(payload)
+        out.packed(0, padded)
     return out
 
 
@@ -103,20 +103,21 @@ def vector(scaled, width, components):
     return out
 
 
-def movement():
+def movement(padded=False):
     """For scale 100 and width 16: a location of two decimals, a yaw of 90 degrees, both velocities, a frame, no handle."""
     out = Bits().field(0, 1).field(1, 1).field(1, 1).field(0, 1)
     out.add(vector(1, 20, (123456, -250, 9050)))
     out.field(0, 1).field(1, 1).field(16384, 16).field(0, 1)
     out.add(vector(0, 10, (300, -15, 0)))
     out.add(vector(0, 4, (0, 0, 6)))
-    return out.packed(4711)
+    return out.packed(4711, padded)
 
 
 def main():
     folder = pathlib.Path(__file__).parent
     for name, window in {
         "combat-rounds": combat_rounds(),
+        "combat-rounds-padded": combat_rounds(padded=True),
         "ability-casts": ability_casts(),
         "life-change-damage": life_change_damage(),
         "none": plain(True),
@@ -125,7 +126,9 @@ def main():
         "no-elements": array(0, []),
         "fastarray-absent": fast_array(False),
         "fastarray-present": fast_array(True),
+        "fastarray-padded": fast_array(False, padded=True),
         "movement": movement(),
+        "movement-padded": movement(padded=True),
     }.items():
         (folder / f"{name}.bin").write_bytes(window.bytes())
         print(name, len(window.bits), "bits")

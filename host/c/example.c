@@ -125,6 +125,7 @@ static int walk(const uint8_t *bytes, size_t size, uint32_t bits) {
       print_leaf(leaves + VRF_LEAF_WORDS * i, paths, payloads);
     }
     print_counters(&w.counters);
+    printf("padded numbers %" PRIu32 "\n", w.padded);
     printf("verdict: %s\n", verdict_in_words(w.verdict));
   }
   free(leaves);

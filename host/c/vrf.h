@@ -113,6 +113,15 @@ typedef struct VrfCounters {
   uint64_t implicit_terminations; /* times that a window ended where a closing zero was due */
 } VrfCounters;
 
+/* Padded numbers
+ *   A packed number is padded if it takes more bytes than its value needs: 01 00 for zero. Every reading here accepts such a number and
+ *   says so, of one number with `bytes` and `padded`, of a walk, a fast array or a movement with how many there were. For a box it means
+ *   that the recorder which wrote the window uses long forms, and nothing else: nothing is damaged or missing, and no counter and no
+ *   verdict asks whether a number is padded. A number counts once it is read, in every level, also where its value is then turned away:
+ *   a count above 4,096, an index that isn't below the count, a width past the window, an object that doesn't fill its payload. One that
+ *   can't be read doesn't count, nor does one that the walk puts back behind the last element or field that it takes.
+ *   vrf_merge doesn't add these counts up: they are no counters. */
+
 /* Accepted: how much of each buffer is filled. Refusal 3: how much of each is needed. */
 typedef struct VrfWalk {
   uint32_t refusal; /* 1, 2, 3, tried in this order */
@@ -121,6 +130,7 @@ typedef struct VrfWalk {
   uint32_t payload_bytes;
   VrfCounters counters;
   uint32_t verdict; /* VRF_CLEAN, VRF_PARTIAL or, of no bits, VRF_EMPTY */
+  uint32_t padded;  /* how many padded numbers were read, children's among them; whatever it is, the verdict doesn't depend on it */
 } VrfWalk;
 
 /* The array of structs in the first `bits` bits, taken apart into leaves.
@@ -158,6 +168,7 @@ typedef struct VrfObjects {
   uint32_t pairs;   /* filled, or with refusal 3 needed */
   VrfCounters counters;
   uint32_t verdict; /* VRF_CLEAN or VRF_PARTIAL; of no bits it is partial, with one error */
+  uint32_t padded;  /* how many padded numbers were read, the objects among them */
 } VrfObjects;
 
 /* The array of object references in the first `bits` bits. A pair is two uint32_t: index, object. How large to lend: call once
@@ -228,7 +239,8 @@ typedef struct VrfFastArray {
   uint32_t fields;
   int32_t key;
   int32_t base;
-  uint32_t used; /* bits: all of them */
+  uint32_t used;   /* bits: all of them */
+  uint32_t padded; /* how many of the handles, widths and closing zeros are padded */
 } VrfFastArray;
 
 /* The fast-array body that the first `bits` bits are; payload_len has to be (bits + 7) / 8. checksum: 0 if no flag bit stands behind
@@ -262,8 +274,18 @@ typedef struct VrfRead {
 /* The next `count` bits, at most 64, as one number, the first bit lowest. 14, 13, 7. */
 VrfRead vrf_read_bits(const uint8_t *bytes, size_t bytes_len, VrfCursor cursor, uint64_t count);
 
+/* What VrfRead has, at the same places, and the form of a packed number; where it is refused, 0 and false. */
+typedef struct VrfPacked {
+  uint32_t refusal;
+  uint64_t first, second, third;
+  uint64_t value;
+  uint64_t position;
+  uint32_t bytes; /* 1 to 5: how many it takes */
+  bool padded;    /* it could be had in fewer */
+} VrfPacked;
+
 /* A packed number. 14, 7, 8, 9. */
-VrfRead vrf_read_packed(const uint8_t *bytes, size_t bytes_len, VrfCursor cursor);
+VrfPacked vrf_read_packed(const uint8_t *bytes, size_t bytes_len, VrfCursor cursor);
 
 /* An integer below maximum. 14, 10, 7. */
 VrfRead vrf_read_serialized(const uint8_t *bytes, size_t bytes_len, VrfCursor cursor, uint32_t maximum);
@@ -334,6 +356,7 @@ typedef struct VrfMovement {
   VrfNumber frame;
   VrfNumber handle;
   uint64_t position; /* the bits used, or where a refused reading stopped */
+  uint32_t padded;   /* how many of frame and handle are padded: 0, 1 or 2 */
 } VrfMovement;
 
 /* How a movement is sent. A number that isn't listed counts as the last of its list. */

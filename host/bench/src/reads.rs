@@ -26,6 +26,15 @@ fn packed_called(reader: &mut BitReader<'_>, _: u32) -> Taken {
     reader.read_int_packed().map(u64::from)
 }
 
+/// The number alone; the port says its bytes and whether it is padded too.
+fn port_packed(bytes: &[u8], cursor: Cursor) -> Read<u64> {
+    let read = lent::read_packed(bytes, cursor);
+    Read {
+        result: read.result.map(|packed| packed.value),
+        position: read.position,
+    }
+}
+
 /// The sum of `count` reads of a window from bit `from` on.
 fn rust_sum(window: &Bits, from: u64, count: u64, width: u32, read: impl Fn(&mut BitReader<'_>, u32) -> Taken) -> u64 {
     let Ok(mut reader) = BitReader::with_bit_len(&window.bytes, window.count.into()) else {
@@ -117,17 +126,10 @@ fn packed(bytes: u32, from: u64, place: &str) -> [Row; 2] {
     let window = move || packed_window(bytes, from);
     [
         Row::new(format!("{name}; Rust inlined"), "number", move || {
-            sides(
-                window(),
-                from,
-                NUMBERS,
-                0,
-                |r, _| r.read_int_packed().map(u64::from),
-                lent::read_packed,
-            )
+            sides(window(), from, NUMBERS, 0, |r, _| r.read_int_packed().map(u64::from), port_packed)
         }),
         Row::new(format!("{name}; Rust called"), "number", move || {
-            sides(window(), from, NUMBERS, 0, packed_called, lent::read_packed)
+            sides(window(), from, NUMBERS, 0, packed_called, port_packed)
         }),
     ]
 }

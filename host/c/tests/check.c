@@ -82,6 +82,7 @@ int main(void) {
   run("levels", levels);
   run("fast arrays", fast_arrays);
   run("reads", reads);
+  run("padded numbers", padded_numbers);
   run("copies", copies);
   run("vectors", vectors);
   run("rotations", rotations);

@@ -60,6 +60,7 @@ void counters(void);
 void levels(void);
 void fast_arrays(void);
 void reads(void);
+void padded_numbers(void);
 void copies(void);
 void vectors(void);
 void rotations(void);

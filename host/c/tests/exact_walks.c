@@ -12,16 +12,17 @@ static const uint32_t leaves_expected[WORDS_EXACT] = {0, 4, 0, 1, 0, 4, 10, 3, 1
 static const char paths_expected[] = "[1].[1].Deaths[2]._h199";
 static const uint8_t payloads_expected[PAYLOADS_EXACT] = {0x01, 0xcd, 0xab, 0x02};
 
+/* Five numbers are padded: the count, three indices and a closing zero. */
 static void write_exact_window(Window *w) {
   window_clear(w);
-  put_packed(w, 4);
-  put_packed(w, 1);
-  put_packed(w, 0);
-  put_packed(w, 2);
+  put_padded(w, 4, 5);
+  put_padded(w, 1, 2);
+  put_padded(w, 0, 2);
+  put_padded(w, 2, 4);
   put_number(w, 0, 1, 1);
   put_number(w, 3, 0xabcd, 16);
   put_packed(w, 0);
-  put_packed(w, 3);
+  put_padded(w, 3, 3);
   put_number(w, 199, 2, 2);
   put_packed(w, 0);
   put_packed(w, 4);
@@ -51,6 +52,7 @@ static void accepted_exactly(const Window *w, size_t leaves, size_t paths, size_
   SAME(a.payload_bytes, PAYLOADS_EXACT);
   SAME_COUNTERS(a.counters, 4, 3, 0, 0, 0, 8, 0);
   SAME(a.verdict, VRF_PARTIAL);
+  SAME(a.padded, 5);
   SAME_BYTES(lent.leaves, leaves_expected, sizeof leaves_expected);
   SAME_BYTES(lent.paths, paths_expected, PATHS_EXACT);
   SAME_BYTES(lent.payloads, payloads_expected, PAYLOADS_EXACT);
@@ -66,6 +68,7 @@ static void refused_exactly(VrfWalk a, uint32_t refusal, uint32_t leaves, uint32
   SAME(a.payload_bytes, payloads);
   NO_COUNTERS(a.counters);
   SAME(a.verdict, 0);
+  SAME(a.padded, 0);
   SAME_UNTOUCHED(lent, sizeof *lent);
 }
 
@@ -90,6 +93,7 @@ void exact_walks(void) {
   VrfWalk a = walk_exactly(&w, &lent, WORDS_EXACT, PATHS_EXACT, PAYLOADS_EXACT);
   SAME_COUNTERS(a.counters, 4, 3, 0, 0, 0, 0, 0);
   SAME(a.verdict, VRF_CLEAN);
+  SAME(a.padded, 5);
   w.bits -= 8;
   a = walk_exactly(&w, &lent, WORDS_EXACT, PATHS_EXACT, PAYLOADS_EXACT);
   SAME_COUNTERS(a.counters, 4, 3, 0, 0, 0, 0, 1);

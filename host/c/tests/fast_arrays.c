@@ -2,14 +2,15 @@
 #include "check.h"
 #include "window.h"
 
-enum { DELETES = 4, ITEMS = 3, FIELDS = 5, ITEM_NUMBERS = ITEMS * VRF_ITEM_WORDS, FIELD_NUMBERS = FIELDS * VRF_FIELD_WORDS };
+enum { DELETES = 4, ITEMS = 3, FIELDS = 5, PADDED = 6, ITEM_NUMBERS = ITEMS * VRF_ITEM_WORDS, FIELD_NUMBERS = FIELDS * VRF_FIELD_WORDS };
 #define KEY INT32_C(100)
 #define BASE INT32_C(-7)
 
 static const int32_t ids[DELETES] = {11, -12, INT32_MIN, 14};
 static const uint32_t items_expected[ITEM_NUMBERS] = {20, 3, 0xfffffff0, 2, 22, 0}; /* id and number of fields */
 
-/* Writes the body; starts is where the payloads of its fields begin. */
+/* Writes the body; starts is where the payloads of its fields begin. The handles and widths of the first two fields are padded, and the
+ * zeros of the first two items. */
 static void write_body(Window *w, int flags, uint32_t *starts) {
   window_clear(w);
   put_bits(w, 1, 1);
@@ -24,11 +25,12 @@ static void write_body(Window *w, int flags, uint32_t *starts) {
     put_bits(w, items_expected[VRF_ITEM_WORDS * item], 32);
     put_bits(w, 1, flags ? 1 : 0);
     for (uint32_t n = 0; n < items_expected[VRF_ITEM_WORDS * item + 1]; n++, field++) {
-      put_field(w, 30 + field, 2 * field + 1);
+      put_padded(w, 31 + field, field < 2 ? 2 : 1);
+      put_padded(w, 2 * field + 1, field < 2 ? 5 : 1);
       starts[field] = w->bits;
       put_bits(w, UINT64_MAX, 2 * field + 1);
     }
-    put_packed(w, 0);
+    put_padded(w, 0, ITEMS - item);
   }
 }
 
@@ -66,6 +68,7 @@ static void accepted_body(int flags, uint32_t checksum, size_t deleted, size_t i
   SAME(a.key, KEY);
   SAME(a.base, BASE);
   SAME(a.used, w.bits);
+  SAME(a.padded, PADDED);
   hold_body(&lent, starts);
 }
 
@@ -81,6 +84,7 @@ static void refused_body(uint32_t refusal, const Window *w, size_t bytes, uint32
   SAME(a.key, 0);
   SAME(a.base, 0);
   SAME(a.used, 0);
+  SAME(a.padded, 0);
   SAME_UNTOUCHED(&lent, sizeof lent);
 }
 

@@ -3,6 +3,8 @@
 #include "window.h"
 
 enum { SLEEP = 1, PHYSICS = 2, FRAME = 4, HANDLE = 8 };
+/* The handle is padded, the frame is not. */
+enum { HANDLE_BYTES = 3, HANDLE_BITS = 8 * HANDLE_BYTES };
 
 static void write_movement(Window *w, uint32_t flags, uint32_t width) {
   window_clear(w);
@@ -19,7 +21,7 @@ static void write_movement(Window *w, uint32_t flags, uint32_t width) {
     put_packed(w, UINT32_MAX);
   }
   if (flags & HANDLE) {
-    put_packed(w, 16);
+    put_padded(w, 16, HANDLE_BYTES);
   }
 }
 
@@ -50,6 +52,7 @@ static void same_extras(VrfMovement m, uint32_t flags) {
   SAME(m.frame.value, flags & FRAME ? UINT32_MAX : 0);
   SAME(m.handle.present, (flags & HANDLE) != 0);
   SAME(m.handle.value, flags & HANDLE ? 16 : 0);
+  SAME(m.padded, flags & HANDLE ? 1 : 0);
 }
 
 static void every_way_of_sending(void) {
@@ -109,13 +112,14 @@ static void refusals(void) {
   REFUSED(m, 7, 57, 60, 8, 57); /* in the yaw */
   nothing_read(m);
 
-  const uint64_t packed = w.bits - 8 - 40; /* where the frame starts */
-  w.bytes[(w.bits - 8 - 8) / 8] |= (uint8_t)(1u << ((w.bits - 8 - 8) % 8)); /* its fifth byte says that another follows */
+  const uint32_t behind = w.bits - HANDLE_BITS; /* where the frame ends */
+  const uint64_t packed = behind - 40;          /* where it starts */
+  w.bytes[(behind - 8) / 8] |= (uint8_t)(1u << ((behind - 8) % 8)); /* its fifth byte says that another follows */
   m = read_movement(&w, w.bits, VRF_ROTATION_8_BITS, VRF_LOCATION_SCALE_1);
   REFUSED(m, 8, packed, 0, 0, packed + 40);
   nothing_read(m);
-  w.bytes[(w.bits - 8 - 8) / 8] ^= (uint8_t)(1u << ((w.bits - 8 - 8) % 8)); /* no other follows, but it holds 16 more */
-  w.bytes[(w.bits - 8 - 3) / 8] |= (uint8_t)(1u << ((w.bits - 8 - 3) % 8));
+  w.bytes[(behind - 8) / 8] ^= (uint8_t)(1u << ((behind - 8) % 8)); /* no other follows, but it holds 16 more */
+  w.bytes[(behind - 3) / 8] |= (uint8_t)(1u << ((behind - 3) % 8));
   m = read_movement(&w, w.bits, VRF_ROTATION_8_BITS, VRF_LOCATION_SCALE_1);
   REFUSED(m, 9, packed, 0, 0, packed + 40);
   nothing_read(m);

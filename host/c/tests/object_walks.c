@@ -5,33 +5,35 @@
 enum { PAIRS = 3, PAIR_NUMBERS = PAIRS * VRF_PAIR_WORDS };
 static const uint32_t expected_pairs[PAIR_NUMBERS] = {1, 7, 2, 300, 5, 0};
 
-/* Elements 7, pairs 3, errors 2, nested bits 19, root bits 21. */
+/* Elements 7, pairs 3, errors 2, nested bits 19, root bits 21; 6 padded numbers, of which two are objects. */
 static void write_objects(Window *w) {
   window_clear(w);
-  put_packed(w, 8);
-  put_packed(w, 1); /* index 0: no field */
+  put_padded(w, 8, 2);
+  put_padded(w, 1, 2); /* index 0: no field */
   put_packed(w, 0);
   put_packed(w, 2); /* index 1: an empty field, then object 7, then 19 bits that are stepped past */
   put_number(w, 0, 0, 0);
   put_number(w, 1, 14, 8);
   put_number(w, 2, 0, 19);
   put_packed(w, 0);
-  put_packed(w, 3); /* index 2: object 300, in two bytes */
-  put_field(w, 6, 16);
-  put_packed(w, 300);
+  put_packed(w, 3); /* index 2: object 300, in three bytes */
+  put_field(w, 6, 24);
+  put_padded(w, 300, 3);
   put_packed(w, 0);
   put_packed(w, 4); /* index 3: not a packed number */
   put_number(w, 0, 0, 7);
   put_packed(w, 0);
   put_packed(w, 5); /* index 4: a packed number that doesn't fill its payload */
-  put_number(w, 0, 0, 9);
+  put_field(w, 0, 17);
+  put_padded(w, 0, 2);
+  put_bits(w, 0, 1);
   put_packed(w, 0);
   put_packed(w, 6); /* index 5: object 0 */
   put_number(w, 0, 0, 8);
   put_packed(w, 0);
   put_packed(w, 7); /* index 6: no field */
-  put_packed(w, 0);
-  put_packed(w, 0);
+  put_padded(w, 0, 3);
+  put_padded(w, 0, 4);
   put_bits(w, 0, 21);
 }
 
@@ -47,6 +49,7 @@ static void accepted_objects(const Window *w, size_t pairs) {
   SAME(a.pairs, PAIRS);
   SAME_COUNTERS(a.counters, 7, 3, 0, 2, 19, 21, 0);
   SAME(a.verdict, VRF_PARTIAL);
+  SAME(a.padded, 6);
   SAME_BYTES(lent.pairs, expected_pairs, sizeof expected_pairs);
   SAME_UNTOUCHED(lent.pairs + PAIR_NUMBERS, sizeof lent.pairs - sizeof expected_pairs);
 }
@@ -59,6 +62,7 @@ static void refused_objects(const Window *w, uint32_t bits, size_t pairs, uint32
   SAME(a.pairs, need);
   NO_COUNTERS(a.counters);
   SAME(a.verdict, 0);
+  SAME(a.padded, 0);
   SAME_UNTOUCHED(&lent, sizeof lent);
 }
 
@@ -90,4 +94,5 @@ void object_walks(void) {
   SAME(a.pairs, 0);
   SAME_COUNTERS(a.counters, 0, 0, 0, 1, 0, 0, 0);
   SAME(a.verdict, VRF_PARTIAL);
+  SAME(a.padded, 0);
 }

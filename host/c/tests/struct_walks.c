@@ -32,13 +32,14 @@ static const uint32_t expected_leaves[LEAF_WORDS] = {
 static const char expected_paths[] = "[0].Kills[0].Five[0]._h9[0].Inner[3].Seven[1].Inner._raw";
 static const uint8_t expected_payloads[PAYLOADS] = {0x05, 0xbc, 0x0a, 0x5d, 0x33, 0x01, 0x19};
 
-/* Elements 6, leaves 5, truncations 2, errors 3, nested bits 11, root bits 13, implicit terminations 4. */
+/* Elements 6, leaves 5, truncations 2, errors 3, nested bits 11, root bits 13, implicit terminations 4; 8 padded numbers: the indices of
+ * four elements, and four counts. */
 static void write_window(Window *w) {
   Window four_elements, left_over, cut, count_too_large;
   window_clear(&four_elements);
   put_packed(&four_elements, 4);
   for (uint32_t index = 0; index < 4; index++) {
-    put_packed(&four_elements, index + 1);
+    put_padded(&four_elements, index + 1, 3);
     if (index == 3) {
       put_number(&four_elements, 7, 0x133, 9);
     }
@@ -52,7 +53,7 @@ static void write_window(Window *w) {
   put_bits(&left_over, 0x7ff, 11);
 
   window_clear(&cut);
-  put_packed(&cut, 1);
+  put_padded(&cut, 1, 2);
 
   window_clear(&count_too_large);
   put_packed(&count_too_large, 4097);
@@ -102,6 +103,7 @@ static void accepted(const Window *w, size_t leaves, size_t paths, size_t payloa
   SAME(a.payload_bytes, PAYLOADS);
   SAME_COUNTERS(a.counters, 6, 5, 2, 3, 11, 13, 4);
   SAME(a.verdict, VRF_PARTIAL);
+  SAME(a.padded, 8);
   SAME_BYTES(lent.leaves, expected_leaves, sizeof expected_leaves);
   SAME_BYTES(lent.paths, expected_paths, PATHS);
   SAME_BYTES(lent.payloads, expected_payloads, PAYLOADS);
@@ -119,6 +121,7 @@ static void too_short(const Window *w, size_t leaves, size_t paths, size_t paylo
   SAME(a.payload_bytes, PAYLOADS);
   NO_COUNTERS(a.counters);
   SAME(a.verdict, 0);
+  SAME(a.padded, 0);
   SAME_UNTOUCHED(&lent, sizeof lent);
 }
 
@@ -129,6 +132,7 @@ static void nothing_named(VrfWalk a, uint32_t refusal, const Lent *lent) {
   SAME(a.payload_bytes, 0);
   NO_COUNTERS(a.counters);
   SAME(a.verdict, 0);
+  SAME(a.padded, 0);
   SAME_UNTOUCHED(lent, sizeof *lent);
 }
 
@@ -171,6 +175,7 @@ static void without_tables(void) {
   SAME(v.payload_bytes, 1);
   SAME_COUNTERS(v.counters, 1, 1, 0, 0, 0, 0, 0);
   SAME(v.verdict, VRF_CLEAN);
+  SAME(v.padded, 0);
   SAME_BYTES(lent.paths, "[0]._h1", 7);
   v = vrf_struct_array(a, 7, 48, NULL, 0, 0, VRF_NONE, NULL, 0, NULL, 0, NULL, 0, lent.leaves, 5, lent.paths, 7, lent.payloads, 1);
   SAME_COUNTERS(v.counters, 1, 1, 0, 0, 0, 0, 1);
@@ -194,6 +199,7 @@ static void of_no_bits(const Window *w) {
   SAME(v.payload_bytes, 0);
   SAME_COUNTERS(v.counters, 0, 0, 0, 0, 0, 0, 0);
   SAME(v.verdict, VRF_EMPTY);
+  SAME(v.padded, 0);
   SAME_UNTOUCHED(&lent, sizeof lent);
   SAME(vrf_verdict(v.counters), VRF_CLEAN); /* of counters alone: they don't tell that there were no bits */
   v = vrf_struct_array(NULL, 0, 0, NULL, 0, 0, VRF_NONE, NULL, 0, NULL, 0, NULL, 0, NULL, 0, NULL, 0, NULL, 0);

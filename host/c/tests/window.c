@@ -13,8 +13,10 @@ void put_bits(Window *w, uint64_t value, uint32_t count) {
   }
 }
 
-void put_packed(Window *w, uint32_t value) {
-  while (value > 127) {
+void put_packed(Window *w, uint32_t value) { put_padded(w, value, 1); }
+
+void put_padded(Window *w, uint32_t value, uint32_t size) {
+  for (uint32_t n = 1; value > 127 || n < size; n++) {
     put_bits(w, (uint64_t)(value & 127) << 1 | 1, 8);
     value >>= 7;
   }

@@ -16,6 +16,8 @@ size_t window_bytes(const Window *w);
 void window_clear(Window *w);
 void put_bits(Window *w, uint64_t value, uint32_t count);
 void put_packed(Window *w, uint32_t value);
+/* The same in `size` bytes, at most five; in as many as it needs where these are more. */
+void put_padded(Window *w, uint32_t value, uint32_t size);
 
 /* A field's handle and width; its payload has to follow. */
 void put_field(Window *w, uint32_t handle, uint32_t width);

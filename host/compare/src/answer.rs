@@ -72,6 +72,8 @@ pub fn of_decode_error(e: &DecodeError) -> Refusal {
 #[derive(Clone, Debug, PartialEq)]
 pub enum Value {
     Number(u64),
+    /// A packed number, its bytes, and whether it is padded.
+    Packed(u64, u32, bool),
     Doubles([u64; 3]),
     Floats([u32; 3]),
     /// A copy: its target is compared by itself.
@@ -88,6 +90,9 @@ impl fmt::Display for ReadAnswer {
     fn fmt(&self, f: &mut fmt::Formatter<'_>) -> fmt::Result {
         match &self.result {
             Ok(Value::Number(n)) => write!(f, "ok {n}")?,
+            Ok(Value::Packed(n, bytes, padded)) => {
+                write!(f, "ok {n} in {bytes} bytes{}", if *padded { ", padded" } else { "" })?;
+            }
             Ok(Value::Doubles([x, y, z])) => write!(f, "ok {x:016x},{y:016x},{z:016x}")?,
             Ok(Value::Floats([x, y, z])) => write!(f, "ok {x:08x},{y:08x},{z:08x}")?,
             Ok(Value::Copied) => write!(f, "ok")?,

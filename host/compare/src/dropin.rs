@@ -61,14 +61,19 @@ fn same_stats(rust: &ArrayDecodeStats, given: &mut port::ArrayDecodeStats) -> bo
     port_counters(given) == expected && clean == rust.is_clean()
 }
 
-/// What a form that says a refusal gives: the walk's own counters, from zero, and the verdict on its window.
-fn same_decoded<T>(given: &Result<Decoded<T>, Refusal>, stats: &ArrayDecodeStats, verdict: Verdict, values: impl FnOnce(&[T]) -> bool) -> bool {
+/// What a form that says a refusal gives: the walk's own counters, from zero; `said`: the verdict on its window, and its padded numbers.
+fn same_decoded<T>(
+    given: &Result<Decoded<T>, Refusal>,
+    stats: &ArrayDecodeStats,
+    said: (Verdict, u32),
+    values: impl FnOnce(&[T]) -> bool,
+) -> bool {
     given
         .as_ref()
-        .is_ok_and(|d| values(&d.values) && port_counters(&d.stats) == counters(stats) && d.verdict == verdict)
+        .is_ok_and(|d| values(&d.values) && port_counters(&d.stats) == counters(stats) && (d.verdict, d.padded) == said)
 }
 
-pub fn walk(case: &WalkCase, fields: &[FlattenedField], stats: &ArrayDecodeStats, verdict: Verdict) -> Result<(), Difference> {
+pub fn walk(case: &WalkCase, fields: &[FlattenedField], stats: &ArrayDecodeStats, verdict: Verdict, padded: u32) -> Result<(), Difference> {
     if case.schema.dropin.is_none() && case.schema.linked.is_some() {
         return Ok(()); // an unrolled table that is larger than a table may be
     }
@@ -89,17 +94,17 @@ pub fn walk(case: &WalkCase, fields: &[FlattenedField], stats: &ArrayDecodeStats
         port::try_decode_struct_array(&w.bytes, w.bits, case.schema.dropin, &names)
     };
     faults::answer(Call::TryLeaves, &mut tried);
-    if same(&leaves) && same_stats(stats, &mut given) && same_decoded(&tried, stats, verdict, same) {
+    if same(&leaves) && same_stats(stats, &mut given) && same_decoded(&tried, stats, (verdict, padded), same) {
         return Ok(());
     }
     Err(Difference::new(
         "the drop-in",
-        format!("{fields:?} {stats:?}"),
+        format!("{fields:?} {stats:?}, padded {padded}"),
         format!("{leaves:?} {given:?}, tried: {tried:?}"),
     ))
 }
 
-pub fn objects(w: &Window, pairs: &[(u32, u32)], stats: &ArrayDecodeStats, verdict: Verdict) -> Result<(), Difference> {
+pub fn objects(w: &Window, pairs: &[(u32, u32)], stats: &ArrayDecodeStats, verdict: Verdict, padded: u32) -> Result<(), Difference> {
     let mut given = before();
     let mut found = port::decode_object_ref_array_with_stats(&w.bytes, w.bits, &mut given);
     let mut plain = port::decode_object_ref_array(&w.bytes, w.bits);
@@ -107,17 +112,18 @@ pub fn objects(w: &Window, pairs: &[(u32, u32)], stats: &ArrayDecodeStats, verdi
     faults::answer(Call::DropInPlainPairs, &mut plain);
     let mut tried = port::try_decode_object_ref_array(&w.bytes, w.bits);
     faults::answer(Call::TryPairs, &mut tried);
-    if found == pairs && plain == pairs && same_stats(stats, &mut given) && same_decoded(&tried, stats, verdict, |found| found == pairs) {
+    let same_tried = same_decoded(&tried, stats, (verdict, padded), |found| found == pairs);
+    if found == pairs && plain == pairs && same_stats(stats, &mut given) && same_tried {
         return Ok(());
     }
     Err(Difference::new(
         "the drop-in",
-        format!("{pairs:?} {stats:?}"),
+        format!("{pairs:?} {stats:?}, padded {padded}"),
         format!("{found:?} {given:?}, without counters {plain:?}, tried: {tried:?}"),
     ))
 }
 
-pub fn fast(case: &FastCase, body: Option<&FastArrayDelta>) -> Result<(), Difference> {
+pub fn fast(case: &FastCase, body: Option<&FastArrayDelta>, padded: u32) -> Result<(), Difference> {
     use port::fastarray::{ChecksumMode, decode_fast_array_delta, try_decode_fast_array_delta};
     let mode = if case.flags { ChecksumMode::Present } else { ChecksumMode::Absent };
     let mut found = decode_fast_array_delta(&case.window.bytes, case.window.bits, mode);
@@ -129,16 +135,17 @@ pub fn fast(case: &FastCase, body: Option<&FastArrayDelta>) -> Result<(), Differ
     let mut tried = try_decode_fast_array_delta(&case.window.bytes, case.window.bits, mode);
     faults::answer(Call::TryFastArray, &mut tried);
     let tried_same = match &tried {
-        Ok(given) => body.is_some_and(|body| format!("{body:?}") == format!("{given:?}")),
+        Ok(given) => body.is_some_and(|body| format!("{body:?}") == format!("{:?}", given.delta)) && given.padded == padded,
         Err(refusal) => body.is_none() && *refusal == refused(6, [0; 3]),
     };
     if rust == found && tried_same {
         return Ok(());
     }
+    let rust = format!("{rust}, padded {padded}");
     Err(Difference::new("the drop-in", rust, format!("{found}, tried: {tried:?}")))
 }
 
-pub fn movement(case: &MovementCase, answer: &Result<FRepMovement, DecodeError>, position: u64) -> Result<(), Difference> {
+pub fn movement(case: &MovementCase, answer: &Result<FRepMovement, DecodeError>, position: u64, padded: u32) -> Result<(), Difference> {
     let (rotation, location) = case.quantization();
     let rotation = match rotation {
         RotatorQuantization::ByteComponents => port::RotatorQuantization::ByteComponents,
@@ -156,12 +163,15 @@ pub fn movement(case: &MovementCase, answer: &Result<FRepMovement, DecodeError>,
     let found = found.map(|m| format!("{m} {m:?}")).map_err(|e| format!("{e:?}"));
     let mut tried = port::try_read_rep_movement(&case.window.bytes, case.window.bits, rotation, location);
     faults::answer(Call::TryMovement, &mut tried);
-    let expected = answer.as_ref().map(|m| (format!("{m:?}"), position)).map_err(of_decode_error);
-    let tried = tried.map(|(m, position)| (format!("{m:?}"), position));
+    let expected = answer
+        .as_ref()
+        .map(|m| (format!("{m:?}"), position, padded))
+        .map_err(of_decode_error);
+    let tried = tried.map(|read| (format!("{:?}", read.record), read.used, read.padded));
     if rust == found && expected == tried {
         return Ok(());
     }
-    let rust = format!("{rust:?} @{position}");
+    let rust = format!("{rust:?} @{position}, padded {padded}");
     Err(Difference::new("the drop-in", rust, format!("{found:?}, tried: {tried:?}")))
 }
 

@@ -23,9 +23,13 @@ fn empty() -> Window {
     Window { bytes: vec![], bits: 0 }
 }
 
-/// A level that leads back to itself by the handles 0 and 1, in the types of both sides.
+/// A level that leads back to itself by the handles 0 and 1, in the types of both sides and of the counting copy.
 static RUST_CYCLE: decode::array::ArrayFieldSchema = decode::array::ArrayFieldSchema {
     sub_arrays: &[(0, &RUST_CYCLE), (1, &RUST_CYCLE)],
+    field_names: &[(0, "a")],
+};
+static COUNTING_CYCLE: counting_decode::array::ArrayFieldSchema = counting_decode::array::ArrayFieldSchema {
+    sub_arrays: &[(0, &COUNTING_CYCLE), (1, &COUNTING_CYCLE)],
     field_names: &[(0, "a")],
 };
 static PORT_CYCLE: vrf_proved::ArrayFieldSchema = vrf_proved::ArrayFieldSchema {
@@ -41,6 +45,7 @@ fn cycle() -> (Rc<Schema>, Rc<Declared>) {
         rows: [[0, 0, 0, 0, 0], [0, 0, 1, 0, 0], [0, 1, 0, 0, 1]].concat(),
         names: b"a".to_vec(),
         linked: Some(&RUST_CYCLE),
+        counting: Some(&COUNTING_CYCLE),
         dropin: Some(&PORT_CYCLE),
         twelve: None,
     };

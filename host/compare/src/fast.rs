@@ -1,6 +1,7 @@
 //! Fast-array bodies.
 use crate::answer::{Difference, Outcome, refused, told};
 use crate::lent::Room;
+use crate::padded;
 use crate::port::Desk;
 use crate::window::Window;
 use decode::fastarray::{ChecksumMode, FastArrayDelta, decode_fast_array_delta};
@@ -58,7 +59,8 @@ impl FastCase {
         let mode = if self.flags { ChecksumMode::Present } else { ChecksumMode::Absent };
         let (bytes, bits) = (&self.window.bytes, self.window.bits);
         let given = decode_fast_array_delta(bytes, bits, mode);
-        crate::dropin::fast(self, given.as_ref())?;
+        let padded = given.as_ref().map_or(0, |_| padded::of_fast(self));
+        crate::dropin::fast(self, given.as_ref(), padded)?;
         let Some(d) = given else {
             lend(desk, [4; 3], Room::Longer);
             let answer = desk.fast_array(bytes, bits, self.flags);
@@ -75,9 +77,9 @@ impl FastCase {
         for room in Room::all(flat.needs()) {
             lend(desk, room.of(flat.needs()), room);
             let answer = desk.fast_array(bytes, bits, self.flags);
-            if !agrees(&answer, desk, &d, &flat, room) {
+            if !agrees(&answer, desk, (&d, padded), &flat, room) {
                 let call = room.name(["deleted", "items", "fields"]);
-                let rust = format!("{d:?}, needs {:?}", flat.records());
+                let rust = format!("{d:?}, padded {padded}, needs {:?}", flat.records());
                 return Err(Difference::new(call, rust, shown(&answer, desk)));
             }
         }
@@ -89,13 +91,16 @@ impl FastCase {
     }
 }
 
-fn agrees(answer: &Result<FastArray, Refusal>, desk: &Desk, d: &FastArrayDelta, flat: &Flat, room: Room) -> bool {
+/// `given`: the Rust's body, and its padded numbers.
+fn agrees(answer: &Result<FastArray, Refusal>, desk: &Desk, given: (&FastArrayDelta, u32), flat: &Flat, room: Room) -> bool {
+    let (d, padded) = given;
     match (answer, room) {
         (Err(r), Room::Short(_)) => r.number == 3 && r.values == flat.records() && untouched(desk),
         (Ok(f), Room::Full | Room::Longer) => {
             [f.deletes, f.items, f.fields].map(|n| n as u64) == flat.records()
                 && [f.deletes, f.items] == [d.header.num_deletes, d.header.num_changed].map(|n| n as usize)
                 && (f.key, f.base, f.used) == (d.header.array_replication_key, d.header.base_replication_key, d.consumed_bits)
+                && f.padded == padded
                 && d.supports_delta_struct
                 && desk.deleted.holds(&flat.deleted)
                 && desk.items.holds(&flat.items)

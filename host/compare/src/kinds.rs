@@ -2,7 +2,7 @@
 use crate::bits::Bits;
 use crate::case::Case;
 use crate::generate::tables::{Bank, cyclic, random_declared};
-use crate::generate::{arrays, edges, fast, numbers, readers, refusals, totals};
+use crate::generate::{arrays, edges, fast, numbers, padded, readers, refusals, totals};
 use crate::objects::ObjectCase;
 use crate::openings::OpeningCase;
 use crate::rng::Rng;
@@ -50,7 +50,8 @@ const fn kind(name: &'static str, share: usize, what: &'static str, draw: fn(&mu
     Kind { name, share, what, draw }
 }
 
-pub const KINDS: [Kind; 23] = [
+/// A kind that is added stands last: the numbers of the others are the streams that they draw from.
+pub const KINDS: [Kind; 24] = [
     kind("none", 40, "struct walks without a schema", |r, s| walk(r, s.none.clone(), false)),
     kind("twelve", 60, "struct walks over the twelve levels, each root", |r, s| {
         let schema = s.twelve[r.below(12)].clone();
@@ -92,6 +93,7 @@ pub const KINDS: [Kind; 23] = [
     kind("totals", 10, "totals of many sets, in two orders and in brackets", |r, _| {
         Case::Totals(totals::case(r))
     }),
+    kind("padded", 20, "padded numbers, all three walks", padded_numbers),
 ];
 
 fn window(rng: &mut Rng, bits: &Bits) -> Window {
@@ -140,6 +142,27 @@ fn edge(rng: &mut Rng, stock: &mut Stock) -> Case {
         exact: !nested && rng.percent(30),
         window: window(rng, &bits),
         schema: if nested { stock.nesting.clone() } else { stock.none.clone() },
+        declared: random_declared(rng),
+    })
+}
+
+fn padded_numbers(rng: &mut Rng, stock: &mut Stock) -> Case {
+    let objects = rng.percent(25);
+    let bits = padded::window(rng, objects);
+    let window = Window::around(rng, &bits);
+    if objects {
+        return Case::Objects(ObjectCase(window));
+    }
+    let exact = rng.percent(20);
+    let schema = if exact {
+        &stock.none
+    } else {
+        &stock.cyclic[rng.below(stock.cyclic.len())]
+    };
+    Case::Walk(WalkCase {
+        exact,
+        window,
+        schema: schema.clone(),
         declared: random_declared(rng),
     })
 }

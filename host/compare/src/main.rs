@@ -19,6 +19,7 @@ mod movement;
 mod numbers;
 mod objects;
 mod openings;
+mod padded;
 mod port;
 mod probes;
 mod read;

@@ -1,7 +1,7 @@
 //! Movement records.
 use crate::answer::{Difference, Outcome, of_bit_error, of_decode_error, told};
-use crate::port;
 use crate::window::Window;
+use crate::{padded, port};
 use decode::decode::{self as rust, DecodeError};
 use decode::types::{FRepMovement, FRotator, FVector, RotatorQuantization, VectorQuantization};
 use vrf_bitio::BitReader;
@@ -28,6 +28,7 @@ struct Flat {
     angular: Option<[u64; 3]>,
     frame: Option<u32>,
     handle: Option<u32>,
+    padded: u32,
 }
 
 fn xyz(v: &FVector) -> [u64; 3] {
@@ -38,7 +39,7 @@ fn angles(r: &FRotator) -> [u32; 3] {
     [r.pitch, r.yaw, r.roll].map(f32::to_bits)
 }
 
-fn of_rust(m: &FRepMovement) -> Flat {
+fn of_rust(m: &FRepMovement, padded: u32) -> Flat {
     Flat {
         sleep: m.simulated_physics_sleep,
         physics: m.rep_physics,
@@ -48,6 +49,7 @@ fn of_rust(m: &FRepMovement) -> Flat {
         angular: m.angular_velocity.as_ref().map(xyz),
         frame: m.server_frame,
         handle: m.server_physics_handle,
+        padded,
     }
 }
 
@@ -63,6 +65,7 @@ fn of_port(m: &Movement) -> Flat {
         angular: m.angular.map(doubles),
         frame: m.frame,
         handle: m.handle,
+        padded: m.padded,
     }
 }
 
@@ -106,8 +109,9 @@ impl MovementCase {
 
     pub fn check(&self) -> Result<Outcome, Difference> {
         let (answer, position) = self.rust();
+        let padded = answer.as_ref().map_or(0, |_| padded::of_movement(self));
         let rust = match &answer {
-            Ok(m) => Ok(of_rust(m)),
+            Ok(m) => Ok(of_rust(m, padded)),
             Err(DecodeError::BitIo(e)) => Err(of_bit_error(e)),
             Err(e) => Err(of_decode_error(e)),
         };
@@ -117,7 +121,7 @@ impl MovementCase {
         if rust != port {
             return Err(Difference::new("movement", text(&rust), text(&port)));
         }
-        crate::dropin::movement(self, &answer, position)?;
+        crate::dropin::movement(self, &answer, position, padded)?;
         Ok(if rust.0.is_ok() { Outcome::Accepted } else { Outcome::Refused })
     }
 

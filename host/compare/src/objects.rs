@@ -1,6 +1,7 @@
 //! Object walks.
 use crate::answer::{Difference, Outcome, told, walked};
 use crate::lent::Room;
+use crate::padded;
 use crate::port::Desk;
 use crate::verdicts;
 use crate::walk::port_counters;
@@ -21,13 +22,14 @@ impl ObjectCase {
         let mut stats = ArrayDecodeStats::default();
         let given = decode_object_ref_array_with_stats(&self.0.bytes, self.0.bits, &mut stats);
         let verdict = verdicts::of_pairs(self.0.bits, stats.is_clean());
+        let padded = padded::of_objects(&self.0, &stats);
         let pairs: Vec<u32> = given.iter().flat_map(|(index, object)| [*index, *object]).collect();
         for room in Room::all([pairs.len()]) {
             let [lent] = room.of([pairs.len()]);
             desk.pairs.lend(lent, room.words());
             let answer = desk.object_array(&self.0.bytes, self.0.bits);
-            if !agrees(&answer, desk, &stats, verdict, &pairs, room) {
-                let rust = text(counters(&stats), verdict, &pairs);
+            if !agrees(&answer, desk, &stats, (verdict, padded), &pairs, room) {
+                let rust = text(counters(&stats), verdict, &pairs, padded);
                 let port = match &answer {
                     Err(r) => format!(
                         "{}{}",
@@ -41,35 +43,40 @@ impl ObjectCase {
                         } else {
                             ", and a cell behind the filled ones is written"
                         };
-                        text(port_counters(&o.counters), o.verdict, filled) + behind
+                        text(port_counters(&o.counters), o.verdict, filled, o.padded) + behind
                     }
                 };
                 return Err(Difference::new(room.name(["pairs"]), rust, port));
             }
         }
-        crate::dropin::objects(&self.0, &given, &stats, verdict)?;
+        crate::dropin::objects(&self.0, &given, &stats, verdict, padded)?;
         Ok(walked(verdict))
     }
 }
 
-fn agrees(answer: &Result<Objects, Refusal>, desk: &Desk, stats: &ArrayDecodeStats, verdict: Verdict, pairs: &[u32], room: Room) -> bool {
+/// `said`: the verdict, and the padded numbers.
+fn agrees(
+    answer: &Result<Objects, Refusal>,
+    desk: &Desk,
+    stats: &ArrayDecodeStats,
+    said: (Verdict, u32),
+    pairs: &[u32],
+    room: Room,
+) -> bool {
     let need = pairs.len() / PAIR_WORDS;
     match (answer, room) {
         (Err(r), Room::Short(_)) => r.number == 3 && r.values == [need as u64, 0, 0] && desk.pairs.holds(&[]),
         (Ok(o), Room::Full | Room::Longer) => {
-            o.pairs == need
-                && port_counters(&o.counters) == counters(stats)
-                && o.verdict == verdict
-                && desk.pairs.holds(pairs)
+            o.pairs == need && port_counters(&o.counters) == counters(stats) && (o.verdict, o.padded) == said && desk.pairs.holds(pairs)
         }
         _ => false,
     }
 }
 
-/// In the oracle's form.
-fn text(counters: [u64; 7], verdict: Verdict, pairs: &[u32]) -> String {
+/// In the oracle's form, with the first number of its trace.
+fn text(counters: [u64; 7], verdict: Verdict, pairs: &[u32], padded: u32) -> String {
     let counters = counters.map(|c| c.to_string()).join(" ");
     let verdict = verdicts::word(verdict);
     let pairs: String = pairs.chunks(PAIR_WORDS).map(|p| format!(" {}:{}", p[0], p[1])).collect();
-    format!("{counters} {verdict} need{pairs}")
+    format!("{counters} {verdict} need{pairs} trace {padded}")
 }

@@ -85,7 +85,9 @@ pub fn read_bits(bytes: &[u8], cursor: Cursor, count: u64) -> ReadAnswer {
 }
 
 pub fn read_packed(bytes: &[u8], cursor: Cursor) -> ReadAnswer {
-    number(Call::ReadPacked, lent::read_packed(bytes, cursor))
+    let mut r = lent::read_packed(bytes, cursor);
+    faults::packed(&mut r);
+    of(r, |p| Value::Packed(p.value, p.bytes, p.padded))
 }
 
 pub fn read_serialized(bytes: &[u8], cursor: Cursor, maximum: u32) -> ReadAnswer {
@@ -121,7 +123,7 @@ pub fn byte_angle_entry(k: u32) -> Option<u32> {
 
 pub fn movement(bytes: &[u8], count: u64, rotation: RotationWidth, location: LocationScale) -> Read<Movement> {
     let mut r = lent::movement(bytes, count, rotation, location);
-    faults::answer(Call::Movement, &mut r);
+    faults::movement(&mut r);
     r
 }
 

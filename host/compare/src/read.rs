@@ -1,5 +1,6 @@
 //! Single reads: at a place of a window that may start anywhere in its bytes.
 use crate::answer::{Difference, Outcome, ReadAnswer, Value, of_bit_error, of_decode_error};
+use crate::padded;
 use crate::port::{self, Desk};
 use crate::window::Window;
 use decode::decode as rust;
@@ -86,7 +87,7 @@ impl ReadCase {
             What::Vector { scale } => rust::vector(&mut r, scale).map(doubles).map_err(|e| of_decode_error(&e)),
             What::Normal => rust::normal(&mut r).map(doubles).map_err(bit),
             What::Rotation { width } => rust::rotation(&mut r, width).map(floats).map_err(bit),
-            What::Packed => r.read_int_packed().map(|v| Value::Number(v.into())).map_err(bit),
+            What::Packed => self.packed(&mut r).map_err(bit),
             What::Serialized { maximum } => r.read_serialized_int(maximum).map(|v| Value::Number(v.into())).map_err(bit),
             What::Bits { count } => r.read_bits(count).map(Value::Number).map_err(bit),
             What::Copy { count, .. } => r.copy_bits_to(target, count).map(|()| Value::Copied).map_err(bit),
@@ -95,6 +96,13 @@ impl ReadCase {
             result,
             position: r.position(),
         }
+    }
+
+    /// The number, and its form by the way that the reader went.
+    fn packed(&self, r: &mut BitReader<'_>) -> Result<Value, BitError> {
+        let value = r.read_int_packed()?;
+        let bytes = ((r.position() - self.skip) / 8) as u32;
+        Ok(Value::Packed(value.into(), bytes, bytes > padded::needed(value)))
     }
 
     pub fn port(&self, desk: &mut Desk) -> ReadAnswer {

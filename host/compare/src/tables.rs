@@ -1,7 +1,7 @@
 //! Schemas and declared names in both forms: as the port is lent them, and as the Rust takes them.
-use crate::dropin;
+use crate::{dropin, padded};
 use decode::array::ArrayFieldSchema;
-use oracle::tables::{Table, levels, unroll, unroll_as};
+use oracle::tables::{Table, builtin, levels, unroll, unroll_as};
 use oracle::text::hex;
 use std::collections::BTreeSet;
 use std::fmt::Write;
@@ -15,6 +15,8 @@ pub struct Schema {
     pub names: Vec<u8>,
     /// For the Rust: the twelve levels' own statics, or the rows unrolled.
     pub linked: Option<&'static ArrayFieldSchema>,
+    /// For the Rust over the counting reader: the rows unrolled.
+    pub counting: Option<&'static counting_decode::array::ArrayFieldSchema>,
     /// For the drop-in: its own statics, or the rows unrolled; `None` too where they are more than it takes.
     pub dropin: Option<&'static vrf_proved::ArrayFieldSchema>,
     /// The root, if this is the port's table of the twelve levels.
@@ -29,6 +31,7 @@ impl Schema {
             rows: vec![],
             names: vec![],
             linked: None,
+            counting: None,
             dropin: None,
             twelve: None,
         })
@@ -44,6 +47,7 @@ impl Schema {
             rows,
             names,
             linked: Some(levels()[root as usize]),
+            counting: unroll_as(&builtin(root), padded::level),
             dropin: Some(dropin::levels()[root as usize]),
             twelve: Some(root),
         })
@@ -61,6 +65,7 @@ impl Schema {
             root,
             rows: table.rows.concat(),
             linked: unroll(&table),
+            counting: unroll_as(&table, padded::level),
             dropin: if unrolled_fits(&table) {
                 unroll_as(&table, dropin::level)
             } else {

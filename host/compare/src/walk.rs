@@ -1,6 +1,7 @@
 //! Struct and exact walks.
 use crate::answer::{Difference, Outcome, told, walked};
 use crate::lent::Room;
+use crate::padded;
 use crate::port::Desk;
 use crate::tables::{Declared, Schema};
 use crate::verdicts;
@@ -25,6 +26,7 @@ pub struct WalkCase {
 pub struct Flat {
     pub counters: [u64; 7],
     pub verdict: Verdict,
+    pub padded: u32,
     pub leaves: Vec<u32>,
     pub paths: Vec<u8>,
     pub payloads: Vec<u8>,
@@ -36,6 +38,7 @@ impl Default for Flat {
         Self {
             counters: [0; 7],
             verdict: Verdict::Empty,
+            padded: 0,
             leaves: vec![],
             paths: vec![],
             payloads: vec![],
@@ -44,9 +47,10 @@ impl Default for Flat {
 }
 
 impl Flat {
-    fn fill(&mut self, bits: u32, fields: &[FlattenedField], stats: &ArrayDecodeStats) {
+    fn fill(&mut self, bits: u32, fields: &[FlattenedField], stats: &ArrayDecodeStats, padded: u32) {
         self.counters = counters(stats);
         self.verdict = verdicts::of_leaves(bits, stats.is_clean());
+        self.padded = padded;
         self.leaves.clear();
         self.paths.clear();
         self.payloads.clear();
@@ -63,7 +67,7 @@ impl Flat {
     }
 }
 
-/// In the oracle's form.
+/// In the oracle's form, with the first number of its trace.
 impl fmt::Display for Flat {
     fn fmt(&self, f: &mut fmt::Formatter<'_>) -> fmt::Result {
         for c in self.counters {
@@ -77,7 +81,7 @@ impl fmt::Display for Flat {
             let payload = part(&self.payloads, l[4], l[3].div_ceil(8));
             write!(f, " {}:{}:{}:{}", esc(path), l[2], l[3], hex(payload))?;
         }
-        Ok(())
+        write!(f, " trace {}", self.padded)
     }
 }
 
@@ -135,7 +139,7 @@ impl WalkCase {
     /// `expected` is scratch: it holds the Rust's answer afterwards.
     pub fn check(&self, desk: &mut Desk, expected: &mut Flat) -> Result<Outcome, Difference> {
         let (fields, stats) = self.rust();
-        expected.fill(self.window.bits, &fields, &stats);
+        expected.fill(self.window.bits, &fields, &stats, padded::of_walk(self, &stats));
         let needs = expected.needs();
         for room in Room::all(needs) {
             let lent = room.of(needs);
@@ -153,7 +157,7 @@ impl WalkCase {
                 return Err(Difference::new(call, format!("{asked}{expected}"), shown(&answer, desk, needs)));
             }
         }
-        crate::dropin::walk(self, &fields, &stats, expected.verdict)?;
+        crate::dropin::walk(self, &fields, &stats, expected.verdict, expected.padded)?;
         Ok(walked(expected.verdict))
     }
 
@@ -183,6 +187,7 @@ fn agrees(answer: &Result<Walk, Refusal>, desk: &Desk, e: &Flat, room: Room) -> 
             (w.leaves, w.path_bytes, w.payload_bytes) == (leaves, paths, payloads)
                 && port_counters(&w.counters) == e.counters
                 && w.verdict == e.verdict
+                && w.padded == e.padded
                 && desk.leaves.holds(&e.leaves)
                 && desk.paths.holds(&e.paths)
                 && desk.payloads.holds(&e.payloads)
@@ -199,6 +204,7 @@ fn shown(answer: &Result<Walk, Refusal>, desk: &Desk, needs: [usize; 3]) -> Stri
             let flat = Flat {
                 counters: port_counters(&w.counters),
                 verdict: w.verdict,
+                padded: w.padded,
                 leaves: desk.leaves.front(LEAF_WORDS * w.leaves).to_vec(),
                 paths: desk.paths.front(w.path_bytes).to_vec(),
                 payloads: desk.payloads.front(w.payload_bytes).to_vec(),

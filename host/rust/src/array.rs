@@ -38,6 +38,8 @@ pub struct Decoded<T> {
     pub stats: ArrayDecodeStats,
     /// Whether anything is damaged or missing, or nothing was sent.
     pub verdict: Verdict,
+    /// How many padded numbers were read ([`lent`] says what they are); the verdict doesn't depend on it.
+    pub padded: u32,
 }
 
 /// The leaves of the array of structs in the first `bit_count` bits of `data`; what was counted is added to `stats`.
@@ -86,6 +88,10 @@ pub fn decode_struct_array(
 /// // without the last of its closing zeros
 /// let walk = try_decode_struct_array(&window, 48, None, &[])?;
 /// assert_eq!((walk.values.len(), walk.stats.implicit_terminations, walk.verdict), (1, 1, Verdict::Partial));
+///
+/// // its count in two bytes, where one would do
+/// let walk = try_decode_struct_array(&[&[0x03, 0x00], &window[1..]].concat(), 64, None, &[])?;
+/// assert_eq!((walk.padded, walk.verdict), (1, Verdict::Clean));
 ///
 /// // nothing was sent; and an array of no elements, which was
 /// assert_eq!(try_decode_struct_array(&[], 0, None, &[])?.verdict, Verdict::Empty);
@@ -198,6 +204,7 @@ pub fn try_decode_object_ref_array(data: &[u8], bit_count: u32) -> Result<Decode
                 .collect(),
             stats: walk.counters,
             verdict: walk.verdict,
+            padded: walk.padded,
         })
     })
 }
@@ -272,6 +279,7 @@ fn leaves_of(walk: impl Fn(lent::Buffers<'_>) -> Result<lent::Walk, Refusal>) ->
             values: lent.owned(&walk),
             stats: walk.counters,
             verdict: walk.verdict,
+            padded: walk.padded,
         })
     })
 }

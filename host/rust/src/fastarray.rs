@@ -65,6 +65,16 @@ pub struct FastArrayDelta {
     pub consumed_bits: u32,
 }
 
+/// What [`try_decode_fast_array_delta`] gives of an accepted body.
+#[derive(Debug, Clone, PartialEq, Eq)]
+#[must_use]
+pub struct FastArrayRead {
+    /// The body.
+    pub delta: FastArrayDelta,
+    /// How many of its handles, widths and closing zeros are padded ([`lent`] says what that is).
+    pub padded: u32,
+}
+
 /// The fast-array body that the first `bit_count` bits are, or `None` if they are none, if `payload` has not as many bytes as the bits
 /// take, or if the window is longer than 524,288 bits ([`try_decode_fast_array_delta`] tells these apart).
 ///
@@ -81,22 +91,36 @@ pub struct FastArrayDelta {
 /// ```
 #[must_use]
 pub fn decode_fast_array_delta(payload: &[u8], bit_count: u32, checksum_mode: ChecksumMode) -> Option<FastArrayDelta> {
-    try_decode_fast_array_delta(payload, bit_count, checksum_mode).ok()
+    try_decode_fast_array_delta(payload, bit_count, checksum_mode)
+        .ok()
+        .map(|read| read.delta)
 }
 
-/// [`decode_fast_array_delta`], or the refusal: 1 for a window that is too long, 6 for bits that are no fast-array body.
+/// [`decode_fast_array_delta`] with the number of padded numbers, or the refusal: 1 for a window that is too long, 6 for bits that are no
+/// fast-array body.
 ///
 /// ```
 /// use vrf_proved::fastarray::{try_decode_fast_array_delta, ChecksumMode};
 ///
+/// // the leading bit; keys 1 and 0; nothing deleted; one item, its id 0, with no fields: a closing zero of one byte, then of two
+/// let mut body = [0u8; 23];
+/// (body[0], body[12]) = (0x03, 0x02);
+/// assert_eq!(try_decode_fast_array_delta(&body[..22], 169, ChecksumMode::Absent)?.padded, 0);
+/// body[20] = 0x02;
+/// assert_eq!(try_decode_fast_array_delta(&body, 177, ChecksumMode::Absent)?.padded, 1);
+///
 /// assert_eq!(try_decode_fast_array_delta(&[0; 17], 129, ChecksumMode::Present).unwrap_err().number, 6);
 /// assert_eq!(try_decode_fast_array_delta(&[1; 65_537], 524_289, ChecksumMode::Present).unwrap_err().number, 1);
+/// # Ok::<(), vrf_proved::lent::Refusal>(())
 /// ```
-pub fn try_decode_fast_array_delta(payload: &[u8], bit_count: u32, checksum_mode: ChecksumMode) -> Result<FastArrayDelta, Refusal> {
+pub fn try_decode_fast_array_delta(payload: &[u8], bit_count: u32, checksum_mode: ChecksumMode) -> Result<FastArrayRead, Refusal> {
     let flags = checksum_mode == ChecksumMode::Present;
     scratch::lend(&BODY, |lent: &mut Body| {
         let body = lent::fast_array(payload, bit_count, flags, &mut lent.deleted, &mut lent.items, &mut lent.fields)?;
-        Ok(lent.delta(&body))
+        Ok(FastArrayRead {
+            delta: lent.delta(&body),
+            padded: body.padded,
+        })
     })
 }
 

@@ -19,6 +19,25 @@
 //! assert_eq!((refused.number, refused.values), (3, [1, 7, 1]));
 //! # Ok::<(), lent::Refusal>(())
 //! ```
+//!
+//! # Padded numbers
+//!
+//! A packed number is padded if it takes more bytes than its value needs: `01 00` for zero. It is accepted everywhere, and every answer
+//! tells: a [`Packed`] its bytes and whether there is a shorter form, the others how many padded numbers were read. For a box it means that
+//! the recorder which wrote the window uses long forms. Nothing is damaged or missing by that; no counter and no verdict asks whether a
+//! number is padded. A number counts once it is read, in every level, also where its value is then turned away; one that can't be read
+//! doesn't count, nor does one that a walk puts back behind the last element or field that it takes.
+//!
+//! ```
+//! use vrf_proved::lent::{self, Buffers, Tables, Verdict};
+//!
+//! // no elements: the count and the closing zero, then both of them padded
+//! for (bytes, padded) in [(&[0x00, 0x00][..], 0), (&[0x01, 0x00, 0x01, 0x01, 0x00], 2)] {
+//!     let walk = lent::struct_array(bytes, 8 * bytes.len() as u32, Tables::NONE, Buffers::default())?;
+//!     assert_eq!((walk.verdict, walk.padded), (Verdict::Clean, padded));
+//! }
+//! # Ok::<(), lent::Refusal>(())
+//! ```
 
 use crate::raw;
 use crate::stats::ArrayDecodeStats;
@@ -204,6 +223,8 @@ pub struct Walk {
     pub counters: ArrayDecodeStats,
     /// Clean, partial or, of no bits, empty.
     pub verdict: Verdict,
+    /// How many padded numbers were read, children's among them.
+    pub padded: u32,
 }
 
 /// An accepted object walk.
@@ -216,6 +237,8 @@ pub struct Objects {
     pub counters: ArrayDecodeStats,
     /// Clean or partial; of no bits it is partial, with one error.
     pub verdict: Verdict,
+    /// How many padded numbers were read, the objects among them.
+    pub padded: u32,
 }
 
 #[inline]
@@ -230,6 +253,7 @@ fn walk_of(w: raw::VrfWalk) -> Result<Walk, Refusal> {
         payload_bytes: w.payload_bytes as usize,
         counters: w.counters.into(),
         verdict: verdict_of(w.verdict),
+        padded: w.padded,
     })
 }
 
@@ -333,6 +357,7 @@ pub fn object_array(bytes: &[u8], bits: u32, pairs: &mut [u32]) -> Result<Object
         pairs: o.pairs as usize,
         counters: o.counters.into(),
         verdict: verdict_of(o.verdict),
+        padded: o.padded,
     })
 }
 
@@ -455,6 +480,8 @@ pub struct FastArray {
     pub base: i32,
     /// All bits of the window.
     pub used: u32,
+    /// How many of the handles, widths and closing zeros are padded.
+    pub padded: u32,
 }
 
 /// The fast-array body that the first `bits` bits are. `flags`: whether a flag bit stands behind each item's id; the bits can't tell.
@@ -505,6 +532,7 @@ pub fn fast_array(
         key: f.key,
         base: f.base,
         used: f.used,
+        padded: f.padded,
     })
 }
 
@@ -584,19 +612,39 @@ pub fn read_bits(bytes: &[u8], cursor: Cursor, count: u64) -> Read<u64> {
     number_of(unsafe { raw::vrf_read_bits(bytes.as_ptr(), bytes.len(), cursor.into(), count) })
 }
 
+/// A packed number, and the form that it has.
+#[derive(Debug, Clone, Copy, PartialEq, Eq)]
+#[must_use]
+pub struct Packed {
+    /// The number, below 2^32.
+    pub value: u64,
+    /// How many bytes it takes: 1 to 5.
+    pub bytes: u32,
+    /// Whether it could be had in fewer.
+    pub padded: bool,
+}
+
 /// A packed number. Refusals: 14, 7, 8, 9.
 ///
 /// ```
-/// # use vrf_proved::lent::{self, Cursor};
+/// # use vrf_proved::lent::{self, Cursor, Packed};
 /// let read = lent::read_packed(&[0x03, 0x02], Cursor::over(16));
-/// assert_eq!((read.result, read.position), (Ok(129), 16));
+/// assert_eq!((read.result, read.position), (Ok(Packed { value: 129, bytes: 2, padded: false }), 16));
+/// let padded = lent::read_packed(&[0x03, 0x00], Cursor::over(16));
+/// assert_eq!(padded.result, Ok(Packed { value: 1, bytes: 2, padded: true }));
 /// let endless = lent::read_packed(&[0xff; 6], Cursor::over(48));
 /// assert_eq!((endless.result.unwrap_err().number, endless.position), (8, 40));
 /// ```
 #[inline]
-pub fn read_packed(bytes: &[u8], cursor: Cursor) -> Read<u64> {
+pub fn read_packed(bytes: &[u8], cursor: Cursor) -> Read<Packed> {
     // SAFETY: as in `struct_array`.
-    number_of(unsafe { raw::vrf_read_packed(bytes.as_ptr(), bytes.len(), cursor.into()) })
+    let r = unsafe { raw::vrf_read_packed(bytes.as_ptr(), bytes.len(), cursor.into()) };
+    let value = Packed {
+        value: r.value,
+        bytes: r.bytes,
+        padded: r.padded,
+    };
+    read(r.refusal, [r.first, r.second, r.third], value, r.position)
 }
 
 /// An integer below `maximum`. Refusals: 14, 10, 7.
@@ -728,6 +776,8 @@ pub struct Movement {
     pub frame: Option<u32>,
     /// The server's physics handle, if sent.
     pub handle: Option<u32>,
+    /// How many of frame and handle are padded: 0, 1 or 2.
+    pub padded: u32,
 }
 
 /// How a movement's rotation is sent.
@@ -774,6 +824,7 @@ pub fn movement(bytes: &[u8], count: u64, rotation: RotationWidth, location: Loc
         physics: m.physics,
         frame: m.frame.present.then_some(m.frame.value),
         handle: m.handle.present.then_some(m.handle.value),
+        padded: m.padded,
     };
     read(m.refusal, [m.first, m.second, m.third], value, m.position)
 }

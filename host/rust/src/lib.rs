@@ -24,7 +24,7 @@ pub use array::{
     MAX_FIELDS_PER_ELEMENT, MAX_RECURSION_DEPTH,
 };
 pub use error::{BitError, DecodeError};
-pub use movement::{read_rep_movement, try_read_rep_movement};
+pub use movement::{read_rep_movement, try_read_rep_movement, MovementRead};
 pub use schema::{
     ArrayFieldSchema, ABILITY_CASTS_SCHEMA, ABILITY_EFFECTS_SCHEMA, COMBAT_ROUNDS_SCHEMA, LIFE_CHANGE_BY_SECTION_SCHEMA,
     LIFE_CHANGE_DAMAGE_SCHEMA, LIFE_CHANGE_SECTION_SCHEMA,

@@ -25,18 +25,30 @@ pub fn read_rep_movement(
     rotation: RotatorQuantization,
     location: VectorQuantization,
 ) -> Result<FRepMovement, DecodeError> {
-    let (record, _) = try_read_rep_movement(data, bit_count, rotation, location)?;
-    Ok(record)
+    let read = try_read_rep_movement(data, bit_count, rotation, location)?;
+    Ok(read.record)
 }
 
-/// [`read_rep_movement`] with the bits that the record takes, or the refusal: 1, 14, 7, 8, 9 or 12.
+/// What [`try_read_rep_movement`] gives of an accepted record.
+#[derive(Debug, Clone, PartialEq)]
+#[must_use]
+pub struct MovementRead {
+    /// The record.
+    pub record: FRepMovement,
+    /// The bits that it takes.
+    pub used: u64,
+    /// How many of its frame and handle are padded: 0, 1 or 2 ([`lent`] says what that is).
+    pub padded: u32,
+}
+
+/// [`read_rep_movement`] with the bits that the record takes and its padded numbers, or the refusal: 1, 14, 7, 8, 9 or 12.
 ///
 /// ```
 /// use vrf_proved::{try_read_rep_movement, RotatorQuantization, VectorQuantization};
 ///
 /// let (width, unit) = (RotatorQuantization::ByteComponents, VectorQuantization::RoundWholeNumber);
-/// let (record, used) = try_read_rep_movement(&[0x10, 0x08, 0x02, 0x00], 32, width, unit)?;
-/// assert_eq!((record.location.x, used), (-1.0, 27));
+/// let read = try_read_rep_movement(&[0x10, 0x08, 0x02, 0x00], 32, width, unit)?;
+/// assert_eq!((read.record.location.x, read.used, read.padded), (-1.0, 27, 0));
 ///
 /// let past_its_bytes = try_read_rep_movement(&[0x10, 0x08], 27, width, unit).unwrap_err();
 /// assert_eq!((past_its_bytes.number, past_its_bytes.values), (14, [27, 16, 0]));
@@ -47,9 +59,14 @@ pub fn try_read_rep_movement(
     bit_count: u32,
     rotation: RotatorQuantization,
     location: VectorQuantization,
-) -> Result<(FRepMovement, u64), Refusal> {
+) -> Result<MovementRead, Refusal> {
     let read = lent::movement(data, u64::from(bit_count), width_of(rotation), scale_of(location));
-    Ok((record_of(read.result?), read.position))
+    let movement = read.result?;
+    Ok(MovementRead {
+        record: record_of(&movement),
+        used: read.position,
+        padded: movement.padded,
+    })
 }
 
 fn width_of(rotation: RotatorQuantization) -> RotationWidth {
@@ -67,7 +84,7 @@ fn scale_of(location: VectorQuantization) -> LocationScale {
     }
 }
 
-fn record_of(m: lent::Movement) -> FRepMovement {
+fn record_of(m: &lent::Movement) -> FRepMovement {
     FRepMovement {
         location: vector_of(m.location),
         rotation: rotator_of(m.rotation),

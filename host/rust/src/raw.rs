@@ -28,6 +28,7 @@ pub(crate) struct VrfWalk {
     pub payload_bytes: u32,
     pub counters: VrfCounters,
     pub verdict: u32,
+    pub padded: u32,
 }
 
 #[repr(C)]
@@ -37,6 +38,7 @@ pub(crate) struct VrfObjects {
     pub pairs: u32,
     pub counters: VrfCounters,
     pub verdict: u32,
+    pub padded: u32,
 }
 
 #[repr(C)]
@@ -65,6 +67,7 @@ pub(crate) struct VrfFastArray {
     pub key: i32,
     pub base: i32,
     pub used: u32,
+    pub padded: u32,
 }
 
 #[repr(C)]
@@ -84,6 +87,19 @@ pub(crate) struct VrfRead {
     pub third: u64,
     pub value: u64,
     pub position: u64,
+}
+
+#[repr(C)]
+#[derive(Debug, Clone, Copy, Default, PartialEq)]
+pub(crate) struct VrfPacked {
+    pub refusal: u32,
+    pub first: u64,
+    pub second: u64,
+    pub third: u64,
+    pub value: u64,
+    pub position: u64,
+    pub bytes: u32,
+    pub padded: bool,
 }
 
 #[repr(C)]
@@ -154,6 +170,7 @@ pub(crate) struct VrfMovement {
     pub frame: VrfNumber,
     pub handle: VrfNumber,
     pub position: u64,
+    pub padded: u32,
 }
 
 extern "C" {
@@ -218,7 +235,7 @@ extern "C" {
 
     pub(crate) fn vrf_read_bits(bytes: *const u8, bytes_len: usize, cursor: VrfCursor, count: u64) -> VrfRead;
 
-    pub(crate) fn vrf_read_packed(bytes: *const u8, bytes_len: usize, cursor: VrfCursor) -> VrfRead;
+    pub(crate) fn vrf_read_packed(bytes: *const u8, bytes_len: usize, cursor: VrfCursor) -> VrfPacked;
 
     pub(crate) fn vrf_read_serialized(bytes: *const u8, bytes_len: usize, cursor: VrfCursor, maximum: u32) -> VrfRead;
 

@@ -4,7 +4,7 @@
 mod common;
 
 use common::{stats, Window};
-use vrf_proved::lent::{self, Buffers, Cursor, LocationScale, Movement, Read, Refusal, RotationWidth, Tables, Verdict, NONE};
+use vrf_proved::lent::{self, Buffers, Cursor, LocationScale, Movement, Packed, Read, Refusal, RotationWidth, Tables, Verdict, NONE};
 
 /// What stands in lent buffers before a call.
 const BYTE: u8 = 0xa5;
@@ -67,20 +67,25 @@ fn at_every_length<T: std::fmt::Debug>(need: [usize; 3], records: [u64; 3], call
 }
 
 fn packed(numbers: &[u32]) -> Window {
+    padded(numbers, 1)
+}
+
+/// Each number in `size` bytes, or in as many as it needs.
+fn padded(numbers: &[u32], size: u32) -> Window {
     let mut window = Window::default();
-    numbers.iter().for_each(|&number| window.packed(number));
+    numbers.iter().for_each(|&number| window.padded(number, size));
     window
 }
 
-/// Moves all seven counters, each to a number of its own.
+/// Moves all seven counters, each to a number of its own. Nine numbers are padded: five counts and four indices.
 fn all_counters() -> Window {
-    let four_elements = Window::array(&[vec![], vec![], vec![], vec![(7, Window::of(0x133, 9))]]);
+    let four_elements = Window::padded_array(&[vec![], vec![], vec![], vec![(7, Window::of(0x133, 9))]], 3);
     let mut left_over = packed(&[0, 0]);
     left_over.push(0x7ff, 11);
     let mut kept = packed(&[4097]);
     kept.push(0x19, 5);
     let mut damaged = vec![(2, Window::of(0, 4)); 3];
-    damaged.extend(vec![(2, packed(&[1])); 4]);
+    damaged.extend(vec![(2, padded(&[1], 2)); 4]);
     damaged.extend([(2, packed(&[4097])), (2, kept), (2, left_over)]);
     let whole = vec![
         (1, Window::of(0x5, 3)),
@@ -115,7 +120,7 @@ fn struct_walks() {
     let (answer, lent) = at_every_length([25, 56, 7], [5, 56, 7], walk);
     assert_eq!((answer.leaves, answer.path_bytes, answer.payload_bytes), (5, 56, 7));
     assert_eq!(answer.counters, stats([6, 5, 2, 3, 11, 13, 4]));
-    assert_eq!(answer.verdict, Verdict::Partial);
+    assert_eq!((answer.verdict, answer.padded), (Verdict::Partial, 9));
     let leaves = [
         [0, 9, 1, 3, 0],
         [9, 8, 5, 12, 1],
@@ -174,13 +179,14 @@ fn exact_walks() {
         vec![(199, Window::of(2, 2))],
         vec![],
     ];
-    let mut window = Window::array(&elements);
+    let mut window = Window::padded_array(&elements, 2);
     window.push(0, 8);
     let (declared, pool) = ([6, 0, NONE, 0, NONE, 0, 0, 6], b"Deaths");
     let walk = |lent: Buffers<'_>| lent::struct_array_exact(&window.bytes, window.bits, &declared, pool, lent);
     let (answer, lent) = at_every_length([15, 23, 4], [3, 23, 4], walk);
     assert_eq!((answer.leaves, answer.path_bytes, answer.payload_bytes), (3, 23, 4));
     assert_eq!((answer.counters, answer.verdict), (stats([4, 3, 0, 0, 0, 8, 0]), Verdict::Partial));
+    assert_eq!(answer.padded, 5, "the count and four indices");
     let leaves = [[0, 4, 0, 1, 0], [4, 10, 3, 16, 1], [14, 9, 199, 2, 3]];
     lent.hold(&leaves.concat(), b"[1].[1].Deaths[2]._h199", &[0x01, 0xcd, 0xab, 0x02]);
 
@@ -201,18 +207,18 @@ fn exact_walks() {
 fn object_walks() {
     let nineteen = vec![(0, Window::default()), (1, Window::of(14, 8)), (2, Window::of(0, 19))];
     let mut window = Window::default();
-    window.packed(8);
+    window.padded(8, 2);
     let elements = [
         vec![],
         nineteen,
-        vec![(6, packed(&[300]))],
+        vec![(6, padded(&[300], 3))],
         vec![(0, Window::of(0, 7))],
-        vec![(0, Window::of(0, 9))],
+        vec![(0, Window::of(1, 17))],
         vec![(0, packed(&[0]))],
         vec![],
     ];
     for (index, fields) in (1..).zip(&elements) {
-        window.packed(index);
+        window.padded(index, if index < 3 { 2 } else { 1 });
         fields.iter().for_each(|(handle, payload)| window.field(*handle, payload));
         window.packed(0);
     }
@@ -224,6 +230,10 @@ fn object_walks() {
         let answer = lent::object_array(&window.bytes, window.bits, &mut pairs[..length]).unwrap();
         assert_eq!((answer.pairs, answer.verdict), (3, Verdict::Partial));
         assert_eq!(answer.counters, stats([7, 3, 0, 2, 19, 21, 0]));
+        assert_eq!(
+            answer.padded, 5,
+            "the count, two indices, two objects of which one doesn't fill its payload"
+        );
         assert_eq!(pairs, [1, 7, 2, 300, 5, 0, WORD, WORD, WORD, WORD]);
     }
     let mut pairs = [WORD; 5];
@@ -234,7 +244,10 @@ fn object_walks() {
     let whole = lent::object_array(&[0, 0], 16, &mut []).unwrap();
     assert_eq!((whole.pairs, whole.counters, whole.verdict), (0, stats([0; 7]), Verdict::Clean));
     let no_bits = lent::object_array(&window.bytes, 0, &mut []).unwrap();
-    assert_eq!((no_bits.counters, no_bits.verdict), (stats([0, 0, 0, 1, 0, 0, 0]), Verdict::Partial));
+    assert_eq!(
+        (no_bits.counters, no_bits.verdict),
+        (stats([0, 0, 0, 1, 0, 0, 0]), Verdict::Partial)
+    );
 }
 
 #[test]
@@ -276,7 +289,8 @@ fn schema() {
     }
 }
 
-/// A body of four deleted ids and three items with 3, 2 and no fields; where the payloads start.
+/// A body of four deleted ids and three items with 3, 2 and no fields; where the payloads start. Six of its numbers are padded: handles
+/// and widths of the first two fields, and the zeros of the first two items.
 fn body(flags: bool) -> (Window, Vec<u32>) {
     let mut window = Window::of(1, 1);
     for number in [100, -7i32 as u32, 4, 3, 11, -12i32 as u32, 1 << 31, 14] {
@@ -288,10 +302,10 @@ fn body(flags: bool) -> (Window, Vec<u32>) {
         window.push(1, u32::from(flags));
         for handle in handles {
             let width = 2 * (handle - 30) + 1;
-            window.field(handle, &Window::of(u64::MAX, width));
+            window.padded_field(handle, &Window::of(u64::MAX, width), if handle < 32 { 2 } else { 1 });
             starts.push(window.bits - width);
         }
-        window.packed(0);
+        window.padded(0, if id == 22 { 1 } else { 5 });
     }
     (window, starts)
 }
@@ -310,7 +324,7 @@ fn fast_arrays() {
             let (answer, deleted, items, fields) = read(lengths);
             let answer = answer.unwrap();
             assert_eq!((answer.deletes, answer.items, answer.fields), (4, 3, 5));
-            assert_eq!((answer.key, answer.base, answer.used), (100, -7, window.bits));
+            assert_eq!((answer.key, answer.base, answer.used, answer.padded), (100, -7, window.bits, 6));
             assert_eq!(deleted, [11, -12, i32::MIN, 14, -1, -1, -1, -1, -1]);
             assert_eq!(items, [20, 3, 0xffff_fff0, 2, 22, 0, WORD, WORD, WORD]);
             let sent = (0..5).map(|field| [30 + field, starts[field as usize], 2 * field + 1]);
@@ -359,8 +373,13 @@ fn reads() {
     let mut window = Window::of(0x3f, 6);
     window.packed(1000);
     window.packed(u32::MAX);
-    accepted(lent::read_packed(&window.bytes, at(2, 4, 60)), 1000, 20);
-    accepted(lent::read_packed(&window.bytes, at(2, 20, 60)), u64::from(u32::MAX), 60);
+    let number = |value, bytes, padded| Packed { value, bytes, padded };
+    accepted(lent::read_packed(&window.bytes, at(2, 4, 60)), number(1000, 2, false), 20);
+    let largest = number(u64::from(u32::MAX), 5, false);
+    accepted(lent::read_packed(&window.bytes, at(2, 20, 60)), largest, 60);
+    let mut long = Window::of(0, 3);
+    long.padded(1000, 4);
+    accepted(lent::read_packed(&long.bytes, at(1, 2, 34)), number(1000, 4, true), 34);
     refused(lent::read_packed(&window.bytes, at(2, 4, 19)), 7, [12, 19, 8], 12);
     refused(lent::read_packed(&window.bytes[..7], at(2, 4, 60)), 14, [60, 56, 0], 4);
     refused(lent::read_packed(&[0xff; 6], at(1, 3, 45)), 8, [3, 0, 0], 43);
@@ -474,7 +493,7 @@ fn movement(flags: u64, width: u32) -> Window {
         window.packed(u32::MAX);
     }
     if flags & HANDLE != 0 {
-        window.packed(16);
+        window.padded(16, 3);
     }
     window
 }
@@ -489,6 +508,7 @@ fn expected(flags: u64, scale: f64, step: f32) -> Movement {
         physics: flags & PHYSICS != 0,
         frame: (flags & FRAME != 0).then_some(u32::MAX),
         handle: (flags & HANDLE != 0).then_some(16),
+        padded: u32::from(flags & HANDLE != 0),
     }
 }
 
@@ -512,7 +532,8 @@ fn movements() {
     refused(read(&window, 524_289), 1, [0; 3], 0);
     refused(read(&window, 8 * bytes + 1), 14, [8 * bytes + 1, 8 * bytes, 0], 0);
     refused(read(&window, 60), 7, [57, 60, 8], 57);
-    let (frame, fifth) = (bits - 48, (bits - 16) as usize);
+    // the handle takes the last three bytes
+    let (frame, fifth) = (bits - 64, (bits - 32) as usize);
     window.bytes[fifth / 8] ^= 1 << (fifth % 8);
     refused(read(&window, bits), 8, [frame, 0, 0], frame + 40);
     window.bytes[fifth / 8] ^= 1 << (fifth % 8);

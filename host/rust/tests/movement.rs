@@ -77,7 +77,7 @@ fn every_width_and_unit() {
             let used = u64::from(window.bits);
             window.push(0x3f, 6);
             let read = try_read_rep_movement(&window.bytes, window.bits, rotation, location);
-            assert_eq!(read, Ok((record, used)));
+            assert_eq!(read, Ok(MovementRead { record, used, padded: 0 }));
         }
     }
 }

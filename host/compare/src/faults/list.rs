@@ -1,16 +1,18 @@
 //! Which faults there are, and the kinds that have to tell of each.
 use super::cells::{Buffer, DELETED, FIELDS, ITEMS, LEAVES, NAMES, PAIRS, PATHS, PAYLOADS, ROWS, TARGET};
 use super::parts::Parts;
-use super::{CLEAN, Call, EMPTY, Fault, GIVEN, LOST, NO_BITS, ONE_ERROR, REFUSED, STOPS, UNCOUNTED, probed};
+use super::{
+    CLEAN, Call, EMPTY, Fault, GIVEN, LOST, NO_BITS, ONE_ERROR, ONE_MORE, ONE_PADDED, REFUSED, SHORT_FORM, STOPS, UNCOUNTED, probed,
+};
 use crate::probes::{Probe, ProbeCall};
 use std::sync::OnceLock;
-use vrf_proved::fastarray::FastArrayDelta;
-use vrf_proved::lent::{FastArray, Movement, Objects, Read, Refusal, RefusedMerge, Schema, Walk};
-use vrf_proved::{ArrayDecodeStats, DecodeError, Decoded, FRepMovement, FlattenedField};
+use vrf_proved::fastarray::{FastArrayDelta, FastArrayRead};
+use vrf_proved::lent::{FastArray, Movement, Objects, Packed, Read, Refusal, RefusedMerge, Schema, Walk};
+use vrf_proved::{ArrayDecodeStats, DecodeError, Decoded, FRepMovement, FlattenedField, MovementRead};
 
-const STRUCTS: &[&str] = &["none", "twelve", "tables", "deep", "edges", "exact"];
-const OBJECTS: &[&str] = &["objects", "edges"];
-const WALKS: &[&str] = &["none", "twelve", "tables", "deep", "edges", "exact", "objects"];
+const STRUCTS: &[&str] = &["none", "twelve", "tables", "deep", "edges", "exact", "padded"];
+const OBJECTS: &[&str] = &["objects", "edges", "padded"];
+const WALKS: &[&str] = &["none", "twelve", "tables", "deep", "edges", "exact", "objects", "padded"];
 const FAST: &[&str] = &["fast"];
 const MOVEMENT: &[&str] = &["movement"];
 const MERGE: &[&str] = &["merge"];
@@ -68,7 +70,7 @@ impl List {
         self.answer::<Result<FastArray, Refusal>>(Call::FastArray, FAST);
         self.buffers(Call::FastArray, &[DELETED, ITEMS, FIELDS], FAST);
         self.answer::<Read<u64>>(Call::ReadBits, &["bits"]);
-        self.answer::<Read<u64>>(Call::ReadPacked, &["packed"]);
+        self.answer::<Read<Packed>>(Call::ReadPacked, &["packed"]);
         self.answer::<Read<u64>>(Call::ReadSerialized, &["serialized"]);
         self.answer::<Read<()>>(Call::CopyBits, &["copy"]);
         self.buffers(Call::CopyBits, &[TARGET], &["copy"]);
@@ -113,8 +115,8 @@ impl List {
         self.add(Call::DropInClean, vec!["truth".into()], &["merge", "none", "objects"]);
         self.answer::<Decoded<FlattenedField>>(Call::TryLeaves, STRUCTS);
         self.answer::<Decoded<(u32, u32)>>(Call::TryPairs, OBJECTS);
-        self.answer::<Result<FastArrayDelta, Refusal>>(Call::TryFastArray, FAST);
-        self.answer::<Result<(FRepMovement, u64), Refusal>>(Call::TryMovement, MOVEMENT);
+        self.answer::<Result<FastArrayRead, Refusal>>(Call::TryFastArray, FAST);
+        self.answer::<Result<MovementRead, Refusal>>(Call::TryMovement, MOVEMENT);
         self.answer::<Result<(), Refusal>>(Call::TryMerge, MERGE);
         self.answer::<ArrayDecodeStats>(Call::TryMergeSum, MERGE);
     }
@@ -156,6 +158,20 @@ impl List {
         self.also(&["totals"], |call, part| {
             let sums = matches!(call, Call::Merge | Call::Verdict | Call::DropInMerge | Call::TryMergeSum);
             sums && !part.contains("refused")
+        });
+        for (call, kinds) in [
+            (Call::Walk, STRUCTS),
+            (Call::Objects, OBJECTS),
+            (Call::FastArray, FAST),
+            (Call::Movement, MOVEMENT),
+        ] {
+            self.add(call, [SHORT_FORM, ONE_PADDED, ONE_MORE].map(String::from).into(), kinds);
+        }
+        self.add(Call::ReadPacked, vec![SHORT_FORM.into()], &["packed"]);
+        let walks = |call| matches!(call, Call::Walk | Call::Objects);
+        self.also(&["windows"], |call, part| walks(call) && [SHORT_FORM, ONE_MORE].contains(&part));
+        self.also(&["strings"], |call, part| {
+            walks(call) && [SHORT_FORM, ONE_PADDED, ONE_MORE].contains(&part)
         });
         self.add(Call::Merge, vec![STOPS.into()], &["merge", "totals"]);
         self.add(Call::DropInMerge, vec![ONE_ERROR.into()], &["merge", "totals"]);

@@ -12,7 +12,8 @@ use std::cell::Cell;
 use std::fmt;
 use vrf_proved::ArrayDecodeStats;
 use vrf_proved::lent::{
-    self, Buffers, FIELD_WORDS, FastArray, ITEM_WORDS, LEAF_WORDS, Objects, PAIR_WORDS, Read, Refusal, RefusedMerge, Schema, Verdict, Walk,
+    self, Buffers, FIELD_WORDS, FastArray, ITEM_WORDS, LEAF_WORDS, Movement, Objects, PAIR_WORDS, Packed, Read, Refusal, RefusedMerge,
+    Schema, Verdict, Walk,
 };
 
 /// Whose answers are made wrong.
@@ -73,6 +74,10 @@ const UNCOUNTED: &str = "nothing counted passes for empty";
 const NO_BITS: &str = "no bits pass for empty";
 const LOST: &str = "the first record of a cut window is another";
 
+const SHORT_FORM: &str = "no number is padded";
+const ONE_PADDED: &str = "at most one number is padded";
+const ONE_MORE: &str = "one more number is padded";
+
 const STOPS: &str = "a sum that passes stops at the largest";
 const ONE_ERROR: &str = "a sum that passes counts one error";
 
@@ -111,10 +116,37 @@ pub fn probe(call: ProbeCall, probe: &mut Probe) {
     }
 }
 
+/// Of how many padded numbers are counted; of another part nothing.
+fn miscount(part: &str, padded: &mut u32) {
+    match part {
+        SHORT_FORM => *padded = 0,
+        ONE_PADDED => *padded = 1.min(*padded),
+        ONE_MORE => *padded += 1,
+        _ => {}
+    }
+}
+
+pub fn packed(r: &mut Read<Packed>) {
+    if let (Some(SHORT_FORM), Ok(packed)) = (part(Call::ReadPacked), &mut r.result) {
+        packed.padded = false;
+    }
+    answer(Call::ReadPacked, r);
+}
+
+pub fn movement(r: &mut Read<Movement>) {
+    if let (Some(part), Ok(record)) = (part(Call::Movement), &mut r.result) {
+        miscount(part, &mut record.padded);
+    }
+    answer(Call::Movement, r);
+}
+
 pub fn walk(r: &mut Result<Walk, Refusal>, lent: Buffers<'_>) {
     let Some(part) = part(Call::Walk) else { return };
     let filled = r.as_ref().ok().map(|w| [LEAF_WORDS * w.leaves, w.path_bytes, w.payload_bytes]);
     let Buffers { leaves, paths, payloads } = lent;
+    if let Ok(w) = r {
+        miscount(part, &mut w.padded);
+    }
     match r {
         Ok(w) if part == CLEAN && w.verdict == Verdict::Partial => w.verdict = Verdict::Clean,
         Ok(w) if part == EMPTY && w.verdict == Verdict::Empty => w.verdict = Verdict::Clean,
@@ -130,6 +162,9 @@ pub fn walk(r: &mut Result<Walk, Refusal>, lent: Buffers<'_>) {
 pub fn objects(r: &mut Result<Objects, Refusal>, bits: u32, pairs: &mut [u32]) {
     let Some(part) = part(Call::Objects) else { return };
     let filled = r.as_ref().ok().map(|o| PAIR_WORDS * o.pairs);
+    if let Ok(o) = r {
+        miscount(part, &mut o.padded);
+    }
     match r {
         Ok(o) if part == CLEAN => o.verdict = Verdict::Clean,
         Ok(o) if part == UNCOUNTED && o.counters == ArrayDecodeStats::default() => o.verdict = Verdict::Empty,
@@ -164,6 +199,9 @@ pub fn dropin_merge(sum: &mut ArrayDecodeStats, left: &ArrayDecodeStats, right: 
 pub fn fast(r: &mut Result<FastArray, Refusal>, deleted: &mut [i32], items: &mut [u32], fields: &mut [u32]) {
     let Some(part) = part(Call::FastArray) else { return };
     let filled = r.as_ref().ok().map(|f| [f.deletes, ITEM_WORDS * f.items, FIELD_WORDS * f.fields]);
+    if let Ok(f) = r {
+        miscount(part, &mut f.padded);
+    }
     r.alter(part);
     DELETED.alter(part, deleted, filled.map(|f| f[0]));
     ITEMS.alter(part, items, filled.map(|f| f[1]));

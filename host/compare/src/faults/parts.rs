@@ -1,9 +1,9 @@
 //! The parts of an answer, by name, and how each is made wrong. A struct is taken apart without `..`: a field that is added to it has to be
 //! named here too, and then has its fault.
 use crate::probes::{Probe, Reader};
-use vrf_proved::fastarray::{ChangedItem, FastArrayDelta, Header, RawField};
-use vrf_proved::lent::{FastArray, Movement, Objects, Read, Refusal, RefusedMerge, Schema, Verdict, Walk};
-use vrf_proved::{ArrayDecodeStats, BitError, DecodeError, Decoded, FRepMovement, FRotator, FVector, FlattenedField};
+use vrf_proved::fastarray::{ChangedItem, FastArrayDelta, FastArrayRead, Header, RawField};
+use vrf_proved::lent::{FastArray, Movement, Objects, Packed, Read, Refusal, RefusedMerge, Schema, Verdict, Walk};
+use vrf_proved::{ArrayDecodeStats, BitError, DecodeError, Decoded, FRepMovement, FRotator, FVector, FlattenedField, MovementRead};
 
 pub trait Parts {
     /// The names of all parts, each behind `at`.
@@ -80,13 +80,14 @@ structs! {
         elements_decoded: u64, fields_emitted: u64, truncations: u64, errors: u64,
         unconsumed_nested_bits: u64, unconsumed_root_bits: u64, implicit_terminations: u64
     }
-    Walk { leaves: usize, path_bytes: usize, payload_bytes: usize, counters: ArrayDecodeStats, verdict: Verdict }
-    Objects { pairs: usize, counters: ArrayDecodeStats, verdict: Verdict }
+    Walk { leaves: usize, path_bytes: usize, payload_bytes: usize, counters: ArrayDecodeStats, verdict: Verdict, padded: u32 }
+    Objects { pairs: usize, counters: ArrayDecodeStats, verdict: Verdict, padded: u32 }
     Schema { rows: usize, names: usize, levels: u32 }
-    FastArray { deletes: usize, items: usize, fields: usize, key: i32, base: i32, used: u32 }
+    FastArray { deletes: usize, items: usize, fields: usize, key: i32, base: i32, used: u32, padded: u32 }
+    Packed { value: u64, bytes: u32, padded: bool }
     Movement {
         location: [f64; 3], rotation: [f32; 3], linear: [f64; 3], angular: Option<[f64; 3]>,
-        sleep: bool, physics: bool, frame: Option<u32>, handle: Option<u32>
+        sleep: bool, physics: bool, frame: Option<u32>, handle: Option<u32>, padded: u32
     }
     Refusal { number: u32, values: [u64; 3] }
     RefusedMerge { number: u32, left: ArrayDecodeStats }
@@ -115,6 +116,8 @@ structs! {
         location: FVector, rotation: FRotator, linear_velocity: FVector, angular_velocity: Option<FVector>,
         simulated_physics_sleep: bool, rep_physics: bool, server_frame: Option<u32>, server_physics_handle: Option<u32>
     }
+    FastArrayRead { delta: FastArrayDelta, padded: u32 }
+    MovementRead { record: FRepMovement, used: u64, padded: u32 }
 }
 
 /// The names of three that stand in an array.
@@ -157,29 +160,22 @@ impl<T: Parts> Parts for Decoded<T> {
     fn names(at: &str) -> Vec<String> {
         let values = Vec::<T>::names(&below(at, "values"));
         let stats = ArrayDecodeStats::names(&below(at, "stats"));
-        [values, stats, Verdict::names(&below(at, "verdict"))].concat()
+        let said = ["verdict", "padded"].map(|name| below(at, name));
+        [values, stats, said.into()].concat()
     }
     fn alter(&mut self, part: &str) {
-        let Self { values, stats, verdict } = self;
+        let Self {
+            values,
+            stats,
+            verdict,
+            padded,
+        } = self;
         match part.split_once('.').unwrap_or((part, "")) {
             ("values", rest) => values.alter(rest),
             ("stats", rest) => stats.alter(rest),
             ("verdict", rest) => verdict.alter(rest),
+            ("padded", rest) => padded.alter(rest),
             _ => {}
-        }
-    }
-}
-
-/// A record, and the bits used.
-impl Parts for (FRepMovement, u64) {
-    fn names(at: &str) -> Vec<String> {
-        [FRepMovement::names(at), vec![below(at, "position")]].concat()
-    }
-    fn alter(&mut self, part: &str) {
-        let (record, position) = self;
-        match part {
-            "position" => position.alter(""),
-            _ => record.alter(part),
         }
     }
 }

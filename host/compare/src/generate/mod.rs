@@ -3,6 +3,7 @@ pub mod arrays;
 pub mod edges;
 pub mod fast;
 pub mod numbers;
+pub mod padded;
 pub mod readers;
 pub mod refusals;
 pub mod tables;

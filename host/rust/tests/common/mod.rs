@@ -40,20 +40,36 @@ impl Window {
         }
     }
 
-    pub fn packed(&mut self, mut value: u32) {
-        while value > 127 {
+    pub fn packed(&mut self, value: u32) {
+        self.padded(value, 1);
+    }
+
+    /// A packed number in `size` bytes, or in as many as it needs where these are more.
+    pub fn padded(&mut self, mut value: u32, size: u32) {
+        let mut bytes = 1;
+        while value > 127 || bytes < size {
             self.push(u64::from(value & 127) << 1 | 1, 8);
             value >>= 7;
+            bytes += 1;
         }
         self.push(u64::from(value) << 1, 8);
     }
 
     /// A field's handle, width and payload.
     pub fn field(&mut self, handle: u32, payload: &Window) {
-        self.packed(handle + 1);
-        self.packed(payload.bits);
-        for bit in 0..payload.bits {
-            self.push(u64::from(payload.bytes[bit as usize / 8] >> (bit % 8)), 1);
+        self.padded_field(handle, payload, 1);
+    }
+
+    /// The same, with handle and width in `size` bytes each.
+    pub fn padded_field(&mut self, handle: u32, payload: &Window, size: u32) {
+        self.padded(handle + 1, size);
+        self.padded(payload.bits, size);
+        self.window(payload);
+    }
+
+    pub fn window(&mut self, other: &Window) {
+        for bit in 0..other.bits {
+            self.push(u64::from(other.bytes[bit as usize / 8] >> (bit % 8)), 1);
         }
     }
 
@@ -65,10 +81,15 @@ impl Window {
 
     /// An array of elements that each hold the given fields, closed by its zeros.
     pub fn array(elements: &[Vec<(u32, Window)>]) -> Self {
+        Self::padded_array(elements, 1)
+    }
+
+    /// The same, with the count and the indices in `size` bytes each.
+    pub fn padded_array(elements: &[Vec<(u32, Window)>], size: u32) -> Self {
         let mut window = Self::default();
-        window.packed(elements.len() as u32);
+        window.padded(elements.len() as u32, size);
         for (index, fields) in elements.iter().enumerate() {
-            window.packed(index as u32 + 1);
+            window.padded(index as u32 + 1, size);
             for (handle, payload) in fields {
                 window.field(*handle, payload);
             }
