@@ -54,11 +54,12 @@ object-words s e = rw e refl
 
 -- ---- what the code leaves is what the walk's trace comes to
 
-whole : (bytes : List ℕ) (n : ℕ) → inner bytes 0 n 0 ≡ windowOf bytes n
+whole : (bytes : List ℕ) (n : ℕ) → inner bytes 0 0 n ≡ windowOf bytes n
 unfolding inner
 whole bytes n =
     let e : n - 0 ≡ n = omega arith in
-    ap (λ (k : ℕ). record { bits = field (num bytes) 0 k; size = k; origin = 0 }) e
+    let o : 0 + 0 ≡ 0 = omega arith in
+    λ i. record { bits = field (num bytes) 0 (e i); size = e i; origin = o i }
 
 module _ (s : Walk) (t : Tables) (root : ℕ) (bytes : List ℕ) (n : ℕ) (x : World) where
   pub played-silent : (givesLeaves s && eqb n 0) ≡ true → x ≡ played (walk (walker s t root) bytes n) x
@@ -70,7 +71,7 @@ module _ (s : Walk) (t : Tables) (root : ℕ) (bytes : List ℕ) (n : ℕ) (x : 
     unfolding walk
     played-past h e = rw (told, lt-ltb (8 * length bytes) n (omega arith)) e
 
-    pub played-level : (n + 7) / 8 ≤ length bytes → y ≡ played (level (sinkFor s t levelsBelow false root) (inner bytes 0 n 0) []) x
+    pub played-level : (n + 7) / 8 ≤ length bytes → y ≡ played (level (sinkFor s t levelsBelow false root) (inner bytes 0 0 n) []) x
         → y ≡ played (walk (walker s t root) bytes n) x
     unfolding walk walkWindow
     played-level h e =
@@ -88,11 +89,12 @@ unfolding laidOut schemaLaid declaredLaid schemaSized declaredSized rootFits all
 none-laid = refl
 
 pub ready : (bytes : List ℕ) (n : ℕ) (t : Tables) (spans : List ℕ) → Passable n t → spans ≡ spansOf (t .rows) → (n + 7) / 8 ≤ length bytes
-    → Ready bytes 0 n 0 (levelAdds levelsBelow) t spans
+    → Ready bytes 0 0 n 0 (levelAdds levelsBelow) t spans
 ready bytes n t spans p e h =
     let small = p .small in
     record {
       lies = (omega arith, omega arith, small);
+      in-root = omega arith;
       path = omega arith;
       labels = p .labels;
       spans-are = e;

@@ -104,9 +104,9 @@ fn is_too_long(bits: u32) -> bool
     LONGEST_WINDOW < bits
 }
 
-// The leaves of the array of structs in the first `bits` bits; refusals in the order 1, 2, 3. Of each leaf five numbers are
+// The leaves of the array of structs in the first `bits` bits; refusals in the order 1, 2, 3. Of each leaf six numbers are
 // written: where its path starts and how long it is, the handle (4294967295 for a kept tail), the bits of its payload and where
-// that starts.
+// that starts among the payload bytes, and the bit of the window at which it starts there.
 pub fn decode_struct_array<'a>(
     bytes: &[u8],
     bits: u32,

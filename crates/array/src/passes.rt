@@ -86,6 +86,7 @@ pub fn pass<'a>(
         tally,
         bytes,
         0,
+        0,
         bits,
         walk,
         false,

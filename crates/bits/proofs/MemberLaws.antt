@@ -1,12 +1,50 @@
 -- The laws of lists by their members, and of orders of a list.
+use Prim.Native.Nat.{ℕ, zero, suc, _<_}
 use mathlib.Core.Path.{_≡_, refl, sym, ap, _∙_, subst}
 use mathlib.Core.List.{List, [], _∷_, _++_}
-use Rattle.bits.specs.Members.{All, Reorders}
+use native.Mathlib.Omega.{arith}
+use lib.ListN.{length}
+use Rattle.bits.specs.Members.{All, Any, first, later, StandsAt, Reorders}
 
 -- What holds of all members of two lists holds of all of both.
 pub all-append : {A : Type 0} (holds : A → Type 0) (a b : List A) → All holds a → All holds b → All holds (a ++ b)
 all-append holds [] b h k = k
 all-append holds (x ∷ a) b h k = (h .0, all-append holds a b (h .1) k)
+
+pub all-map : {A : Type 0} (holds also : A → Type 0) → ((x : A) → holds x → also x) → (l : List A) → All holds l → All also l
+all-map holds also f [] h = tt
+all-map holds also f (x ∷ l) h = (f x (h .0), all-map holds also f l (h .1))
+
+-- What holds of all members holds of each that stands among them.
+pub all-at : {A : Type 0} (holds : A → Type 0) (m : List A) → All holds m → (x : A) (i : ℕ) → StandsAt x i m → holds x
+all-at {A = A} holds m h x i s = go (s .before) (subst (All holds) (s .whole) h)
+  where
+    go : (before : List A) → All holds (before ++ (x ∷ s .after)) → holds x
+    go [] k = k .0
+    go (y ∷ before) k = go before (k .1)
+
+-- A list has a number i for every i below its length.
+pub member : {A : Type 0} (l : List A) (i : ℕ) → i < length l → A
+member [] i h = absurd (omega arith)
+member (x ∷ l) zero h = x
+member (x ∷ l) (suc i) h = member l i (omega arith)
+
+pub member-stands : {A : Type 0} (l : List A) (i : ℕ) (h : i < length l) → StandsAt (member l i h) i l
+unfolding member
+member-stands [] i h = absurd (omega arith)
+member-stands (x ∷ l) zero h = record { before = []; after = l; whole = refl; many = refl }
+member-stands (x ∷ l) (suc i) h =
+    let s = member-stands l i (omega arith) in
+    record { before = x ∷ s .before; after = s .after; whole = ap (λ r. x ∷ r) (s .whole); many = ap suc (s .many) }
+
+-- What holds of one member holds of one of a longer list.
+pub any-before : {A : Type 0} (holds : A → Type 0) (a b : List A) → Any holds a → Any holds (a ++ b)
+any-before holds (x ∷ a) b (first h) = first h
+any-before holds (x ∷ a) b (later h) = later (any-before holds a b h)
+
+pub any-behind : {A : Type 0} (holds : A → Type 0) (a b : List A) → Any holds b → Any holds (a ++ b)
+any-behind holds [] b h = h
+any-behind holds (x ∷ a) b h = later (any-behind holds a b h)
 
 -- A list is an order of itself: its first stands in front of the rest.
 pub same-order : {A : Type 0} (l : List A) → Reorders l l

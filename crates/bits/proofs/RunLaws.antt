@@ -53,9 +53,9 @@ module _ {A : Type 0} where
       → set (set (set (set d i a) (i + 1) b) (i + 2) c) (i + 3) e ≡ put d i (a ∷ b ∷ c ∷ e ∷ [])
   put-four d i a b c e h = simp (add-one, add-two, add-three) (put-sets (a ∷ b ∷ c ∷ e ∷ []) d i h)
 
-  pub put-five : (d : List A) (i : ℕ) (a b c e f : A) → i + 5 ≤ length d
-      → set (set (set (set (set d i a) (i + 1) b) (i + 2) c) (i + 3) e) (i + 4) f ≡ put d i (a ∷ b ∷ c ∷ e ∷ f ∷ [])
-  put-five d i a b c e f h = simp (add-one, add-two, add-three, add-four) (put-sets (a ∷ b ∷ c ∷ e ∷ f ∷ []) d i h)
+  pub put-six : (d : List A) (i : ℕ) (a b c e f g : A) → i + 6 ≤ length d
+      → set (set (set (set (set (set d i a) (i + 1) b) (i + 2) c) (i + 3) e) (i + 4) f) (i + 5) g ≡ put d i (a ∷ b ∷ c ∷ e ∷ f ∷ g ∷ [])
+  put-six d i a b c e f g h = simp (add-one, add-two, add-three, add-four, add-five) (put-sets (a ∷ b ∷ c ∷ e ∷ f ∷ g ∷ []) d i h)
 
   pub length-put : (d vs : List A) (i : ℕ) → i + length vs ≤ length d → length (put d i vs) ≡ length d
   length-put d vs i h = ap length (sym (put-sets vs d i h)) ∙ length-sets d i vs

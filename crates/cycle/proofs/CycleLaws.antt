@@ -15,6 +15,7 @@ use Rattle.schema.specs.Labels.{labelBytes, dot}
 use Rattle.schema.specs.declared.Label.{Label}
 use Rattle.framing.specs.Windows.{Window}
 use Rattle.framing.specs.Events.{element, Trace}
+use Rattle.framing.specs.Sinks.{enteredAt}
 use Rattle.framing.specs.Walk.{Run, done, stopped, prepend, fields, behind, elements, level, inItem}
 use Rattle.outputs.specs.World.{World}
 use Rattle.steps.specs.Tally.{played, padding}
@@ -88,13 +89,13 @@ behind-open b more (stopped t) x y e = ap (λ (d : Done). d .world) e
 -- at bit `at` the world is x, `left` more fields are allowed, and the working path's front is `path`
 pub record Fielding (q : Place) (index start : ℕ) (x₀ x : World) (path : List ℕ) (at left : ℕ) (first : Bool) : Type 0 where
   pub later : start ≤ at
-  pub same : (b o : ℕ) (inside : Bool) → b ≤ start
-      → finished b (fields (sinkAt q inside) (windowAt q b o) index (q .path) left (at - b) first) x
-      ≡ finished b (fields (sinkAt q inside) (windowAt q b o) index (q .path) maxFields (start - b) true) x₀
+  pub same : (b : ℕ) (inside : Bool) → b ≤ start
+      → finished b (fields (sinkAt q inside) (windowAt q b) index (q .path) left (at - b) first) x
+      ≡ finished b (fields (sinkAt q inside) (windowAt q b) index (q .path) maxFields (start - b) true) x₀
   pub kept : path ≡ q .path
 
 pub fields-begin : (q : Place) (index start : ℕ) (x : World) → Fielding q index start x x (q .path) start maxFields true
-fields-begin q index start x = record { later = omega arith; same = λ b o inside h. refl; kept = refl }
+fields-begin q index start x = record { later = omega arith; same = λ b inside h. refl; kept = refl }
 
 -- x₁: the world in which the head's padded numbers are counted
 module _ (q : Place) (index start : ℕ) (x₀ x : World) (path : List ℕ) (at left : ℕ) (first : Bool) (fit : start ≤ q .end) (v : Fielding q index start x₀ x path at left first)
@@ -104,22 +105,22 @@ module _ (q : Place) (index start : ℕ) (x₀ x : World) (path : List ℕ) (at 
 
   -- a field was walked
   pub fields-turn : {h body next : ℕ} → fieldHead (upTo (q .bytes) (q .end)) left at ≡ head.Go h body next → (y : World) (path′ : List ℕ) (f : Bool)
-      → FieldWalked (place (q .walk) (q .tables) (q .below) (q .level) (q .bytes) next path) index first h body x₁ y path′
+      → FieldWalked (place (q .walk) (q .tables) (q .below) (q .level) (q .bytes) (q .base) next path) index first h body x₁ y path′
       → f ≡ (first && eqb (next - body) 0) → Fielding q index start x₀ y path′ next (left - 1) f
   fields-turn {h} {body} {next} e y path′ f r ef =
       let n = field-next (q .bytes) (q .end) left at e in
       record {
         later = let z = v .later in omega arith;
-        same = λ b o inside hb.
+        same = λ b inside hb.
             let le : b ≤ q .end = omega arith in
             let here : b ≤ at = let z = v .later in omega arith in
-            let g = fields-walk (sinkAt q inside) (exitSink (q .walk) inside) (private-alike inside) (q .bytes) b (q .end) (q .path) le index left at first here e x o in
-            let w : y ≡ played (sinkAt q inside .field index (q .path) first h (inner (q .bytes) body next (o + (body - b)))) (padding (fieldPads (upTo (q .bytes) (q .end)) left at) x) =
-            r .out (o + (body - b)) inside
-            ∙ ap₂ (λ (p : List ℕ) (z : World). played (sinkAt q inside .field index p first h (inner (q .bytes) body next (o + (body - b)))) z) (v .kept) took in
-            ap₂ (λ (k : Bool) (u : World). finished b (fields (sinkAt q inside) (windowAt q b o) index (q .path) (left - 1) (next - b) k) u) ef w
+            let g = fields-walk (sinkAt q inside) (exitSink (q .walk) inside) (private-alike inside) (q .bytes) (q .base) b (q .end) (q .path) le index left at first here e x in
+            let w : y ≡ played (sinkAt q inside .field index (q .path) first h (inner (q .bytes) (q .base) body next)) (padding (fieldPads (upTo (q .bytes) (q .end)) left at) x) =
+            r .out inside
+            ∙ ap₂ (λ (p : List ℕ) (z : World). played (sinkAt q inside .field index p first h (inner (q .bytes) (q .base) body next)) z) (v .kept) took in
+            ap₂ (λ (k : Bool) (u : World). finished b (fields (sinkAt q inside) (windowAt q b) index (q .path) (left - 1) (next - b) k) u) ef w
             ∙ sym (finished-goes b _ _ x _ g)
-            ∙ v .same b o inside hb;
+            ∙ v .same b inside hb;
         kept = r .kept ∙ v .kept;
       }
 
@@ -127,27 +128,27 @@ module _ (q : Place) (index start : ℕ) (x₀ x : World) (path : List ℕ) (at 
   pub fields-shut : {n : ℕ} → fieldHead (upTo (q .bytes) (q .end)) left at ≡ head.Closed n → FieldsWalked q index start x₀ x₁ (after.Closed n) path
   fields-shut {n} e =
       record {
-        out = λ b o inside hb.
+        out = λ b inside hb.
             let le : b ≤ q .end = omega arith in
             let here : b ≤ at = let z = v .later in omega arith in
-            let s = fields-closed (sinkAt q inside) (exitSink (q .walk) inside) (private-alike inside) (q .bytes) b (q .end) (q .path) le index left at first here e x o in
-            ap (λ (z : World). ended z (after.Closed n)) took ∙ finished-shuts b _ x _ n s ∙ v .same b o inside hb;
+            let s = fields-closed (sinkAt q inside) (exitSink (q .walk) inside) (private-alike inside) (q .bytes) (q .base) b (q .end) (q .path) le index left at first here e x in
+            ap (λ (z : World). ended z (after.Closed n)) took ∙ finished-shuts b _ x _ n s ∙ v .same b inside hb;
         kept = v .kept;
       }
 
   -- they did not
   pub fields-end : (h : Head) → fieldHead (upTo (q .bytes) (q .end)) left at ≡ h → NotGo h → NotClosed h → (y : World) (path′ : List ℕ)
-      → ((o : ℕ) (inside : Bool) → y ≡ played (fieldsStop (exitSink (q .walk) inside) (q .bytes) (q .end) o path h) x₁) → path′ ≡ path
+      → ((inside : Bool) → y ≡ played (fieldsStop (exitSink (q .walk) inside) (q .bytes) (q .base) (q .end) path h) x₁) → path′ ≡ path
       → FieldsWalked q index start x₀ y after.Open path′
   fields-end h e n c y path′ out same =
       record {
-        out = λ b o inside hb.
+        out = λ b inside hb.
             let le : b ≤ q .end = omega arith in
             let here : b ≤ at = let z = v .later in omega arith in
-            let all : (k : ℕ) → y ≡ played (fieldsStop (exitSink (q .walk) inside) (q .bytes) (q .end) k (q .path) h) (padding (fieldPads (upTo (q .bytes) (q .end)) left at) x) =
-            λ k. out k inside ∙ ap₂ (λ (p : List ℕ) (z : World). played (fieldsStop (exitSink (q .walk) inside) (q .bytes) (q .end) k p h) z) (v .kept) took in
-            let s = fields-exit (sinkAt q inside) (exitSink (q .walk) inside) (private-alike inside) (q .bytes) b (q .end) (q .path) le index left at first here h e n c x y all o in
-            finished-ends b _ x y s ∙ v .same b o inside hb;
+            let all : y ≡ played (fieldsStop (exitSink (q .walk) inside) (q .bytes) (q .base) (q .end) (q .path) h) (padding (fieldPads (upTo (q .bytes) (q .end)) left at) x) =
+            out inside ∙ ap₂ (λ (p : List ℕ) (z : World). played (fieldsStop (exitSink (q .walk) inside) (q .bytes) (q .base) (q .end) p h) z) (v .kept) took in
+            let s = fields-exit (sinkAt q inside) (exitSink (q .walk) inside) (private-alike inside) (q .bytes) (q .base) b (q .end) (q .path) le index left at first here h e n c x y all in
+            finished-ends b _ x y s ∙ v .same b inside hb;
         kept = same ∙ v .kept;
       }
 
@@ -156,13 +157,13 @@ module _ (q : Place) (index start : ℕ) (x₀ x : World) (path : List ℕ) (at 
 -- begin: where the first element is due; x₀: the world then
 pub record Leveling (q : Place) (inside : Bool) (start count begin : ℕ) (x₀ x : World) (path : List ℕ) (at left : ℕ) : Type 0 where
   pub later : start ≤ at
-  pub same : (o : ℕ) → played (elements (sinkAt q inside) (windowAt q start o) (q .path) count left (at - start)) x
-      ≡ played (elements (sinkAt q inside) (windowAt q start o) (q .path) count maxElements (begin - start)) x₀
+  pub same : played (elements (sinkAt q inside) (windowAt q start) (q .path) count left (at - start)) x
+      ≡ played (elements (sinkAt q inside) (windowAt q start) (q .path) count maxElements (begin - start)) x₀
   pub kept : path ≡ q .path
 
 -- all elements were walked
 pub record ElementsWalked (q : Place) (inside : Bool) (start count begin : ℕ) (x₀ y : World) (path : List ℕ) : Type 0 where
-  pub out : (o : ℕ) → y ≡ played (elements (sinkAt q inside) (windowAt q start o) (q .path) count maxElements (begin - start)) x₀
+  pub out : y ≡ played (elements (sinkAt q inside) (windowAt q start) (q .path) count maxElements (begin - start)) x₀
   pub kept : path ≡ q .path
 
 -- the first m of the first n
@@ -175,26 +176,26 @@ module _ (q : Place) (inside : Bool) (start : ℕ) (fit : start ≤ q .end) wher
 
   -- the count ends the level
   pub level-end : (h : Head) → levelHead (upTo (q .bytes) (q .end)) start ≡ h → NotGo h → (x x₁ y : World) → x₁ ≡ padding (numberPads (upTo (q .bytes) (q .end)) start) x
-      → (path : List ℕ) → ((o : ℕ) → y ≡ played (levelStop (exitSink (q .walk) inside) (q .bytes) (q .end) o (q .path) h) x₁) → path ≡ q .path → LevelWalked q inside start x y path
+      → (path : List ℕ) → y ≡ played (levelStop (exitSink (q .walk) inside) (q .bytes) (q .base) (q .end) (q .path) h) x₁ → path ≡ q .path → LevelWalked q inside start x y path
   level-end h e n x x₁ y took path out same =
       record {
-        out = level-exit (sinkAt q inside) (exitSink (q .walk) inside) alike (q .bytes) start (q .end) (q .path) fit h e n x y
-            (λ o. out o ∙ ap (played (levelStop (exitSink (q .walk) inside) (q .bytes) (q .end) o (q .path) h)) took);
+        out = level-exit (sinkAt q inside) (exitSink (q .walk) inside) alike (q .bytes) (q .base) start (q .end) (q .path) fit h e n x y
+            (out ∙ ap (played (levelStop (exitSink (q .walk) inside) (q .bytes) (q .base) (q .end) (q .path) h)) took);
         kept = same;
       }
 
   pub level-begin : {count begin m : ℕ} → levelHead (upTo (q .bytes) (q .end)) start ≡ head.Go count begin m → (x : World) → Leveling q inside start count begin x x (q .path) begin maxElements
-  level-begin e x = record { later = let n = level-next (q .bytes) start (q .end) e in n .0; same = λ o. refl; kept = refl }
+  level-begin e x = record { later = let n = level-next (q .bytes) start (q .end) e in n .0; same = refl; kept = refl }
 
   -- behind the count, whose padding was counted then
   pub level-whole : {count begin m : ℕ} → levelHead (upTo (q .bytes) (q .end)) start ≡ head.Go count begin m → (x x₁ : World) → x₁ ≡ padding (numberPads (upTo (q .bytes) (q .end)) start) x
       → (y : World) (path : List ℕ) → ElementsWalked q inside start count begin x₁ y path → LevelWalked q inside start x y path
   level-whole {count} {begin} e x x₁ took y path r =
       record {
-        out = λ o.
-            r .out o
-            ∙ ap (played (elements (sinkAt q inside) (windowAt q start o) (q .path) count maxElements (begin - start))) took
-            ∙ sym (level-walks (sinkAt q inside) (exitSink (q .walk) inside) alike (q .bytes) start (q .end) (q .path) fit e x o);
+        out =
+            r .out
+            ∙ ap (played (elements (sinkAt q inside) (windowAt q start) (q .path) count maxElements (begin - start))) took
+            ∙ sym (level-walks (sinkAt q inside) (exitSink (q .walk) inside) alike (q .bytes) (q .base) start (q .end) (q .path) fit e x);
         kept = r .kept;
       }
 
@@ -202,19 +203,19 @@ module _ (q : Place) (inside : Bool) (start : ℕ) (fit : start ≤ q .end) wher
     -- the elements end
     pub elements-end : (h : Head) → elementHead (upTo (q .bytes) (q .end)) count left at ≡ h → NotGo h → (x₁ y : World)
         → x₁ ≡ padding (elementPads (upTo (q .bytes) (q .end)) left at) x → (path′ : List ℕ)
-        → ((o : ℕ) → y ≡ played (levelStop (exitSink (q .walk) inside) (q .bytes) (q .end) o path h) x₁) → path′ ≡ path → ElementsWalked q inside start count begin x₀ y path′
+        → y ≡ played (levelStop (exitSink (q .walk) inside) (q .bytes) (q .base) (q .end) path h) x₁ → path′ ≡ path → ElementsWalked q inside start count begin x₀ y path′
     elements-end h e n x₁ y took path′ out same =
-        let all : (o : ℕ) → y ≡ played (levelStop (exitSink (q .walk) inside) (q .bytes) (q .end) o (q .path) h) (padding (elementPads (upTo (q .bytes) (q .end)) left at) x) =
-        λ o. out o ∙ ap₂ (λ (p : List ℕ) (z : World). played (levelStop (exitSink (q .walk) inside) (q .bytes) (q .end) o p h) z) (v .kept) took in
+        let all : y ≡ played (levelStop (exitSink (q .walk) inside) (q .bytes) (q .base) (q .end) (q .path) h) (padding (elementPads (upTo (q .bytes) (q .end)) left at) x) =
+        out ∙ ap₂ (λ (p : List ℕ) (z : World). played (levelStop (exitSink (q .walk) inside) (q .bytes) (q .base) (q .end) p h) z) (v .kept) took in
         record {
-          out = λ o. elements-exit (sinkAt q inside) (exitSink (q .walk) inside) alike (q .bytes) start (q .end) (q .path) fit count left at (v .later) h e n x y all o ∙ v .same o;
+          out = elements-exit (sinkAt q inside) (exitSink (q .walk) inside) alike (q .bytes) (q .base) start (q .end) (q .path) fit count left at (v .later) h e n x y all ∙ v .same;
           kept = same ∙ v .kept;
         }
 
     -- an element was entered with the world x₁ and the path p₁, and its fields left the world y and r
     module _ (i next m : ℕ) (e : elementHead (upTo (q .bytes) (q .end)) count left at ≡ head.Go i next m) (x₁ y : World) (p₁ path′ : List ℕ)
         (counts : (p : List ℕ) → x₁ ≡ played (element p ∷ []) (padding (elementPads (upTo (q .bytes) (q .end)) left at) x)) (is : p₁ ≡ itemPath (q .walk) path i) (r : After) (p₂ : List ℕ)
-        (f : FieldsWalked (place (q .walk) (q .tables) (q .below) (q .level) (q .bytes) (q .end) p₁) i next x₁ y r p₂) (same : path′ ≡ path) where
+        (f : FieldsWalked (place (q .walk) (q .tables) (q .below) (q .level) (q .bytes) (q .base) (q .end) p₁) i next x₁ y r p₂) (same : path′ ≡ path) where
       later′ : start ≤ next
       later′ = let n = element-next (q .bytes) (q .end) count left at e in let z = v .later in omega arith
 
@@ -222,72 +223,72 @@ module _ (q : Place) (inside : Bool) (start : ℕ) (fit : start ≤ q .end) wher
       path-here = is ∙ ap (λ (p : List ℕ). itemPath (q .walk) p i) (v .kept) ∙ sym (item-path (q .walk) (q .tables) (q .below) inside (q .level) (q .path) i)
 
       -- the element's fields by the definition, and the world and the elements behind them
-      abbrev fieldsOf : ℕ → Run
-      fieldsOf o = fields (sinkAt q inside) (windowAt q start o) i (inItem (sinkAt q inside) (q .path) i) maxFields (next - start) true
+      abbrev fieldsOf : Run
+      fieldsOf = fields (sinkAt q inside) (windowAt q start) i (inItem (sinkAt q inside) (q .path) i) maxFields (next - start) true
 
       abbrev entered : World
       entered = played (element (inItem (sinkAt q inside) (q .path) i) ∷ []) (padding (elementPads (upTo (q .bytes) (q .end)) left at) x)
 
-      abbrev more : ℕ → ℕ → Trace
-      more o k = elements (sinkAt q inside) (windowAt q start o) (q .path) count (left - 1) k
+      abbrev more : ℕ → Trace
+      more k = elements (sinkAt q inside) (windowAt q start) (q .path) count (left - 1) k
 
-      runs : (o : ℕ) → ended y r ≡ finished start (fieldsOf o) entered
-      runs o =
-          f .out start o inside later′
-          ∙ ap₂ (λ (p : List ℕ) (w : World). finished start (fields (sinkAt q inside) (windowAt q start o) i p maxFields (next - start) true) w) path-here (counts (inItem (sinkAt q inside) (q .path) i))
+      runs : ended y r ≡ finished start fieldsOf entered
+      runs =
+          f .out start inside later′
+          ∙ ap₂ (λ (p : List ℕ) (w : World). finished start (fields (sinkAt q inside) (windowAt q start) i p maxFields (next - start) true) w) path-here (counts (inItem (sinkAt q inside) (q .path) i))
 
-      walked : (o : ℕ) → played (elements (sinkAt q inside) (windowAt q start o) (q .path) count left (at - start)) x ≡ played (behind (more o) (fieldsOf o)) entered
-      walked o = elements-walk (sinkAt q inside) (exitSink (q .walk) inside) alike (q .bytes) start (q .end) (q .path) fit count left at (v .later) e x o
+      walked : played (elements (sinkAt q inside) (windowAt q start) (q .path) count left (at - start)) x ≡ played (behind more fieldsOf) entered
+      walked = elements-walk (sinkAt q inside) (exitSink (q .walk) inside) alike (q .bytes) (q .base) start (q .end) (q .path) fit count left at (v .later) e x
 
       pub elements-turn : (n : ℕ) → r ≡ after.Closed n → Leveling q inside start count begin x₀ y path′ n (left - 1)
       elements-turn n er =
-          let played-on : (o : ℕ) → ended y (after.Closed n) ≡ finished start (fieldsOf o) entered = λ o. ap (ended y) (sym er) ∙ runs o in
+          let played-on : ended y (after.Closed n) ≡ finished start fieldsOf entered = ap (ended y) (sym er) ∙ runs in
           record {
-            later = closed-later start n (fieldsOf 0) entered y (played-on 0);
-            same = λ o. sym (walked o ∙ behind-closed start n (more o) (fieldsOf o) entered y (played-on o)) ∙ v .same o;
+            later = closed-later start n fieldsOf entered y played-on;
+            same = sym (walked ∙ behind-closed start n more fieldsOf entered y played-on) ∙ v .same;
             kept = same ∙ v .kept;
           }
 
       pub elements-open : r ≡ after.Open → ElementsWalked q inside start count begin x₀ y path′
       elements-open er =
           record {
-            out = λ o. behind-open start (more o) (fieldsOf o) entered y (ap (ended y) (sym er) ∙ runs o) ∙ sym (walked o) ∙ v .same o;
+            out = behind-open start more fieldsOf entered y (ap (ended y) (sym er) ∙ runs) ∙ sym walked ∙ v .same;
             kept = same ∙ v .kept;
           }
 
 -- ---- a field
 
 module _ (q : Place) (index : ℕ) (first : Bool) (handle start : ℕ) (x : World) (fit : start ≤ q .end) where
-  size-here : (o : ℕ) → (windowAt q start o) .size ≡ q .end - start
-  size-here o = size-inner (q .bytes) start (q .end) o fit
+  size-here : (windowAt q start) .size ≡ q .end - start
+  size-here = size-inner (q .bytes) (q .base) start (q .end) fit
 
   -- a field that is no array to walk
   pub field-put : (k : Kind) → k ≡ kindOf (q .walk) (q .tables) (q .below) (q .level) handle (q .end - start) → NotArray k → (y : World) (path : List ℕ)
-      → ((o : ℕ) → y ≡ played (flatField (q .tables) index (q .path) first handle (windowAt q start o) k) x) → path ≡ q .path
+      → y ≡ played (flatField (q .tables) index (q .path) first handle (windowAt q start) k) x → path ≡ q .path
       → FieldWalked q index first handle start x y path
   field-put k e n y path out same =
       record {
-        out = λ o inside.
-            let e′ = e ∙ ap (kindOf (q .walk) (q .tables) (q .below) (q .level) handle) (sym (size-here o)) in
-            out o ∙ ap (λ (t : Trace). played t x) (sym (field-flat (q .walk) (q .tables) (q .below) inside (q .level) index (q .path) first handle (windowAt q start o) k e′ n));
+        out = λ inside.
+            let e′ = e ∙ ap (kindOf (q .walk) (q .tables) (q .below) (q .level) handle) (sym size-here) in
+            out ∙ ap (λ (t : Trace). played t x) (sym (field-flat (q .walk) (q .tables) (q .below) inside (q .level) index (q .path) first handle (windowAt q start) k e′ n));
         kept = same;
       }
 
   -- an array: its label is put behind the path, and its level is walked
   pub field-walked : (lower : ℕ) (l : Label) → kind.Array lower l ≡ kindOf (q .walk) (q .tables) (q .below) (q .level) handle (q .end - start) → (y : World) (longer path : List ℕ) (c : Place) (start′ : ℕ) (path′ : List ℕ)
-      → longer ≡ dot (q .path) (labelBytes (q .tables) handle l) → LevelWalked c true start′ x y path′ → c ≡ place (q .walk) (q .tables) (q .below - 1) lower (c .bytes) (c .end) longer
-      → ((o : ℕ) → windowAt c start′ o ≡ windowAt q start o) → path ≡ q .path
+      → longer ≡ dot (q .path) (labelBytes (q .tables) handle l) → LevelWalked c true start′ x y path′ → c ≡ place (q .walk) (q .tables) (q .below - 1) lower (c .bytes) (c .base) (c .end) longer
+      → windowAt c start′ ≡ windowAt q start → path ≡ q .path
       → FieldWalked q index first handle start x y path
   field-walked lower l e y longer path c start′ path′ is r ec window same =
       record {
-        out = λ o inside.
-            let e′ = e ∙ ap (kindOf (q .walk) (q .tables) (q .below) (q .level) handle) (sym (size-here o)) in
+        out = λ inside.
+            let e′ = e ∙ ap (kindOf (q .walk) (q .tables) (q .below) (q .level) handle) (sym size-here) in
             let s = sinkFor (q .walk) (q .tables) (q .below - 1) true lower in
-            r .out o
-            ∙ ap (λ (p : Place). played (level (sinkAt p true) (windowAt c start′ o) (p .path)) x) ec
-            ∙ ap₂ (λ (w : Window) (p : List ℕ). played (level s w p) x) (window o) is
-            ∙ played-array (dot (q .path) (labelBytes (q .tables) handle l)) (level s (windowAt q start o) (dot (q .path) (labelBytes (q .tables) handle l))) x
-            ∙ ap (λ (t : Trace). played t x) (sym (field-array (q .walk) (q .tables) (q .below) inside (q .level) index (q .path) first handle (windowAt q start o) lower l e′));
+            r .out
+            ∙ ap (λ (p : Place). played (level (sinkAt p true) (windowAt c start′) (p .path)) x) ec
+            ∙ ap₂ (λ (w : Window) (p : List ℕ). played (level s w p) x) window is
+            ∙ played-array (enteredAt (dot (q .path) (labelBytes (q .tables) handle l)) (windowAt q start)) (level s (windowAt q start) (dot (q .path) (labelBytes (q .tables) handle l))) x
+            ∙ ap (λ (t : Trace). played t x) (sym (field-array (q .walk) (q .tables) (q .below) inside (q .level) index (q .path) first handle (windowAt q start) lower l e′));
         kept = same;
       }
 
@@ -307,7 +308,7 @@ module _ (rows names declared declaredNames : List ℕ) where
       → k ≡ kindOf s (tables rows names declared declaredNames) below lvl handle width
   kind-is s below lvl handle width e = e ∙ kind-tables s rows names declared declaredNames below lvl handle width
 
-  pub kind-ready : {bytes : List ℕ} {start end plen adds : ℕ} {spans : List ℕ} → Ready bytes start end plen adds (tables rows names declared declaredNames) spans
+  pub kind-ready : {bytes : List ℕ} {base start end plen adds : ℕ} {spans : List ℕ} → Ready bytes base start end plen adds (tables rows names declared declaredNames) spans
       → (s : Walk) (below lvl handle width : ℕ) {k : Kind} → k ≡ kindOf s (lookUps rows declared) below lvl handle width
       → KindLies (tables rows names declared declaredNames) k
   kind-ready r s below lvl handle width e =
@@ -315,31 +316,33 @@ module _ (rows names declared declaredNames : List ℕ) where
       subst (KindLies t) (sym (kind-is s below lvl handle width e)) (kind-lies s t below lvl handle width (r .labels .leaf) (r .labels .container))
 
 -- a window that lies in its bytes lies there from their first bit on
-pub up-to : {bytes : List ℕ} {start end plen adds : ℕ} {t : Tables} {spans : List ℕ} → Ready bytes start end plen adds t spans → Lies bytes 0 end
+pub up-to : {bytes : List ℕ} {base start end plen adds : ℕ} {t : Tables} {spans : List ℕ} → Ready bytes base start end plen adds t spans → Lies bytes 0 end
 up-to r = (omega arith, r .lies .1, r .lies .2)
 
 -- what the code asks for a child, and for a field or an element's fields of the same level
-pub ready-child : (bytes : List ℕ) (start end plen adds longer less : ℕ) (t : Tables) (spans : List ℕ) → Ready bytes start end plen adds t spans
+pub ready-child : (bytes : List ℕ) (base start end plen adds longer less : ℕ) (t : Tables) (spans : List ℕ) → Ready bytes base start end plen adds t spans
     → longer + less ≤ longestPath
-    → Ready (take ((end + 7) / 8 - start / 8) (drop (start / 8) bytes)) (start % 8) (start % 8 + (end - start)) longer less t spans
-ready-child bytes start end plen adds longer less t spans r h =
+    → Ready (take ((end + 7) / 8 - start / 8) (drop (start / 8) bytes)) (base + (start - start % 8)) (start % 8) (start % 8 + (end - start)) longer less t spans
+ready-child bytes base start end plen adds longer less t spans r h =
     let le = r .lies .0 in
     let fit = r .lies .1 in
     let few = r .lies .2 in
     record {
       lies = (omega arith, child-inside bytes start end le fit, omega arith);
+      in-root = let root = r .in-root in omega arith;
       path = h;
       labels = r .labels;
       spans-are = r .spans-are;
     }
 
-pub ready-part : (bytes : List ℕ) (start end from′ end′ plen adds longer less : ℕ) (t : Tables) (spans : List ℕ) → Ready bytes start end plen adds t spans
-    → from′ ≤ end′ → end′ ≤ end → longer + less ≤ longestPath → Ready bytes from′ end′ longer less t spans
-ready-part bytes start end from′ end′ plen adds longer less t spans r le in-end h =
+pub ready-part : (bytes : List ℕ) (base start end from′ end′ plen adds longer less : ℕ) (t : Tables) (spans : List ℕ) → Ready bytes base start end plen adds t spans
+    → from′ ≤ end′ → end′ ≤ end → longer + less ≤ longestPath → Ready bytes base from′ end′ longer less t spans
+ready-part bytes base start end from′ end′ plen adds longer less t spans r le in-end h =
     let fit = r .lies .1 in
     let few = r .lies .2 in
     record {
       lies = (le, omega arith, omega arith);
+      in-root = let root = r .in-root in omega arith;
       path = h;
       labels = r .labels;
       spans-are = r .spans-are;

@@ -12,7 +12,7 @@ use Rattle.framing.specs.Walk as W
 use Rattle.framing.specs.Walk.{Run, done, stopped, fields, level}
 use Rattle.outputs.specs.World.{World}
 use Rattle.steps.specs.Tally.{played}
-use Rattle.steps.specs.Steps.{Lies}
+use Rattle.steps.specs.Steps.{Lies, InRoot}
 use Rattle.steps.specs.Views.{inner, sinkFor}
 use Rattle.framing.specs.declared.Walk.{Walk}
 use Rattle.cycle.specs.declared.After.{After}
@@ -25,32 +25,34 @@ pub record Place : Type 0 where
   pub below : ℕ
   pub level : ℕ
   pub bytes : List ℕ
+  pub base : ℕ  -- the bit of the root window at which the bytes start
   pub end : ℕ
   pub path : List ℕ
 
-abbrev pub place : Walk → Tables → (below level : ℕ) (bytes : List ℕ) (end : ℕ) (path : List ℕ) → Place
-place walk tables below level bytes end path =
-    record { walk = walk; tables = tables; below = below; level = level; bytes = bytes; end = end; path = path }
+abbrev pub place : Walk → Tables → (below level : ℕ) (bytes : List ℕ) (base end : ℕ) (path : List ℕ) → Place
+place walk tables below level bytes base end path =
+    record { walk = walk; tables = tables; below = below; level = level; bytes = bytes; base = base; end = end; path = path }
 
 -- the definition's sink there
 abbrev pub sinkAt : Place → (inside : Bool) → W.Sink
 sinkAt q inside = sinkFor (q .walk) (q .tables) (q .below) inside (q .level)
 
 -- the definition's window, if it starts at bit b of the bytes
-abbrev pub windowAt : Place → (b origin : ℕ) → Window
-windowAt q b o = inner (q .bytes) b (q .end) o
+abbrev pub windowAt : Place → (b : ℕ) → Window
+windowAt q b = inner (q .bytes) (q .base) b (q .end)
 
--- What the code asks: the window lies in its bytes and is not too long, what may still be added to the path has room behind it, every label lies in
--- its pool, and the spans are those of the rows.
-pub record Ready (bytes : List ℕ) (start end plen adds : ℕ) (t : Tables) (spans : List ℕ) : Type 0 where
+-- What the code asks: the window lies in its bytes and in a root window that is not too long, what may still be added to the path has room behind it,
+-- every label lies in its pool, and the spans are those of the rows.
+pub record Ready (bytes : List ℕ) (base start end plen adds : ℕ) (t : Tables) (spans : List ℕ) : Type 0 where
   pub lies : Lies bytes start end
+  pub in-root : InRoot base end
   pub path : plen + adds ≤ longestPath
   pub labels : LabelsLie t
   pub spans-are : spans ≡ spansOf (t .rows)
 
 -- a level: the world x became y, and the path the walk stands at is still `path`
 pub record LevelWalked (q : Place) (inside : Bool) (start : ℕ) (x y : World) (path : List ℕ) : Type 0 where
-  pub out : (o : ℕ) → y ≡ played (level (sinkAt q inside) (windowAt q start o) (q .path)) x
+  pub out : y ≡ played (level (sinkAt q inside) (windowAt q start) (q .path)) x
   pub kept : path ≡ q .path
 
 -- what an element's fields leave: the world, and whether they closed, with the position as a bit of the bytes
@@ -64,11 +66,11 @@ finished b (stopped t) x = record { world = played t x; after = after.Open }
 
 -- an element's fields, the first due at bit `start` of the bytes; the window may start at any bit b before it
 pub record FieldsWalked (q : Place) (index start : ℕ) (x y : World) (r : After) (path : List ℕ) : Type 0 where
-  pub out : (b o : ℕ) (inside : Bool) → b ≤ start
-      → record { world = y; after = r } ≡ finished b (fields (sinkAt q inside) (windowAt q b o) index (q .path) maxFields (start - b) true) x
+  pub out : (b : ℕ) (inside : Bool) → b ≤ start
+      → record { world = y; after = r } ≡ finished b (fields (sinkAt q inside) (windowAt q b) index (q .path) maxFields (start - b) true) x
   pub kept : path ≡ q .path
 
 -- a field, from bit `start` to the place's end
 pub record FieldWalked (q : Place) (index : ℕ) (first : Bool) (handle start : ℕ) (x y : World) (path : List ℕ) : Type 0 where
-  pub out : (o : ℕ) (inside : Bool) → y ≡ played (sinkAt q inside .field index (q .path) first handle (windowAt q start o)) x
+  pub out : (inside : Bool) → y ≡ played (sinkAt q inside .field index (q .path) first handle (windowAt q start)) x
   pub kept : path ≡ q .path

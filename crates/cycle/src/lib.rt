@@ -43,10 +43,12 @@ fn still_first(first: bool, body: u64, next: u64) -> bool
     body == next
 }
 
-// One array level: the bits from..end of bytes, with `below` levels allowed under it (01, Walking an array, rules 1 to 4).
+// One array level: the bits from..end of bytes, with `below` levels allowed under it (01, Walking an array, rules 1 to 4). The
+// first bit of bytes is bit `base` of the root window.
 pub fn walk_level<'a>(
     tally: &mut Tally,
     bytes: &[u8],
+    base: u64,
     from: u64,
     end: u64,
     walk: Walk,
@@ -64,10 +66,11 @@ pub fn walk_level<'a>(
     paths: &mut [u8],
     payloads: &mut [u8],
 )
-    requires { ⌜ Ready (now bytes) «from» end plen (levelAdds below) (tables (now rows) (now names) (now declared) (now «declared_names»)) (now spans) ⌝ }
+    requires { ⌜ Ready (now bytes) base «from» end plen (levelAdds below) (tables (now rows) (now names) (now declared) (now «declared_names»))
+        (now spans) ⌝ }
     ensures { λ _. ⌜ LevelWalked
         (place walk (tables (now (rows .entry)) (now (names .entry)) (now (declared .entry)) (now («declared_names» .entry))) below level
-        (now (bytes .entry)) end (take plen (now (path .entry))))
+        (now (bytes .entry)) base end (take plen (now (path .entry))))
         inside «from»
         (worldOf (now (tally .entry)) (now (records .entry)) (now (paths .entry)) (now (payloads .entry)))
         (worldOf (now (tally .exit)) (now (records .exit)) (now (paths .exit)) (now (payloads .exit)))
@@ -84,6 +87,7 @@ pub fn walk_level<'a>(
             tally,
             o,
             bytes,
+            base,
             end,
             walk,
             inside,
@@ -109,6 +113,7 @@ pub fn walk_level<'a>(
                 tally,
                 h,
                 bytes,
+                base,
                 end,
                 walk,
                 inside,
@@ -124,6 +129,7 @@ pub fn walk_level<'a>(
         let w = walk_fields(
             &mut *tally,
             bytes,
+            base,
             next,
             end,
             walk,
@@ -153,6 +159,7 @@ pub fn walk_level<'a>(
 fn walk_fields<'a>(
     tally: &mut Tally,
     bytes: &[u8],
+    base: u64,
     from: u64,
     end: u64,
     walk: Walk,
@@ -170,10 +177,11 @@ fn walk_fields<'a>(
     paths: &mut [u8],
     payloads: &mut [u8],
 ) -> After
-    requires { ⌜ Ready (now bytes) «from» end plen (elementAdds below) (tables (now rows) (now names) (now declared) (now «declared_names»)) (now spans) ⌝ }
+    requires { ⌜ Ready (now bytes) base «from» end plen (elementAdds below) (tables (now rows) (now names) (now declared) (now «declared_names»))
+        (now spans) ⌝ }
     ensures { λ r. ⌜ FieldsWalked
         (place walk (tables (now (rows .entry)) (now (names .entry)) (now (declared .entry)) (now («declared_names» .entry))) below level
-        (now (bytes .entry)) end (take plen (now (path .entry))))
+        (now (bytes .entry)) base end (take plen (now (path .entry))))
         index «from»
         (worldOf (now (tally .entry)) (now (records .entry)) (now (paths .entry)) (now (payloads .entry)))
         (worldOf (now (tally .exit)) (now (records .exit)) (now (paths .exit)) (now (payloads .exit)))
@@ -197,6 +205,7 @@ fn walk_fields<'a>(
                 tally,
                 h,
                 bytes,
+                base,
                 end,
                 walk,
                 plen,
@@ -210,6 +219,7 @@ fn walk_fields<'a>(
         walk_field(
             &mut *tally,
             bytes,
+            base,
             body,
             next,
             walk,
@@ -240,6 +250,7 @@ fn walk_fields<'a>(
 fn walk_field<'a>(
     tally: &mut Tally,
     bytes: &[u8],
+    base: u64,
     from: u64,
     end: u64,
     walk: Walk,
@@ -259,10 +270,11 @@ fn walk_field<'a>(
     paths: &mut [u8],
     payloads: &mut [u8],
 )
-    requires { ⌜ Ready (now bytes) «from» end plen (elementAdds below) (tables (now rows) (now names) (now declared) (now «declared_names»)) (now spans) ⌝ }
+    requires { ⌜ Ready (now bytes) base «from» end plen (elementAdds below) (tables (now rows) (now names) (now declared) (now «declared_names»))
+        (now spans) ⌝ }
     ensures { λ _. ⌜ FieldWalked
         (place walk (tables (now (rows .entry)) (now (names .entry)) (now (declared .entry)) (now («declared_names» .entry))) below level
-        (now (bytes .entry)) end (take plen (now (path .entry))))
+        (now (bytes .entry)) base end (take plen (now (path .entry))))
         index first handle «from»
         (worldOf (now (tally .entry)) (now (records .entry)) (now (paths .entry)) (now (payloads .entry)))
         (worldOf (now (tally .exit)) (now (records .exit)) (now (paths .exit)) (now (payloads .exit)))
@@ -275,6 +287,7 @@ fn walk_field<'a>(
             tally,
             kind,
             bytes,
+            base,
             from,
             end,
             index,
@@ -294,9 +307,11 @@ fn walk_field<'a>(
     let a = (from / 8) as usize;
     let z = ((end + 7) / 8) as usize;
     let start = from % 8;
+    let skipped = from - start;
     walk_level(
         tally,
         &bytes[a..z],
+        base + skipped,
         start,
         start + width,
         walk,

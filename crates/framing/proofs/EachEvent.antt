@@ -39,42 +39,43 @@ abbrev pub whole : (t : Tables) → Known t
 whole t = ofWindows (λ w. w .bits < 2 ^ w .size) (λ w p k h fit. field-lt (w .bits) p k) t
 
 abbrev may : Walker → Property
-may k = record { Good = λ w p q a. Each (May k) a; Stop = λ w p a. Each (May k) a; Gave = λ w a. Each (May k) a }
+may k = record { Good = λ w path p q a. Each (May k) a; Stop = λ w path place p a. Each (May k) a; Gave = λ h w a. Each (May k) a }
 
 pieces : (k : Walker) → Pieces (may k)
 pieces k =
     record {
-      join = λ w p q r a b g h. each-append (May k) a b g h;
-      halt = λ w p q a b g h. each-append (May k) a b g h;
-      read = λ w x p q r. (tt, tt);
-      field = λ w x y p q r n a s t fit h. (tt, (tt, h));
-      empty = λ w e. tt;
-      ended = λ w p e. (tt, tt);
-      failed = λ w p h. (tt, tt);
-      limited = λ w p h. (tt, tt);
-      left = λ w p h. (tt, tt);
-      silent = λ w e. tt;
+      join = λ w path p q r a b g h. each-append (May k) a b g h;
+      halt = λ w path place p q a b g h. each-append (May k) a b g h;
+      leave = λ w path place p a h. h;
+      read = λ w path x p q r. (tt, tt);
+      field = λ w path x y n p q r a says s t fit h. (tt, (tt, h));
+      empty = λ h w e. tt;
+      ended = λ w path place p e. (tt, tt);
+      failed = λ w path place p h. (tt, tt);
+      limited = λ w path place p h. (tt, tt);
+      left = λ w path p h. (tt, tt);
+      silent = λ w path e. tt;
     }
 
 struct-pieces : (k : Walker) → Leafy k → (t : Tables) → StructPieces t (whole t) (may k)
 struct-pieces k leafy t =
     record {
-      entered = λ w x i p q d path r low at. (tt, (tt, tt));
-      kept = λ w p d path fit lt here. (tt, ((leafy, field-lt (w .bits) p (w .size - p)), tt));
+      enter = λ w x i p q d path a r low at h. (tt, (tt, h));
+      kept = λ w p d path place fit pos lt here. (tt, ((leafy, field-lt (w .bits) p (w .size - p)), tt));
       deep = λ w lvl h path fit some here low. (tt, ((leafy, fit), tt));
       leaf = λ w d lvl h path fit here low. ((leafy, fit), tt);
       child = λ w d lvl h path a some here low g. (tt, g);
-      left = λ w p h. (tt, tt);
+      left = λ w path p h. (tt, tt);
     }
 
 object-pieces : (t : Tables) (lvl : ℕ) → ObjectPieces (may (walker how.Object t lvl))
 object-pieces t lvl =
     record {
-      entered = λ w x p q r. (tt, (tt, tt));
-      guid = λ w x i r. (tt, ((λ z. never cc), tt));
-      longer = λ w x q r. (tt, (tt, tt));
-      unread = λ w some. (tt, tt);
-      passed = λ w some. (tt, tt);
+      enter = λ w x p q a r h. (tt, (tt, h));
+      guid = λ h w x i r. (tt, ((λ z. never cc), tt));
+      longer = λ h w x q r. (tt, (tt, tt));
+      unread = λ h w some. (tt, tt);
+      passed = λ h w some. (tt, tt);
     }
 
 kind-pieces : (k : Walker) → KindPieces k (whole (tablesOf k)) (may k)

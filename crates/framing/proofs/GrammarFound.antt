@@ -15,7 +15,7 @@ use Rattle.bits.specs.Packed.{Number}
 use Rattle.bits.proofs.Never.{never}
 use Rattle.bits.specs.Sizes.{maxElements, maxFields, trailerBits}
 use Rattle.framing.specs.Windows.{Window, part, Reading, got, failed, reading}
-use Rattle.framing.specs.Events.{numbers, Event, number, element, array, truncation, error, implicit, Trace}
+use Rattle.framing.specs.Events.{Entered, numbers, Event, number, element, array, truncation, error, implicit, Trace}
 use Rattle.framing.specs.Counters.{counters, faults}
 use Rattle.framing.specs.Walk.{Sink, numberAt, Lead, ends, fails, closes, opens, lead, Due, cut, broken, closed, present, fieldAt, tail, Run, done, stopped, prepend, onField, onLastField, fields, trailerOf, closing, inItem, behind, beyond, onIndex, onLastIndex, elements, tooMany, onCount, level}
 use Rattle.framing.specs.Grammar.{Bits, noBits, numBits, Field, Element, Array, fieldBits, fieldsBits, elementBits, elementsBits, trailing, arrayBits}
@@ -50,8 +50,8 @@ fine-number x t h = omega arith
 pub fine-element : (p : List ℕ) (t : Trace) → Fine t → Fine (element p ∷ t)
 fine-element p t h = omega arith
 
-pub fine-array : (p : List ℕ) (t : Trace) → Fine t → Fine (array p ∷ t)
-fine-array p t h = omega arith
+pub fine-array : (a : Entered) (t : Trace) → Fine t → Fine (array a ∷ t)
+fine-array a t h = omega arith
 
 -- the bits of a window
 abbrev pub bitsIn : Window → Bits

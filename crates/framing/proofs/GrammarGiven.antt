@@ -17,7 +17,7 @@ use Rattle.framing.specs.Events.{Leaf, Pair, Event, number, nested, leav
 use Rattle.framing.specs.Counters.{counters}
 use Rattle.framing.specs.Paths.{arrayPath}
 use Rattle.framing.specs.Walk.{Sink, inItem, level}
-use Rattle.framing.specs.Sinks.{onChild, structSink, tooDeep, objectSink}
+use Rattle.framing.specs.Sinks.{onChild, tooDeep, enteredAt, structSink, objectSink}
 use Rattle.framing.specs.Grammar.{Bits, numBits, Field, Element, Array, fieldBits, fieldsBits, elementBits, elementsBits, arrayBits}
 use Rattle.framing.specs.GrammarRules.{Each, FieldsOk, ElementOk, ArrayOk, plain, contentBits, PlainOk, NestedOk, array, allowedIn, IsStructArray, Reference, noGuid, guid, referenceBits, referenceIn, IsObjectArray}
 use Rattle.framing.specs.GrammarRules as G
@@ -96,7 +96,7 @@ nested-given : (deeper : ℕ) (t : Tables) (takes : Bool) (lvl : ℕ) (a : Array
     → ((below : ℕ) → IsStructArray deeper (t .rows) takes below a → (v : Window) → Span v 0 (v .size) (arrayBits (contentBits deeper) a) → (place : List ℕ)
     → leaves (level (structSink deeper t takes nested below) v place) ≡ structLeaves deeper t below (v .origin) place a)
     → (c : Child) → NestedOk ((arrayBits (contentBits deeper) a) .size) (λ below. IsStructArray deeper (t .rows) takes below a) c
-    → leaves (onChild t lvl (λ below path handle w. Ev.array path ∷ level (structSink deeper t takes nested below) w path) path h
+    → leaves (onChild t lvl (λ below path handle w. Ev.array (enteredAt path w) ∷ level (structSink deeper t takes nested below) w path) path h
     (windowAt o p (arrayBits (contentBits deeper) a)) c)
     ≡ nestedLeaves (λ below longer. structLeaves deeper t below (o + p) longer a) t lvl path h c
 nested-given deeper t takes lvl a path h o p b inside (Child.Array below) (array some inner) =
@@ -135,7 +135,7 @@ struct-leaves (suc deeper) t takes leftover lvl rest a ok w sp path =
     each : Inside → (i : ℕ) (path : List ℕ) (first : Bool) (h : ℕ) (x : G.Content (suc deeper)) → allowedIn (suc deeper) (t .rows) takes lvl first h x → (o p : ℕ)
         → leaves ((structSink (suc deeper) t takes leftover lvl) .field i path first h (windowAt o p (contentBits (suc deeper) x))) ≡ contentLeaves (suc deeper) t lvl path h (o + p) x
     each inside i path first h (plain b) y o p =
-        plain-given t lvl (λ below path handle w. Ev.array path ∷ level (structSink deeper t takes nested below) w path) path h b o p (child (t .rows) lvl h) (y .1)
+        plain-given t lvl (λ below path handle w. Ev.array (enteredAt path w) ∷ level (structSink deeper t takes nested below) w path) path h b o p (child (t .rows) lvl h) (y .1)
     each inside i path first h (G.nested z) y o p =
         nested-given deeper t takes lvl z path h o p (allowed-below (suc deeper) (t .rows) takes lvl first h (G.nested z) y)
         (λ below u v q place. inside below z u v q place) (child (t .rows) lvl h) y
@@ -205,7 +205,7 @@ nested-count : (deeper : ℕ) (t : Tables) (takes : Bool) (lvl : ℕ) (a : Array
     → ((below : ℕ) → IsStructArray deeper (t .rows) takes below a → (v : Window) → Span v 0 (v .size) (arrayBits (contentBits deeper) a) → (place : List ℕ)
     → entered (level (structSink deeper t takes nested below) v place) ≡ arrayCount (contentCount deeper) a)
     → (c : Child) → NestedOk ((arrayBits (contentBits deeper) a) .size) (λ below. IsStructArray deeper (t .rows) takes below a) c
-    → entered (onChild t lvl (λ below path handle w. Ev.array path ∷ level (structSink deeper t takes nested below) w path) path h
+    → entered (onChild t lvl (λ below path handle w. Ev.array (enteredAt path w) ∷ level (structSink deeper t takes nested below) w path) path h
     (windowAt o p (arrayBits (contentBits deeper) a)) c)
     ≡ arrayCount (contentCount deeper) a
 nested-count deeper t takes lvl a path h o p b inside (Child.Array below) (array some inner) =
@@ -243,7 +243,7 @@ struct-elements (suc deeper) t takes leftover lvl rest a ok w sp path =
     each : Inside → (i : ℕ) (path : List ℕ) (first : Bool) (h : ℕ) (x : G.Content (suc deeper)) → allowedIn (suc deeper) (t .rows) takes lvl first h x → (o p : ℕ)
         → entered ((structSink (suc deeper) t takes leftover lvl) .field i path first h (windowAt o p (contentBits (suc deeper) x))) ≡ contentCount (suc deeper) x
     each inside i path first h (plain b) y o p =
-        plain-count t lvl (λ below path handle w. Ev.array path ∷ level (structSink deeper t takes nested below) w path) path h b o p (child (t .rows) lvl h) (y .1)
+        plain-count t lvl (λ below path handle w. Ev.array (enteredAt path w) ∷ level (structSink deeper t takes nested below) w path) path h b o p (child (t .rows) lvl h) (y .1)
     each inside i path first h (G.nested z) y o p =
         nested-count deeper t takes lvl z path h o p (allowed-below (suc deeper) (t .rows) takes lvl first h (G.nested z) y)
         (λ below u v q place. inside below z u v q place) (child (t .rows) lvl h) y

@@ -17,7 +17,7 @@ use Rattle.framing.specs.Events as Ev
 use Rattle.framing.specs.Events.{Event, number, element, truncation, nested, Trace}
 use Rattle.framing.specs.Paths.{arrayPath}
 use Rattle.framing.specs.Walk.{Sink, inItem, level}
-use Rattle.framing.specs.Sinks.{leafOf, onChild, structSink, tooDeep}
+use Rattle.framing.specs.Sinks.{leafOf, onChild, tooDeep, enteredAt, structSink}
 use Rattle.framing.specs.Grammar.{Bits, Field, Element, Array, fieldBits, fieldsBits, elementBits, elementsBits, arrayBits}
 use Rattle.framing.specs.GrammarRules.{Each, FieldsOk, ElementOk, ArrayOk, plain, contentBits, PlainOk, NestedOk, array, allowedIn, IsStructArray}
 use Rattle.framing.specs.GrammarRules as G
@@ -113,7 +113,7 @@ found-struct (suc deeper) t takes leftover lvl tells w path g =
     Inside = (below : ℕ) (v : Window) (place : List ℕ) → Fine (level (structSink deeper t takes nested below) v place) → InStruct deeper (t .rows) takes below v
 
     look : Inside → (i : ℕ) (path : List ℕ) (first : Bool) (h : ℕ) (v : Window) → v .bits < 2 ^ v .size → (c : Child) → child (t .rows) lvl h ≡ c
-        → Fine (onChild t lvl (λ below path handle w. Ev.array path ∷ level (structSink deeper t takes nested below) w path) path h v c)
+        → Fine (onChild t lvl (λ below path handle w. Ev.array (enteredAt path w) ∷ level (structSink deeper t takes nested below) w path) path h v c)
         → Content (G.Content (suc deeper)) (contentBits (suc deeper)) (λ f k x. allowedIn (suc deeper) (t .rows) takes lvl f k x) first h v
     look inside i path first h v b Child.Leaf e g = plain-more deeper (t .rows) takes lvl first h v b (subst (λ (c : Child). PlainOk (bitsIn v) c) (sym e) G.leaf)
     look inside i path first h v b (Child.Array below) e g = go (eqb (v .size) 0) refl
@@ -123,8 +123,8 @@ found-struct (suc deeper) t takes leftover lvl tells w path g =
         go false k =
             let q = arrayPath t lvl path h in
             let u = level (structSink deeper t takes nested below) v q in
-            let g′ : Fine (Ev.array q ∷ u) = rw k at g in
-            nested-more deeper (t .rows) takes lvl first h below v b (eqb-false _ _ k) e (inside below v q (fine-rest (Ev.array q) u g′))
+            let g′ : Fine (Ev.array (enteredAt q v) ∷ u) = rw k at g in
+            nested-more deeper (t .rows) takes lvl first h below v b (eqb-false _ _ k) e (inside below v q (fine-rest (Ev.array (enteredAt q v)) u g′))
 
     find : Inside → (i : ℕ) (path : List ℕ) (first : Bool) (h : ℕ) (v : Window) → v .bits < 2 ^ v .size
         → Fine ((structSink (suc deeper) t takes leftover lvl) .field i path first h v)
@@ -202,13 +202,13 @@ nested-fine : (deeper : ℕ) (t : Tables) (takes : Bool) (lvl : ℕ) (a : Array 
     → Fine (level (structSink deeper t takes nested below) v path))
     → (path : List ℕ) (h o p : ℕ) {c : Child} → NestedOk ((arrayBits (contentBits deeper) a) .size) (λ below. IsStructArray deeper (t .rows) takes below a) c
     → Below (arrayBits (contentBits deeper) a)
-    → Fine (onChild t lvl (λ below path handle w. Ev.array path ∷ level (structSink deeper t takes nested below) w path) path h
+    → Fine (onChild t lvl (λ below path handle w. Ev.array (enteredAt path w) ∷ level (structSink deeper t takes nested below) w path) path h
     (windowAt o p (arrayBits (contentBits deeper) a)) c)
 nested-fine deeper t takes lvl a inside path h o p (array {below = below} some inner) b =
     let v = windowAt o p (arrayBits (contentBits deeper) a) in
     let q = arrayPath t lvl path h in
     rw (ne-eqb ((arrayBits (contentBits deeper) a) .size) 0 (λ z. omega arith))
-    (fine-array q (level (structSink deeper t takes nested below) v q) (inside below inner v (whole-span v (arrayBits (contentBits deeper) a) b refl) q))
+    (fine-array (enteredAt q v) (level (structSink deeper t takes nested below) v q) (inside below inner v (whole-span v (arrayBits (contentBits deeper) a) b refl) q))
 
 -- A struct array's bits are walked without fault.
 pub walked-struct : (deeper : ℕ) (t : Tables) (takes : Bool) (leftover : ℕ → Event) (lvl : ℕ) → Fine (leftover 0 ∷ []) → (a : Array (G.Content deeper))

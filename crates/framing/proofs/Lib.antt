@@ -5,6 +5,7 @@ pub mod WalkVerdicts
 pub mod Demand3
 pub mod CasesProved
 pub mod PaddedCasesProved
+pub mod PlacedCasesProved
 pub mod TraceLaws
 pub mod StepLaws
 pub mod RecordLaws
@@ -16,6 +17,8 @@ pub mod LongestReached
 pub mod Weighed
 pub mod Bounded
 pub mod PaddedTaken
+pub mod NumbersTaken
+pub mod Places
 pub mod PairOrder
 pub mod RefusingLaws
 pub mod NumberBits

@@ -14,7 +14,7 @@ use Rattle.framing.specs.Paths.{leafPath, arrayPath, workingPaths, PathF
 use Rattle.framing.specs.declared.Walk.the-variants as how
 use Rattle.framing.specs.Sinks.{Walker, walker, Leafy, walk}
 use Rattle.framing.specs.GrammarRules.{Each}
-use Rattle.framing.proofs.Lift.{Known, ofWindows, Property, Pieces, StructPieces, ObjectPieces, tablesOf, walk-holds}
+use Rattle.framing.proofs.Lift.{Known, anywhere, Property, Pieces, StructPieces, ObjectPieces, tablesOf, walk-holds}
 
 module _ (t : Tables) (labels : LabelsLie t) where
   array-adds : (lvl h : ℕ) (path : List ℕ) → length (arrayPath t lvl path h) ≤ length path + longestLabel
@@ -42,9 +42,9 @@ module _ (t : Tables) (labels : LabelsLie t) where
 abbrev short : Property
 short =
     record {
-      Good = λ w p q a. Each PathFits (workingPaths a);
-      Stop = λ w p a. Each PathFits (workingPaths a);
-      Gave = λ w a. Each PathFits (workingPaths a);
+      Good = λ w path p q a. Each PathFits (workingPaths a);
+      Stop = λ w path place p a. Each PathFits (workingPaths a);
+      Gave = λ h w a. Each PathFits (workingPaths a);
     }
 
 join-short : (a b : Trace) → Each PathFits (workingPaths a) → Each PathFits (workingPaths b) → Each PathFits (workingPaths (a ++ b))
@@ -63,37 +63,38 @@ join-short (root n ∷ a) b g h = join-short a b g h
 pieces : Pieces short
 pieces =
     record {
-      join = λ w p q r a b g h. join-short a b g h;
-      halt = λ w p q a b g h. join-short a b g h;
-      read = λ w x p q r. tt;
-      field = λ w x y p q r n a s t fit h. h;
-      empty = λ w e. tt;
-      ended = λ w p e. tt;
-      failed = λ w p h. tt;
-      limited = λ w p h. tt;
-      left = λ w p h. tt;
-      silent = λ w e. tt;
+      join = λ w path p q r a b g h. join-short a b g h;
+      halt = λ w path place p q a b g h. join-short a b g h;
+      leave = λ w path place p a h. h;
+      read = λ w path x p q r. tt;
+      field = λ w path x y n p q r a says s t fit h. h;
+      empty = λ h w e. tt;
+      ended = λ w path place p e. tt;
+      failed = λ w path place p h. tt;
+      limited = λ w path place p h. tt;
+      left = λ w path p h. tt;
+      silent = λ w path e. tt;
     }
 
 struct-pieces : (t : Tables) (labels : LabelsLie t) → StructPieces t (room t labels) short
 struct-pieces t labels =
     record {
-      entered = λ w x i p q d path r low at. let z = index-adds path i low in (omega arith, tt);
-      kept = λ w p d path fit lt here. let z = dot-adds path rawLabel in (omega arith, tt);
+      enter = λ w x i p q d path a r low at h. let z = index-adds path i low in (omega arith, h);
+      kept = λ w p d path place fit pos lt here. let z = dot-adds place rawLabel in (omega arith, tt);
       deep = λ w lvl h path fit some here low. let z = array-adds t labels lvl h path in (omega arith, tt);
       leaf = λ w d lvl h path fit here low. let z = leaf-adds t labels lvl h path in (omega arith, tt);
       child = λ w d lvl h path a some here low g. let z = array-adds t labels lvl h path in (omega arith, g);
-      left = λ w p h. tt;
+      left = λ w path p h. tt;
     }
 
 object-pieces : ObjectPieces short
 object-pieces =
     record {
-      entered = λ w x p q r. (omega arith, tt);
-      guid = λ w x i r. tt;
-      longer = λ w x q r. tt;
-      unread = λ w some. tt;
-      passed = λ w some. tt;
+      enter = λ w x p q a r h. (omega arith, h);
+      guid = λ h w x i r. tt;
+      longer = λ h w x q r. tt;
+      unread = λ h w some. tt;
+      passed = λ h w some. tt;
     }
 
 -- where a walk gives leaves, its labels lie in their pools; so they do where its tables keep their layout
@@ -105,7 +106,7 @@ pub walk-short : (k : Walker) → Labelled k → (bytes : List ℕ) (n : ℕ) �
 walk-short (walker how.Struct t lvl) labels bytes n = walk-holds short pieces (walker how.Struct t lvl) (room t (labels refl)) (struct-pieces t (labels refl)) bytes n tt
 walk-short (walker how.Exact t lvl) labels bytes n = walk-holds short pieces (walker how.Exact t lvl) (room t (labels refl)) (struct-pieces t (labels refl)) bytes n tt
 walk-short (walker how.Object t lvl) labels bytes n =
-    walk-holds short pieces (walker how.Object t lvl) (ofWindows (λ w. Unit) (λ w p k h fit. tt) t) object-pieces bytes n tt
+    walk-holds short pieces (walker how.Object t lvl) (anywhere t) object-pieces bytes n tt
 
 -- among them those of leaves
 pub leaves-short : (t : Trace) → Each PathFits (workingPaths t) → Each (λ (x : Leaf). PathFits (x .path)) (leaves t)

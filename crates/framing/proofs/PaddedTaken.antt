@@ -13,14 +13,14 @@ use Rattle.framing.specs.declared.Walk.the-variants as how
 use Rattle.framing.specs.Sinks.{Walker, walker, walk}
 use Rattle.framing.proofs.TraceLaws.{taken-append}
 use Rattle.framing.proofs.Induct.{Read}
-use Rattle.framing.proofs.Lift.{Known, ofWindows, Property, Pieces, StructPieces, ObjectPieces, tablesOf, KindPieces, walk-holds}
+use Rattle.framing.proofs.Lift.{anywhere, Property, Pieces, StructPieces, ObjectPieces, tablesOf, KindPieces, walk-holds}
 
 abbrev takes : Property
 takes =
     record {
-      Good = λ w p q a. Takes (taken a) p q;
-      Stop = λ w p a. Takes (taken a) p (w .size);
-      Gave = λ w a. Takes (taken a) 0 (w .size);
+      Good = λ w path p q a. Takes (taken a) p q;
+      Stop = λ w path place p a. Takes (taken a) p (w .size);
+      Gave = λ h w a. Takes (taken a) 0 (w .size);
     }
 
 join-takes : (p q r : ℕ) (a b : Trace) → Takes (taken a) p q → Takes (taken b) q r → Takes (taken (a ++ b)) p r
@@ -43,40 +43,38 @@ field-takes w x y p q r k a s t h =
 pieces : Pieces takes
 pieces =
     record {
-      join = λ w p q r a b g h. join-takes p q r a b g h;
-      halt = λ w p q a b g h. join-takes p q (w .size) a b g h;
-      read = λ w x p q r. one-takes w x p q r;
-      field = λ w x y p q r k a s t fit h. field-takes w x y p q r k a s t h;
-      empty = λ w e. takes-none 0 (w .size) (omega arith);
-      ended = λ w p e. takes-none p (w .size) (omega arith);
-      failed = λ w p h. takes-none p (w .size) h;
-      limited = λ w p h. takes-none p (w .size) h;
-      left = λ w p h. takes-none p (w .size) h;
-      silent = λ w e. takes-none 0 (w .size) (omega arith);
+      join = λ w path p q r a b g h. join-takes p q r a b g h;
+      halt = λ w path place p q a b g h. join-takes p q (w .size) a b g h;
+      leave = λ w path place p a h. h;
+      read = λ w path x p q r. one-takes w x p q r;
+      field = λ w path x y n p q r a says s t fit h. field-takes w x y p q r (y .value) a s t h;
+      empty = λ h w e. takes-none 0 (w .size) (omega arith);
+      ended = λ w path place p e. takes-none p (w .size) (omega arith);
+      failed = λ w path place p h. takes-none p (w .size) h;
+      limited = λ w path place p h. takes-none p (w .size) h;
+      left = λ w path p h. takes-none p (w .size) h;
+      silent = λ w path e. takes-none 0 (w .size) (omega arith);
     }
-
-abbrev anywhere : (t : Tables) → Known t
-anywhere t = ofWindows (λ w. Unit) (λ w p k h fit. tt) t
 
 struct-pieces : (t : Tables) → StructPieces t (anywhere t) takes
 struct-pieces t =
     record {
-      entered = λ w x i p q d path r low at. one-takes w x p q r;
-      kept = λ w p d path fit lt here. takes-none p (w .size) (omega arith);
+      enter = λ w x i p q d path a r low at h. read-takes w x (taken a) p q (w .size) r h;
+      kept = λ w p d path place fit pos lt here. takes-none p (w .size) (omega arith);
       deep = λ w lvl h path fit some here low. takes-none 0 (w .size) (omega arith);
       leaf = λ w d lvl h path fit here low. takes-none 0 (w .size) (omega arith);
       child = λ w d lvl h path a some here low g. g;
-      left = λ w p h. takes-none p (w .size) h;
+      left = λ w path p h. takes-none p (w .size) h;
     }
 
 object-pieces : ObjectPieces takes
 object-pieces =
     record {
-      entered = λ w x p q r. one-takes w x p q r;
-      guid = λ w x i r. one-takes w x 0 (w .size) r;
-      longer = λ w x q r. read-takes w x [] 0 q (w .size) r (takes-none q (w .size) (r .fits));
-      unread = λ w some. takes-none 0 (w .size) (omega arith);
-      passed = λ w some. takes-none 0 (w .size) (omega arith);
+      enter = λ w x p q a r h. read-takes w x (taken a) p q (w .size) r h;
+      guid = λ h w x i r. one-takes w x 0 (w .size) r;
+      longer = λ h w x q r. read-takes w x [] 0 q (w .size) r (takes-none q (w .size) (r .fits));
+      unread = λ h w some. takes-none 0 (w .size) (omega arith);
+      passed = λ h w some. takes-none 0 (w .size) (omega arith);
     }
 
 kind-pieces : (k : Walker) → KindPieces k (anywhere (tablesOf k)) takes

@@ -1,14 +1,15 @@
--- The laws of sums of counters, which are those of adding numbers; and of traces: counters, leaves, pairs and numbers of two traces one behind the other. By
--- induction over the first trace, since each event adds its own.
+-- The laws of sums of counters, which are those of adding numbers; and of traces: counters, leaves, pairs, numbers, arrays and ranges of two traces one
+-- behind the other. By induction over the first trace, since each event adds its own.
 use mathlib.Core.Path.{_≡_, refl, sym, ap, _∙_}
 use mathlib.Core.List.{[], _∷_, _++_}
-use Prim.Native.Nat.{_+_}
+use Prim.Native.Nat.{_+_, _*_}
 use native.Mathlib.Nat.{zero-add, add-comm, add-assoc}
 use native.Mathlib.Omega.{arith}
 use lib.ListN.{length}
 use Rattle.bits.specs.Padded.{paddedAmong}
 use Rattle.bits.proofs.PaddedLaws.{among-append}
-use Rattle.framing.specs.Events.{number, element, array, leaf, pair, truncation, error, implicit, nested, root, leaves, pairs, taken, Trace}
+use Rattle.framing.specs.Events.{number, element, array, leaf, pair, truncation, error, implicit, nested, root, leaves, pairs, taken, arrays, Trace}
+use Rattle.framing.specs.Places.{range, ranges}
 use Rattle.framing.specs.Counters.{Counters, counted, counters, sums, countOf, paddedIn}
 
 pub sums-zero : (c : Counters) → sums (counted 0 0 0 0 0 0 0) c ≡ c
@@ -96,6 +97,32 @@ taken-append (error ∷ t) u = taken-append t u
 taken-append (implicit ∷ t) u = taken-append t u
 taken-append (nested x ∷ t) u = taken-append t u
 taken-append (root x ∷ t) u = taken-append t u
+
+pub arrays-append : (t u : Trace) → arrays (t ++ u) ≡ arrays t ++ arrays u
+arrays-append [] u = refl
+arrays-append (array a ∷ t) u = ap (λ l. a ∷ l) (arrays-append t u)
+arrays-append (number x ∷ t) u = arrays-append t u
+arrays-append (element p ∷ t) u = arrays-append t u
+arrays-append (leaf x ∷ t) u = arrays-append t u
+arrays-append (pair x ∷ t) u = arrays-append t u
+arrays-append (truncation ∷ t) u = arrays-append t u
+arrays-append (error ∷ t) u = arrays-append t u
+arrays-append (implicit ∷ t) u = arrays-append t u
+arrays-append (nested x ∷ t) u = arrays-append t u
+arrays-append (root x ∷ t) u = arrays-append t u
+
+pub ranges-append : (t u : Trace) → ranges (t ++ u) ≡ ranges t ++ ranges u
+ranges-append [] u = refl
+ranges-append (number x ∷ t) u = ap (λ l. range (x .start) (8 * x .bytes) ∷ l) (ranges-append t u)
+ranges-append (leaf x ∷ t) u = ap (λ l. range (x .start) (x .width) ∷ l) (ranges-append t u)
+ranges-append (array a ∷ t) u = ap (λ l. range (a .start) (a .width) ∷ l) (ranges-append t u)
+ranges-append (element p ∷ t) u = ranges-append t u
+ranges-append (pair x ∷ t) u = ranges-append t u
+ranges-append (truncation ∷ t) u = ranges-append t u
+ranges-append (error ∷ t) u = ranges-append t u
+ranges-append (implicit ∷ t) u = ranges-append t u
+ranges-append (nested x ∷ t) u = ranges-append t u
+ranges-append (root x ∷ t) u = ranges-append t u
 
 pub padded-append : (t u : Trace) → paddedIn (t ++ u) ≡ paddedIn t + paddedIn u
 padded-append t u = ap paddedAmong (taken-append t u) ∙ among-append (taken t) (taken u)

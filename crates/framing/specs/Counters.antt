@@ -27,7 +27,7 @@ sums a b =
 abbrev pub countOf : Event → Counters
 countOf (number x) = counted 0 0 0 0 0 0 0
 countOf (element p) = counted 1 0 0 0 0 0 0
-countOf (array p) = counted 0 0 0 0 0 0 0
+countOf (array a) = counted 0 0 0 0 0 0 0
 countOf (leaf x) = counted 0 1 0 0 0 0 0
 countOf (pair x) = counted 0 1 0 0 0 0 0
 countOf truncation = counted 0 0 1 0 0 0 0

@@ -2,6 +2,7 @@ pub mod Windows
 pub mod Events
 pub mod Counters
 pub mod Paths
+pub mod Places
 pub mod Walk
 pub mod Sinks
 pub mod PairsBehind
@@ -11,6 +12,7 @@ pub mod Refusing
 pub mod Demand
 pub mod Cases
 pub mod PaddedCases
+pub mod PlacedCases
 pub mod Grammar
 pub mod GrammarRules
 pub mod GrammarGives

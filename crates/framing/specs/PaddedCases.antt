@@ -1,5 +1,5 @@
 -- Padded numbers in small windows, as a table: a walk of a window, and how many of the numbers that it takes are padded. Probes behind 128 fields and
--- 4,096 elements are too long for it; `replay` has them.
+-- 4,096 elements are left to `replay`.
 use Prim.Native.Nat.{ℕ}
 use mathlib.Core.List.{List, [], _∷_}
 use Rattle.schema.specs.TwelveLevels.{twelveLevels, combatRounds}

@@ -31,7 +31,7 @@ PathFits path = length path ≤ longestPath
 abbrev pub workingPaths : Trace → List (List ℕ)
 workingPaths [] = []
 workingPaths (element p ∷ t) = p ∷ workingPaths t
-workingPaths (array p ∷ t) = p ∷ workingPaths t
+workingPaths (array a ∷ t) = a .path ∷ workingPaths t
 workingPaths (leaf x ∷ t) = x .path ∷ workingPaths t
 workingPaths (number x ∷ t) = workingPaths t
 workingPaths (pair x ∷ t) = workingPaths t

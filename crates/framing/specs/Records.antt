@@ -16,10 +16,11 @@ abbrev pub wholeRecords : (words numbers : ℕ) → ℕ
 wholeRecords words numbers = numbers / words
 
 abbrev pub leafWords : ℕ
-leafWords = 5
+leafWords = 6
 
-abbrev pub leafNumbers : (pathStart pathLength handle payloadBits payloadStart : ℕ) → List ℕ
-leafNumbers pathStart pathLength handle payloadBits payloadStart = pathStart ∷ pathLength ∷ handle ∷ payloadBits ∷ payloadStart ∷ []
+abbrev pub leafNumbers : (pathStart pathLength handle payloadBits payloadStart windowStart : ℕ) → List ℕ
+leafNumbers pathStart pathLength handle payloadBits payloadStart windowStart =
+    pathStart ∷ pathLength ∷ handle ∷ payloadBits ∷ payloadStart ∷ windowStart ∷ []
 
 -- where they stand
 abbrev pub pathStartAt : ℕ
@@ -37,9 +38,12 @@ payloadBitsAt = 3
 abbrev pub payloadStartAt : ℕ
 payloadStartAt = 4
 
--- pathStart, payloadStart: where the leaf's path and payload start in their buffers
+abbrev pub windowStartAt : ℕ
+windowStartAt = 5
+
+-- pathStart, payloadStart: where the leaf's path and payload start in their buffers; its last number is where the payload starts in the walked window
 abbrev pub leafRecord : (pathStart payloadStart : ℕ) → Leaf → List ℕ
-leafRecord pathStart payloadStart x = leafNumbers pathStart (length (x .path)) (x .handle) (x .width) payloadStart
+leafRecord pathStart payloadStart x = leafNumbers pathStart (length (x .path)) (x .handle) (x .width) payloadStart (x .start)
 
 abbrev pub pairWords : ℕ
 pairWords = 2

@@ -14,7 +14,7 @@ use Rattle.framing.specs.declared.Walk.{Walk}
 use Rattle.framing.specs.declared.Walk.the-variants as how
 use Rattle.framing.specs.Windows.{Window, windowOf, Reading, got, failed, reading}
 use Rattle.framing.specs.Events as Ev
-use Rattle.framing.specs.Events.{Event, number, array, leaf, pair, truncation, error, nested, root, Trace}
+use Rattle.framing.specs.Events.{Entered, Event, number, array, leaf, pair, truncation, error, nested, root, Trace}
 use Rattle.framing.specs.Paths.{leafPath, arrayPath}
 use Rattle.framing.specs.Walk.{Sink, numberAt, level}
 
@@ -59,11 +59,15 @@ structSinkOver inside t trailer leftover lvl =
 abbrev pub tooDeep : (below : ℕ) (path : List ℕ) (handle : ℕ) → Window → Trace
 tooDeep below path handle w = truncation ∷ leaf (leafOf path handle w) ∷ []
 
+-- a payload as an array that is entered
+abbrev pub enteredAt : (path : List ℕ) → Window → Entered
+enteredAt path w = record { path = path; start = w .origin; width = w .size }
+
 -- deeper: how many levels may stand below this one. What a child leaves is nested unconsumed bits.
 unfoldable pub structSink : (deeper : ℕ) → Tables → (trailer : Bool) (leftover : ℕ → Event) (lvl : ℕ) → Sink
 structSink zero t trailer leftover lvl = structSinkOver tooDeep t trailer leftover lvl
 structSink (suc deeper) t trailer leftover lvl =
-    structSinkOver (λ below path handle w. array path ∷ level (structSink deeper t trailer nested below) w path) t trailer leftover lvl
+    structSinkOver (λ below path handle w. array (enteredAt path w) ∷ level (structSink deeper t trailer nested below) w path) t trailer leftover lvl
 
 -- ---- the object walk
 

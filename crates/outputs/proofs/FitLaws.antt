@@ -8,7 +8,7 @@ use lib.Dec.{leb}
 use lib.ListN.{length, set}
 use borrow.Author.Tests.{leb-true, leb-false, not-true, not-false}
 use Rattle.bits.specs.Runs.{store}
-use Rattle.bits.proofs.RunLaws.{put-five, put-two, store-fits}
+use Rattle.bits.proofs.RunLaws.{put-six, put-two, store-fits}
 use Rattle.framing.specs.Records.{leafWords, leafNumbers, pairWords, pairNumbers}
 
 pub fitting : (a b : ℕ) (r : Bool) → r ≡ leb a b → not r ≡ false → a ≤ b
@@ -19,13 +19,13 @@ past a b r e h = leb-false a b (sym e ∙ not-true r h)
 
 -- ---- stores
 
-pub leaf-stores : (d : List ℕ) (at a b c e f : ℕ) → at + leafWords ≤ length d
-    → set (set (set (set (set d (at + 0) a) (at + 1) b) (at + 2) c) (at + 3) e) (at + 4) f ≡ store d at (leafNumbers a b c e f)
-leaf-stores d at a b c e f room =
+pub leaf-stores : (d : List ℕ) (at a b c e f g : ℕ) → at + leafWords ≤ length d
+    → set (set (set (set (set (set d (at + 0) a) (at + 1) b) (at + 2) c) (at + 3) e) (at + 4) f) (at + 5) g ≡ store d at (leafNumbers a b c e f g)
+leaf-stores d at a b c e f g room =
     let first : at + 0 ≡ at = omega arith in
-    ap (λ (k : ℕ). set (set (set (set (set d k a) (at + 1) b) (at + 2) c) (at + 3) e) (at + 4) f) first
-    ∙ put-five d at a b c e f room
-    ∙ sym (store-fits d at (leafNumbers a b c e f) room)
+    ap (λ (k : ℕ). set (set (set (set (set (set d k a) (at + 1) b) (at + 2) c) (at + 3) e) (at + 4) f) (at + 5) g) first
+    ∙ put-six d at a b c e f g room
+    ∙ sym (store-fits d at (leafNumbers a b c e f g) room)
 
 pub pair-stores : (d : List ℕ) (at a b : ℕ) → at + pairWords ≤ length d → set (set d (at + 0) a) (at + 1) b ≡ store d at (pairNumbers a b)
 pair-stores d at a b room =

@@ -2,7 +2,7 @@
 use Prim.Native.Nat.{ℕ, _+_, _*_}
 use mathlib.Core.List.{List}
 use lib.ListN.{getD}
-use Rattle.framing.specs.Records.{leafWords, pathStartAt, pathLengthAt, handleAt, payloadBitsAt, payloadStartAt, pairWords, indexAt, guidAt}
+use Rattle.framing.specs.Records.{leafWords, pathStartAt, pathLengthAt, handleAt, payloadBitsAt, payloadStartAt, windowStartAt, pairWords, indexAt, guidAt}
 use Rattle.outputs.specs.declared.LeafRecord.{LeafRecord}
 use Rattle.outputs.specs.declared.PairRecord.{PairRecord}
 
@@ -18,6 +18,7 @@ leafAt leaves i =
       handle = leafNumber leaves i handleAt;
       «payload_bits» = leafNumber leaves i payloadBitsAt;
       «payload_start» = leafNumber leaves i payloadStartAt;
+      «window_start» = leafNumber leaves i windowStartAt;
     }
 
 -- number `place` of pair i

@@ -44,7 +44,7 @@ pub record World : Type 0 where
 abbrev pub count : Adding → Event → Counters → Counters
 count add (number x) c = c
 count add (element p) c = counted (add (c .elements) 1) (c .fields) (c .truncations) (c .errors) (c .nestedBits) (c .rootBits) (c .implicits)
-count add (array p) c = c
+count add (array a) c = c
 count add (leaf x) c = counted (c .elements) (add (c .fields) 1) (c .truncations) (c .errors) (c .nestedBits) (c .rootBits) (c .implicits)
 count add (pair x) c = counted (c .elements) (add (c .fields) 1) (c .truncations) (c .errors) (c .nestedBits) (c .rootBits) (c .implicits)
 count add truncation c = counted (c .elements) (c .fields) (add (c .truncations) 1) (c .errors) (c .nestedBits) (c .rootBits) (c .implicits)
@@ -57,7 +57,7 @@ count add implicit c = counted (c .elements) (c .fields) (c .truncations) (c .er
 abbrev pub countPadded : Adding → Event → ℕ → ℕ
 countPadded add (number x) n = if isPadded x then add n 1 else n
 countPadded add (element p) n = n
-countPadded add (array p) n = n
+countPadded add (array a) n = n
 countPadded add (leaf x) n = n
 countPadded add (pair x) n = n
 countPadded add truncation n = n
@@ -90,7 +90,7 @@ written add (leaf x) w = onLeaf add x w
 written add (pair x) w = onPair add x w
 written add (number x) w = w
 written add (element p) w = w
-written add (array p) w = w
+written add (array a) w = w
 written add truncation w = w
 written add error w = w
 written add implicit w = w
@@ -124,7 +124,7 @@ traceRecords a b (leaf x ∷ t) = leafRecord a b x ++ traceRecords (a + length (
 traceRecords a b (pair x ∷ t) = pairRecord x ++ traceRecords a b t
 traceRecords a b (number x ∷ t) = traceRecords a b t
 traceRecords a b (element p ∷ t) = traceRecords a b t
-traceRecords a b (array p ∷ t) = traceRecords a b t
+traceRecords a b (array e ∷ t) = traceRecords a b t
 traceRecords a b (truncation ∷ t) = traceRecords a b t
 traceRecords a b (error ∷ t) = traceRecords a b t
 traceRecords a b (implicit ∷ t) = traceRecords a b t

@@ -14,6 +14,8 @@ pub struct LeafRecord {
     // How many bits the payload has, and where it starts in the payload bytes.
     pub payload_bits: u32,
     pub payload_start: u32,
+    // The bit of the walked window at which the payload starts.
+    pub window_start: u32,
 }
 
 // A pair, likewise.

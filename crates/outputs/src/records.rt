@@ -11,7 +11,7 @@ use crate::LeafRecord;
 use crate::PairRecord;
 
 // The numbers of a leaf, and of a pair.
-pub const LEAF_WORDS: usize = 5;
+pub const LEAF_WORDS: usize = 6;
 
 pub const PAIR_WORDS: usize = 2;
 
@@ -25,6 +25,8 @@ const HANDLE: usize = 2;
 const PAYLOAD_BITS: usize = 3;
 
 const PAYLOAD_START: usize = 4;
+
+const WINDOW_START: usize = 5;
 
 // Where a pair's numbers stand.
 const INDEX: usize = 0;
@@ -49,9 +51,11 @@ pub fn store_leaf(
     handle: u32,
     payload_bits: u32,
     payload_start: u32,
+    window_start: u32,
 )
     ensures { λ _. ⌜ now (leaves .exit)
-        ≡ store (now (leaves .entry)) at (leafNumbers «path_start» «path_length» handle «payload_bits» «payload_start») ⌝ }
+        ≡ store (now (leaves .entry)) at
+        (leafNumbers «path_start» «path_length» handle «payload_bits» «payload_start» «window_start») ⌝ }
 {
     if !fits(leaves.len(), at, LEAF_WORDS) {
         return;
@@ -62,6 +66,7 @@ pub fn store_leaf(
     leaves[i + HANDLE] = handle;
     leaves[i + PAYLOAD_BITS] = payload_bits;
     leaves[i + PAYLOAD_START] = payload_start;
+    leaves[i + WINDOW_START] = window_start;
 }
 
 // A pair's record, likewise.
@@ -88,6 +93,7 @@ pub fn leaf_at(leaves: &[u32], i: usize) -> LeafRecord
         handle: leaves[at + HANDLE],
         payload_bits: leaves[at + PAYLOAD_BITS],
         payload_start: leaves[at + PAYLOAD_START],
+        window_start: leaves[at + WINDOW_START],
     }
 }
 

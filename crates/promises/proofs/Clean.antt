@@ -3,7 +3,7 @@
 -- (framing/proofs/CleanMeans). The theorem on a call is `clean-` and the call's name, with `-` for `_`.
 use Prim.Native.Nat.{ℕ, _+_}
 use mathlib.Core.Path.{_≡_, refl, sym, ap, ap₂, _∙_, subst}
-use mathlib.Core.List.{List, [], append-nil}
+use mathlib.Core.List.{List}
 use native.Mathlib.Nat.{add-zero, zero-add}
 use lib.ListN.{length}
 use Rattle.bits.specs.Bits.{num}
@@ -17,16 +17,16 @@ use Rattle.framing.specs.Sinks.{Walker, object, Leafy, walk}
 use Rattle.framing.specs.Verdicts as F
 use Rattle.framing.specs.Verdicts.{verdictOf}
 use Rattle.framing.specs.Records.{pairRecords}
-use Rattle.framing.specs.Refusing.{Room, needed}
+use Rattle.framing.specs.Refusing.{Room}
 use Rattle.framing.specs.Demand.{Opens}
 use Rattle.framing.specs.InGrammar.{treeLeaves, treePairs, treeElements}
 use Rattle.framing.proofs.Demand3.{walk-inside}
 use Rattle.framing.proofs.TraceLaws.{fields-given}
 use Rattle.framing.proofs.VerdictLaws.{clean-counts, says-clean}
 use Rattle.framing.proofs.CleanMeans.{clean-inside, clean-call, grammar-call, grammar-leaves, grammar-pairs, grammar-elements}
-use Rattle.outputs.specs.Answers.{Call, Lent, traceOf, pairTrace, finalPairs, Front, wasAccepted}
+use Rattle.outputs.specs.Answers.{Call, Lent, traceOf, pairTrace, finalPairs}
 use Rattle.outputs.proofs.Gives.{no-pairs, no-leaves}
-use Rattle.outputs.proofs.Fronts.{front, opens-filled}
+use Rattle.outputs.proofs.Fronts.{opens-filled}
 use Rattle.array.specs.Calls.{structCall, exactCall, verdictNamed, Decodes, DecodesPairs}
 use Rattle.array.specs.Refusals.{countersOf, roomIn}
 use Rattle.array.specs.declared.ArrayDecodeStats.{ArrayDecodeStats}
@@ -40,7 +40,7 @@ use Rattle.exports.specs.declared.VrfObjects.{VrfObjects}
 use Rattle.promises.specs.Clean.{ArrayIn, Fills, CleanLeaves, CleanPairs, CleanInC, CleanPairsInC}
 use Rattle.promises.specs.Verdicts.{Exactly}
 use Rattle.promises.proofs.VerdictForms.{Apart, named-apart, number-apart}
-use Rattle.promises.proofs.Ran.{Ran, ran-tells, ran-decodes, ran-walks, RanPairs, pairs-tell, ran-pairs, ran-objects}
+use Rattle.promises.proofs.Ran.{Ran, ran-tells, ran-fills, ran-decodes, ran-walks, RanPairs, pairs-tell, ran-pairs, ran-objects}
 
 -- ---- any walk of some bytes
 
@@ -76,19 +76,6 @@ module _ (k : Walker) (bytes : List ℕ) (bits : ℕ) where
 
 module _ {A : Type 0} (form : F.Verdict → A) (apart : Apart form) (k : Call) (leafy : Leafy (k .how)) (b : Lent) (c : Counters) (v : A) (need : Room) (x : Lent)
     {p : ℕ} (run : Ran form k b c v need x p) where
-  -- what it filled, by the walk's own leaves
-  own-leaves : Fills (leaves (traceOf k)) need x
-  unfolding needed
-  own-leaves =
-      let n = ran-tells run .1 in
-      record {
-        leaves = ap (λ (r : Room). r .leaves) n;
-        path-bytes = ap (λ (r : Room). r .pathBytes) n;
-        payload-bytes = ap (λ (r : Room). r .payloadBytes) n;
-        front = subst (Front (leaves (traceOf k))) (sym (run .left))
-            (front k b (subst wasAccepted (run .says) tt) (leaves (traceOf k)) (record { rest = []; whole = append-nil (leaves (traceOf k)) }));
-      }
-
   -- a struct or exact walk gives leaves alone
   own-many : length (leaves (traceOf k)) + length (pairs (traceOf k)) ≡ length (leaves (traceOf k))
   own-many =
@@ -100,7 +87,7 @@ module _ {A : Type 0} (form : F.Verdict → A) (apart : Apart form) (k : Call) (
       record {
         clean = judged-array (k .how) (k .bytes) (k .bits) form apart c v e (run .judged);
         counts = λ a. e ∙ walked-counts (k .how) (k .bytes) (k .bits) a _ (own-many ∙ ap length (walked-leaves (k .how) (k .bytes) (k .bits) a leafy));
-        records = λ a. subst (λ (l : List Leaf). Fills l need x) (walked-leaves (k .how) (k .bytes) (k .bits) a leafy) own-leaves;
+        records = λ a. subst (λ (l : List Leaf). Fills l need x) (walked-leaves (k .how) (k .bytes) (k .bits) a leafy) (ran-fills run);
       }
 
 -- THE STRUCT WALK: an accepted answer is clean exactly if its window is the bits of an array of the grammar; then its counters are that array's, and

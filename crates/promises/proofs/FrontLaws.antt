@@ -1,16 +1,19 @@
--- Fronts of lists: what stands there, and how long the records of some leaves are. By induction over the list in front.
+-- Fronts of lists, by induction over the list in front; and of buffers that begin with some leaves: number j of record i is that of leaf i.
 use mathlib.Core.Path.{_≡_, refl, sym, ap, _∙_}
 use mathlib.Core.Bool.{Bool, true, false}
 use mathlib.Core.List.{List, [], _∷_, _++_}
-use Prim.Native.Nat.{ℕ, _+_, _*_, _≤_}
-use native.Mathlib.Nat.{zero-add, suc-add}
+use Prim.Native.Nat.{ℕ, _+_, _*_, _≤_, _<_}
 use native.Mathlib.Omega.{arith}
 use lib.Dec.{eqb}
 use lib.ListN.{length, getD, take, length-append}
 use borrow.Author.Tests.{eqb-true}
-use Rattle.framing.specs.Events.{Leaf, Pair, rawHandle}
-use Rattle.framing.specs.Records.{leafWords, pairWords, payloadOf, leafRecords, pairRecords}
+use Rattle.bits.specs.Members.{StandsAt}
+use Rattle.framing.specs.Events.{Leaf, rawHandle}
+use Rattle.framing.specs.Records.{leafWords, leafRecord, pathBytes, payloadBytes, leafRecords}
 use Rattle.framing.specs.Demand.{dropTail, Opens}
+use Rattle.framing.proofs.RecordLaws.{record-at}
+use Rattle.outputs.specs.Records.{leafNumber}
+use Rattle.outputs.specs.Answers.{Lent, Front}
 
 -- A list is the front of what it opens.
 pub front-of : {xs ys : List ℕ} → Opens xs ys → take (length xs) ys ≡ xs
@@ -29,22 +32,16 @@ same-front n {xs} {ys} {zs} e f g =
 pub opens-length : {A : Type 0} {xs ys : List A} → Opens xs ys → length xs ≤ length ys
 opens-length {xs = xs} o = let n = length-append xs (o .rest) in let e = ap length (o .whole) in omega arith
 
--- What stands behind a front.
-pub getD-behind : (xs ys : List ℕ) (j : ℕ) → getD (xs ++ ys) (length xs + j) 0 ≡ getD ys j 0
-getD-behind [] ys j = ap (λ (k : ℕ). getD ys k 0) (zero-add j)
-getD-behind (x ∷ xs) ys j = ap (λ (k : ℕ). getD (x ∷ xs ++ ys) k 0) (suc-add (length xs) j) ∙ getD-behind xs ys j
-
--- The records of some leaves are as long as they are many.
-pub records-size : (a b : ℕ) (l : List Leaf) → length (leafRecords a b l) ≡ leafWords * length l
-unfolding leafRecords
-records-size a b [] = refl
-records-size a b (x ∷ l) = let z = records-size (a + length (x .path)) (b + length (payloadOf x)) l in omega arith
-
--- So are pairs.
-pub pairs-size : (l : List Pair) → length (pairRecords l) ≡ pairWords * length l
-unfolding pairRecords
-pairs-size [] = refl
-pairs-size (x ∷ l) = let z = pairs-size l in omega arith
+-- Number j of record i, where y is leaf i.
+pub number-at : (l : List Leaf) (x : Lent) → Front l x → (y : Leaf) (i : ℕ) (s : StandsAt y i l) (j : ℕ) → j < leafWords
+    → leafNumber (x .leaves) i j ≡ getD (leafRecord (length (pathBytes (s .before))) (length (payloadBytes (s .before))) y) j 0
+number-at l x front y i s j h =
+    let rest = front .leaves .rest in
+    let held : x .leaves ≡ leafRecords 0 0 (s .before ++ (y ∷ s .after)) ++ rest
+    = sym (front .leaves .whole) ∙ ap (λ (m : List Leaf). leafRecords 0 0 m ++ rest) (s .whole) in
+    ap (λ (r : List ℕ). getD r (leafWords * i + j) 0) held
+    ∙ ap (λ (n : ℕ). getD (leafRecords 0 0 (s .before ++ (y ∷ s .after)) ++ rest) (leafWords * n + j) 0) (sym (s .many))
+    ∙ record-at (s .before) (s .after) y rest j h
 
 -- The leaves without a kept tail are all of them, or all but a last one with its handle.
 pub data Tailed (l : List Leaf) : Type 0 where

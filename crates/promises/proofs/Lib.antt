@@ -34,6 +34,7 @@ pub mod Finite
 pub mod Verdicts
 pub mod Clean
 pub mod Paths
+pub mod Places
 pub mod Stays
 pub mod PairsBehind
 pub mod TotalLaws

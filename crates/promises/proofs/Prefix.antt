@@ -1,12 +1,11 @@
 -- Demand 3 of accepted answers and of lent buffers. It holds because an accepted answer tells its walk's counters and needs (Ran), its buffers
 -- begin with the walk's leaves or pairs, and demand 3 holds of the walks. The theorem on a call is `prefix-` and the call's name, with `-` for `_`.
-use mathlib.Core.Path.{_≡_, refl, sym, ap, ap₂, _∙_, subst}
+use mathlib.Core.Path.{_≡_, refl, sym, ap, _∙_, subst}
 use mathlib.Core.Bool.{true}
-use mathlib.Core.List.{List, [], _∷_, _++_, append-assoc}
-use Prim.Native.Nat.{ℕ, _+_, _*_, _≤_}
-use native.Mathlib.Nat.{zero-add}
+use mathlib.Core.List.{List, [], _∷_, _++_}
+use Prim.Native.Nat.{ℕ, _*_, _≤_, _<_}
 use native.Mathlib.Omega.{arith}
-use lib.ListN.{length, getD, drop, length-append}
+use lib.ListN.{length, getD, length-append}
 use borrow.Author.Tests.{le-leb}
 use Rattle.bits.specs.Bits.{num, field}
 use Rattle.bits.specs.Runs.{filled}
@@ -19,13 +18,13 @@ use Rattle.framing.specs.Counters.{Counters, counters, paddedIn}
 use Rattle.framing.specs.Sinks.{structSink, Walker, struct, exact, object, sinkOf, walk}
 use Rattle.framing.specs.Verdicts as F
 use Rattle.framing.specs.Verdicts.{verdictOf}
-use Rattle.framing.specs.Records.{pathStartAt, handleAt, payloadStartAt, pairWords, leafRecord, leafRecords, pathBytes, payloadBytes, pairRecords}
+use Rattle.framing.specs.Records.{leafWords, pathStartAt, handleAt, payloadStartAt, pairWords, leafRecord, pathBytes, payloadBytes, pairRecords}
 use Rattle.framing.specs.Refusing.{Room, within, needed}
 use Rattle.framing.specs.Demand.{Opens, LacksTrailer, CutOf}
-use Rattle.framing.proofs.RecordLaws.{records-append}
+use Rattle.framing.proofs.RecordLaws.{records-size, pairs-size}
 use Rattle.framing.proofs.Demand3.{demand3}
 use Rattle.outputs.specs.Records.{leafNumber}
-use Rattle.outputs.specs.Answers.{Call, Lent, traceOf, finalLeaves, pairTrace, finalPairs, shared, Front, wasAccepted}
+use Rattle.outputs.specs.Answers.{Call, Lent, traceOf, pairTrace, finalPairs, shared, Front, wasAccepted}
 use Rattle.outputs.proofs.Fronts.{CutCall, demand3-buffers, demand3-pairs, opens-filled, opens-paths, opens-payloads}
 use Rattle.array.specs.Calls.{callOf, structCall, exactCall, verdictNamed, Decodes, DecodesPairs}
 use Rattle.array.specs.Refusals.{roomIn}
@@ -40,8 +39,8 @@ use Rattle.array.specs.declared.ObjectArray.the-variants as objects
 use Rattle.promises.specs.Prefix as P
 use Rattle.promises.specs.Prefix.{FirstBits, BeforeTail, tail-off, Begins, PairsBegin, BeginsInC, PairsBeginInC}
 use Rattle.promises.proofs.VerdictForms.{Apart, named-apart, number-apart}
-use Rattle.promises.proofs.Ran.{Ran, ran-tells, ran-decodes, ran-walks, RanPairs, pairs-tell, ran-pairs, ran-objects}
-use Rattle.promises.proofs.FrontLaws.{same-front, opens-length, getD-behind, records-size, pairs-size, Tailed, no-tail, one-tail, tailed}
+use Rattle.promises.proofs.Ran.{Ran, ran-tells, ran-fills, ran-decodes, ran-walks, RanPairs, pairs-tell, ran-pairs, ran-objects}
+use Rattle.promises.proofs.FrontLaws.{same-front, opens-length, number-at, Tailed, no-tail, one-tail, tailed}
 
 -- an accepted answer that says clean has the counters of a clean walk
 judged-clean : {A : Type 0} (form : F.Verdict → A) → Apart form → (k : Walker) (bits : ℕ) (c d : Counters) (v : A) → v ≡ form (verdictOf k bits c)
@@ -87,22 +86,11 @@ module _ (short long : Call) (cut : CutCall short long) where
         subst (λ (r : Room). within shared-room r ≡ true) (sym (long-tells .1)) (rw (le-leb _ _ a, le-leb _ _ b, le-leb _ _ c))
 
     -- the number j of a kept tail's record
-    tail-number : (t : Leaf) → shared short ++ (t ∷ []) ≡ leaves (traceOf short) → (j : ℕ)
-        → leafNumber (x .leaves) (length (shared short)) j
-        ≡ getD (leafRecord (length (pathBytes (shared short))) (length (payloadBytes (shared short))) t ++ drop (length (leafRecords 0 0 (leaves (traceOf short)))) (b .leaves)) j 0
-    unfolding finalLeaves leafRecords
-    tail-number t h j =
-        let l = shared short in
-        let rest = drop (length (leafRecords 0 0 (leaves (traceOf short)))) (b .leaves) in
-        let run = leafRecord (length (pathBytes l)) (length (payloadBytes l)) t in
-        let held : finalLeaves short b ≡ leafRecords 0 0 (leaves (traceOf short)) ++ rest = rw (← (p .says)) in
-        let recs : leafRecords 0 0 (leaves (traceOf short)) ≡ leafRecords 0 0 l ++ run
-        = ap (leafRecords 0 0) (sym h)
-        ∙ records-append 0 0 l (t ∷ [])
-        ∙ ap₂ (λ (m n : ℕ). leafRecords 0 0 l ++ leafRecord m n t) (zero-add (length (pathBytes l))) (zero-add (length (payloadBytes l))) in
-        let whole : x .leaves ≡ leafRecords 0 0 l ++ (run ++ rest)
-        = ap (λ (l : Lent). l .leaves) (p .left) ∙ held ∙ ap (λ (r : List ℕ). r ++ rest) recs ∙ append-assoc (leafRecords 0 0 l) run rest in
-        ap₂ (λ (r : List ℕ) (n : ℕ). getD r (n + j) 0) whole (sym (records-size 0 0 l)) ∙ getD-behind (leafRecords 0 0 l) (run ++ rest) j
+    tail-number : (t : Leaf) → shared short ++ (t ∷ []) ≡ leaves (traceOf short) → (j : ℕ) → j < leafWords
+        → leafNumber (x .leaves) (length (shared short)) j ≡ getD (leafRecord (length (pathBytes (shared short))) (length (payloadBytes (shared short))) t) j 0
+    tail-number t h =
+        number-at (leaves (traceOf short)) x (ran-fills p .front) t (length (shared short))
+        (record { before = shared short; after = []; whole = sym h; many = refl })
 
     before-tail : BeforeTail e (x .leaves) shared-room
     unfolding needed shared-room
@@ -117,7 +105,8 @@ module _ (short long : Call) (cut : CutCall short long) where
             let n = ap (λ (r : Room). r .leaves) (short-tells .1) in
             let m = length-append (shared short) (t ∷ []) in
             let k = ap length h in
-            tail-off {n = shared-room} (omega (arith, n, m, k)) (tail-number t h handleAt ∙ raw) (tail-number t h pathStartAt) (tail-number t h payloadStartAt)
+            tail-off {n = shared-room} (omega (arith, n, m, k)) (tail-number t h handleAt (omega arith) ∙ raw)
+            (tail-number t h pathStartAt (omega arith)) (tail-number t h payloadStartAt (omega arith))
 
     leaves-begin : Begins form short long v w e f x y
     unfolding shared-room

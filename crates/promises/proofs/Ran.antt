@@ -1,16 +1,17 @@
 -- An accepted walk, whatever form its answer has: it tells its walk's counters and needs, and the verdict on its window, and its buffers are those
--- of the definition. What holds of it holds of the calls that answer by name and of those for C.
+-- of the definition, which begin with the walk's leaves or pairs. What holds of it holds of the calls that answer by name and of those for C.
 use mathlib.Core.Path.{_≡_, refl, sym, ap, _∙_, subst}
-use mathlib.Core.List.{List}
+use mathlib.Core.List.{List, [], append-nil}
 use Prim.Native.Nat.{ℕ}
 use lib.ListN.{length}
-use Rattle.framing.specs.Events.{pairs}
+use Rattle.framing.specs.Events.{leaves, pairs}
 use Rattle.framing.specs.Counters.{Counters, counters, paddedIn}
 use Rattle.framing.specs.Sinks.{object}
 use Rattle.framing.specs.Verdicts as F
 use Rattle.framing.specs.Verdicts.{verdictOf}
 use Rattle.framing.specs.Refusing.{Room, needed, Answer, refused, accepted}
-use Rattle.outputs.specs.Answers.{Call, Lent, traceOf, answer, final, pairAnswer, pairTrace, finalPairs}
+use Rattle.outputs.specs.Answers.{Call, Lent, traceOf, answer, final, pairAnswer, pairTrace, finalPairs, Front, wasAccepted}
+use Rattle.outputs.proofs.Fronts.{front}
 use Rattle.array.proofs.OneAnswer.{verdict-back}
 use Rattle.array.specs.Calls.{verdictIs, verdictNamed, Decodes, DecodesPairs}
 use Rattle.array.specs.Refusals.{countersOf, roomIn}
@@ -22,6 +23,7 @@ use Rattle.array.specs.declared.ObjectArray.the-variants as objects
 use Rattle.exports.specs.WalkResults.{filledIn, countersIn, verdictNumber, walkResult, Walks, objectsResult, WalksPairs}
 use Rattle.exports.specs.declared.VrfWalk.{VrfWalk}
 use Rattle.exports.specs.declared.VrfObjects.{VrfObjects}
+use Rattle.promises.specs.Clean.{Fills}
 use Rattle.promises.proofs.Accepted.{accepted-tells, refused-numbered}
 
 -- The verdict by name is the one that is judged.
@@ -40,6 +42,20 @@ pub ran-tells : {A : Type 0} {form : F.Verdict → A} {k : Call} {b : Lent} {c :
     → (c ≡ counters (traceOf k)) × (need ≡ needed (traceOf k)) × (p ≡ paddedIn (traceOf k))
 unfolding answer
 ran-tells f = accepted-tells _ _ _ _ _ _ (f .says)
+
+-- What it filled are the walk's leaves.
+pub ran-fills : {A : Type 0} {form : F.Verdict → A} {k : Call} {b : Lent} {c : Counters} {v : A} {need : Room} {x : Lent} {p : ℕ} → Ran form k b c v need x p
+    → Fills (leaves (traceOf k)) need x
+unfolding needed
+ran-fills {k = k} {b = b} run =
+    let n = ran-tells run .1 in
+    record {
+      leaves = ap (λ (r : Room). r .leaves) n;
+      path-bytes = ap (λ (r : Room). r .pathBytes) n;
+      payload-bytes = ap (λ (r : Room). r .payloadBytes) n;
+      front = subst (Front (leaves (traceOf k))) (sym (run .left))
+          (front k b (subst wasAccepted (run .says) tt) (leaves (traceOf k)) (record { rest = []; whole = append-nil (leaves (traceOf k)) }));
+    }
 
 -- An accepted answer by name.
 pub ran-decodes : (k : Call) (b : Lent) (st : ArrayDecodeStats) (v : Verdict) (e : Extent) (p : ℕ) (x : Lent) → Decodes k b (structs.Decoded st v e p) x

@@ -10,6 +10,7 @@ pub mod ByteAngles
 pub mod Verdicts
 pub mod Clean
 pub mod Paths
+pub mod Places
 pub mod Stays
 pub mod Finite
 pub mod PairsBehind

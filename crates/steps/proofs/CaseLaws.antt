@@ -55,10 +55,10 @@ not-array (kind.Leaf x) o = tt
 not-array (kind.Deep x) o = tt
 not-array (kind.Array lower x) o = miss (0 ∷ 1 ∷ 2 ∷ 3 ∷ []) 4 tt o
 
-pub fields-stop : (e : Sink) (bytes : List ℕ) (end o : ℕ) (path : List ℕ) (h : Head) → NotClosed h → levelStop e bytes end o path h ≡ fieldsStop e bytes end o path h
+pub fields-stop : (e : Sink) (bytes : List ℕ) (base end : ℕ) (path : List ℕ) (h : Head) → NotClosed h → levelStop e bytes base end path h ≡ fieldsStop e bytes base end path h
 unfolding levelStop fieldsStop
-fields-stop e bytes end o path head.Ended n = refl
-fields-stop e bytes end o path head.Failed n = refl
-fields-stop e bytes end o path (head.Closed q) n = absurd n
-fields-stop e bytes end o path (head.Limit q) n = refl
-fields-stop e bytes end o path (head.Go v q r) n = refl
+fields-stop e bytes base end path head.Ended n = refl
+fields-stop e bytes base end path head.Failed n = refl
+fields-stop e bytes base end path (head.Closed q) n = absurd n
+fields-stop e bytes base end path (head.Limit q) n = refl
+fields-stop e bytes base end path (head.Go v q r) n = refl

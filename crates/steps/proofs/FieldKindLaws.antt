@@ -19,7 +19,7 @@ use Rattle.framing.specs.Windows.{Window}
 use Rattle.framing.specs.Events.{array, leaf, nested, truncation, Trace}
 use Rattle.framing.specs.Paths.{arrayPath}
 use Rattle.framing.specs.Walk.{Sink, level, inItem}
-use Rattle.framing.specs.Sinks.{onChild, structSink, tooDeep, leafOf, takesTrailer, givesLeaves}
+use Rattle.framing.specs.Sinks.{enteredAt, onChild, structSink, tooDeep, leafOf, takesTrailer, givesLeaves}
 use Rattle.steps.specs.Views.{leftoverOf, sinkFor, exitSink}
 use Rattle.steps.specs.Paths.{pools, itemPath}
 use Rattle.steps.specs.Kinds.{kindBy, kindOf, KindLies}
@@ -116,7 +116,7 @@ flat-pools rows names declared declaredNames i path first handle w (kind.Array l
 -- an array that is walked: its trace, by the level under it
 abbrev pub arrayField : Walk → Tables → (below : ℕ) (path : List ℕ) (handle : ℕ) → Window → (lower : ℕ) → Label → Trace
 arrayField s t below path handle w lower x =
-    array (dot path (labelBytes t handle x)) ∷ level (sinkFor s t (below - 1) true lower) w (dot path (labelBytes t handle x))
+    array (enteredAt (dot path (labelBytes t handle x)) w) ∷ level (sinkFor s t (below - 1) true lower) w (dot path (labelBytes t handle x))
 
 -- what a field gives goes by its kind
 unfoldable pub byKind : Walk → Tables → (below : ℕ) (i : ℕ) (path : List ℕ) (first : Bool) (handle : ℕ) → Window → Kind → Trace
@@ -153,17 +153,17 @@ module _ (s : Walk) (leafy : givesLeaves s ≡ true) (t : Tables) (lvl i : ℕ) 
       below-sink m lower = sym (rw leafy refl)
 
       go : (c : Child)
-          → onChild t lvl (λ below p h v. array p ∷ level (structSink n t (takesTrailer s) nested below) v p) path handle w c
+          → onChild t lvl (λ below p h v. array (enteredAt p v) ∷ level (structSink n t (takesTrailer s) nested below) v p) path handle w c
           ≡ byKind s t (suc n) i path first handle w (kindBy t (suc n) lvl handle (w .size) c)
       go child.Leaf = refl
       go (child.Array lower) = rw some (go2 (eqb (w .size) 0))
         where
-          go2 : (x : Bool) → (if x then [] else array (arrayPath t lvl path handle) ∷ level (structSink n t (takesTrailer s) nested lower) w (arrayPath t lvl path handle))
+          go2 : (x : Bool) → (if x then [] else array (enteredAt (arrayPath t lvl path handle) w) ∷ level (structSink n t (takesTrailer s) nested lower) w (arrayPath t lvl path handle))
               ≡ byKind s t (suc n) i path first handle w (if x then kind.Nothing else kind.Array lower (containerLabel t lvl handle))
           go2 true = refl
           go2 false =
-              ap (λ (k : Sink). array (arrayPath t lvl path handle) ∷ level k w (arrayPath t lvl path handle)) (below-sink n lower)
-              ∙ ap (λ (m : ℕ). array (arrayPath t lvl path handle) ∷ level (sinkFor s t m true lower) w (arrayPath t lvl path handle)) less
+              ap (λ (k : Sink). array (enteredAt (arrayPath t lvl path handle) w) ∷ level k w (arrayPath t lvl path handle)) (below-sink n lower)
+              ∙ ap (λ (m : ℕ). array (enteredAt (arrayPath t lvl path handle) w) ∷ level (sinkFor s t m true lower) w (arrayPath t lvl path handle)) less
 
 field-kind : (s : Walk) (t : Tables) (below : ℕ) (inside : Bool) (lvl i : ℕ) (path : List ℕ) (first : Bool) (handle : ℕ) (w : Window)
     → sinkFor s t below inside lvl .field i path first handle w ≡ byKind s t below i path first handle w (kindOf s t below lvl handle (w .size))

@@ -52,18 +52,18 @@ module _ (t : Tables) (handle : ℕ) (x : Tag) (path : List ℕ) (plen n : ℕ)
       let l = path-length in
       ed ∙ ap (put d at) m ∙ sym (store-fits d at (take plen path ++ (46 ∷ tagBytes t handle x)) (omega arith))
 
-  module _ (bytes : List ℕ) («from» end origin : ℕ) (tally tally′ records paths payloads : List ℕ) (counted : length tally ≡ slots) where
+  module _ (bytes : List ℕ) (base «from» end : ℕ) (tally tally′ records paths payloads : List ℕ) (counted : length tally ≡ slots) where
     pub leaf-put : (records′ paths′ payloads′ : List ℕ) → tally′ ≡ reserved tally leafWords n (bytesFor (end - «from»))
-        → records′ ≡ store records (slot tally recordsSlot) (leafNumbers (slot tally pathsSlot) n handle (end - «from») (slot tally payloadsSlot))
+        → records′ ≡ store records (slot tally recordsSlot) (leafNumbers (slot tally pathsSlot) n handle (end - «from») (slot tally payloadsSlot) (base + «from»))
         → paths′ ≡ store paths (slot tally pathsSlot) (dot (take plen path) (tagBytes t handle x))
         → payloads′ ≡ store payloads (slot tally payloadsSlot) (bytesOf (bytesFor (end - «from»)) (field (num bytes) «from» (end - «from»)))
-        → worldOf tally′ records′ paths′ payloads′ ≡ played (taggedLeaf t (take plen path) handle x (inner bytes «from» end origin)) (worldOf tally records paths payloads)
+        → worldOf tally′ records′ paths′ payloads′ ≡ played (taggedLeaf t (take plen path) handle x (inner bytes base «from» end)) (worldOf tally records paths payloads)
     unfolding taggedLeaf inner
     leaf-put records′ paths′ payloads′ ec ew et el =
         let l = path-length in
-        let y = leafOf (dot (take plen path) (tagBytes t handle x)) handle (inner bytes «from» end origin) in
+        let y = leafOf (dot (take plen path) (tagBytes t handle x)) handle (inner bytes base «from» end) in
         let s : bytesFor (end - «from») ≡ length (bytesOf (bytesFor (end - «from»)) (field (num bytes) «from» (end - «from»))) =
         sym (length-bytesOf (bytesFor (end - «from»)) (field (num bytes) «from» (end - «from»))) in
         ap (λ (k : List ℕ). worldOf k records′ paths′ payloads′) ec
         ∙ leaf-counted tally records paths payloads counted y n (bytesFor (end - «from»)) records′ paths′ payloads′ (sym l) s
-        (ew ∙ ap (λ (k : ℕ). store records (slot tally recordsSlot) (leafNumbers (slot tally pathsSlot) k handle (end - «from») (slot tally payloadsSlot))) (sym l)) et el
+        (ew ∙ ap (λ (k : ℕ). store records (slot tally recordsSlot) (leafNumbers (slot tally pathsSlot) k handle (end - «from») (slot tally payloadsSlot) (base + «from»))) (sym l)) et el

@@ -116,27 +116,27 @@ module _ (bytes : List ℕ) (end p left two : ℕ) (room : p + 16 ≤ end) (is :
 
 -- ---- a window that starts b bits into the bytes
 
-module _ (bytes : List ℕ) (b end o : ℕ) (h : b ≤ end) where
-  number-there : (p : ℕ) → numberPads (upTo bytes end) (b + p) ≡ numberPads (inner bytes b end o) p
+module _ (bytes : List ℕ) (base b end : ℕ) (h : b ≤ end) where
+  number-there : (p : ℕ) → numberPads (upTo bytes end) (b + p) ≡ numberPads (inner bytes base b end) p
   unfolding numberPads
-  number-there p = ap padOf (sym (reading-inner bytes b end o p h))
+  number-there p = ap padOf (sym (reading-inner bytes base b end p h))
 
-  pub level-there : numberPads (upTo bytes end) b ≡ numberPads (inner bytes b end o) 0
+  pub level-there : numberPads (upTo bytes end) b ≡ numberPads (inner bytes base b end) 0
   level-there = ap (numberPads (upTo bytes end)) (sym (add-zero b)) ∙ number-there 0
 
-  pub element-there : (left p : ℕ) → elementPads (upTo bytes end) left (b + p) ≡ elementPads (inner bytes b end o) left p
+  pub element-there : (left p : ℕ) → elementPads (upTo bytes end) left (b + p) ≡ elementPads (inner bytes base b end) left p
   unfolding elementPads
   element-there left p =
-      ap₂ (λ (x : Bool) (r : Reading). if x then 0 else indexPads left r) (sym (past bytes b end o h p)) (sym (reading-inner bytes b end o p h))
+      ap₂ (λ (x : Bool) (r : Reading). if x then 0 else indexPads left r) (sym (past bytes base b end h p)) (sym (reading-inner bytes base b end p h))
 
-  pub field-there : (left p : ℕ) → fieldPads (upTo bytes end) left (b + p) ≡ fieldPads (inner bytes b end o) left p
+  pub field-there : (left p : ℕ) → fieldPads (upTo bytes end) left (b + p) ≡ fieldPads (inner bytes base b end) left p
   unfolding fieldPads
   field-there left p =
       ap (λ (k : ℕ). if leb ((upTo bytes end) .size) (b + p) then 0 else k) (go (reading (upTo bytes end) (b + p)))
-      ∙ ap₂ (λ (x : Bool) (r : Reading). if x then 0 else handlePads (inner bytes b end o) left p r) (sym (past bytes b end o h p))
-      (sym (reading-inner bytes b end o p h))
+      ∙ ap₂ (λ (x : Bool) (r : Reading). if x then 0 else handlePads (inner bytes base b end) left p r) (sym (past bytes base b end h p))
+      (sym (reading-inner bytes base b end p h))
     where
-      go : (r : Reading) → handlePads (upTo bytes end) left (b + p) r ≡ handlePads (inner bytes b end o) left p r
+      go : (r : Reading) → handlePads (upTo bytes end) left (b + p) r ≡ handlePads (inner bytes base b end) left p r
       go failed = refl
       go (got v n) =
           ap (λ (k : ℕ). if eqb v 0 then once (padded v n) else (if eqb left 0 then 0 else once (padded v n) + k))

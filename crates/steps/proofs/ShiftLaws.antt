@@ -42,20 +42,20 @@ go-at v q r e = ap (λ (n : ℕ). head.Go v n n) e
 
 -- ---- readings and heads
 
-module _ (bytes : List ℕ) (b end o : ℕ) (h : b ≤ end) where
-  pub size-inner : (inner bytes b end o) .size ≡ end - b
+module _ (bytes : List ℕ) (base b end : ℕ) (h : b ≤ end) where
+  pub size-inner : (inner bytes base b end) .size ≡ end - b
   unfolding inner
   size-inner = refl
 
-  pub past : (p : ℕ) → leb ((inner bytes b end o) .size) p ≡ leb ((upTo bytes end) .size) (b + p)
+  pub past : (p : ℕ) → leb ((inner bytes base b end) .size) p ≡ leb ((upTo bytes end) .size) (b + p)
   unfolding inner upTo
   past p = leb-shift b end p h
 
-  pub level-shift : (p : ℕ) → levelHead (upTo bytes end) (b + p) ≡ shifted b (levelHead (inner bytes b end o) p)
+  pub level-shift : (p : ℕ) → levelHead (upTo bytes end) (b + p) ≡ shifted b (levelHead (inner bytes base b end) p)
   unfolding levelHead
   level-shift p =
       go (reading (upTo bytes end) (b + p))
-      ∙ ap (λ (r : Reading). shifted b (countHead (numberOf p r))) (sym (reading-inner bytes b end o p h))
+      ∙ ap (λ (r : Reading). shifted b (countHead (numberOf p r))) (sym (reading-inner bytes base b end p h))
     where
       go : (r : Reading) → countHead (numberOf (b + p) r) ≡ shifted b (countHead (numberOf p r))
       go failed = refl
@@ -72,20 +72,20 @@ module _ (bytes : List ℕ) (b end o : ℕ) (h : b ≤ end) where
   unfolding elementHead lead
   element-by w count left p x r e f = rw (e, f)
 
-  pub element-shift : (count left p : ℕ) → elementHead (upTo bytes end) count left (b + p) ≡ shifted b (elementHead (inner bytes b end o) count left p)
+  pub element-shift : (count left p : ℕ) → elementHead (upTo bytes end) count left (b + p) ≡ shifted b (elementHead (inner bytes base b end) count left p)
   element-shift count left p =
       element-by (upTo bytes end) count left (b + p) (leb ((upTo bytes end) .size) (b + p)) (reading (upTo bytes end) (b + p)) refl refl
       ∙ go (leb ((upTo bytes end) .size) (b + p)) (reading (upTo bytes end) (b + p))
-      ∙ ap (shifted b) (sym (element-by (inner bytes b end o) count left p (leb ((upTo bytes end) .size) (b + p)) (reading (upTo bytes end) (b + p)) (past p) (reading-inner bytes b end o p h)))
+      ∙ ap (shifted b) (sym (element-by (inner bytes base b end) count left p (leb ((upTo bytes end) .size) (b + p)) (reading (upTo bytes end) (b + p)) (past p) (reading-inner bytes base b end p h)))
     where
       go : (x : Bool) (r : Reading) → indexHead count left (b + p) (if x then ends else leadOf (upTo bytes end) (b + p) r)
-          ≡ shifted b (indexHead count left p (if x then ends else leadOf (inner bytes b end o) p r))
+          ≡ shifted b (indexHead count left p (if x then ends else leadOf (inner bytes base b end) p r))
       go true r = refl
       go false failed = refl
       go false (got v n) = go2 (eqb v 0) (eqb left 0) (leb count (v - 1)) refl refl refl
         where
           go2 : (x y z : Bool) → eqb v 0 ≡ x → eqb left 0 ≡ y → leb count (v - 1) ≡ z
-              → indexHead count left (b + p) (leadOf (upTo bytes end) (b + p) (got v n)) ≡ shifted b (indexHead count left p (leadOf (inner bytes b end o) p (got v n)))
+              → indexHead count left (b + p) (leadOf (upTo bytes end) (b + p) (got v n)) ≡ shifted b (indexHead count left p (leadOf (inner bytes base b end) p (got v n)))
           go2 true y z ex ey ez = rw ex (ap head.Closed (add-assoc b p (8 * n)))
           go2 false true z ex ey ez = rw (ex, ey)
           go2 false false true ex ey ez = rw (ex, ey, ez)
@@ -102,71 +102,72 @@ module _ (bytes : List ℕ) (b end o : ℕ) (h : b ≤ end) where
   field-some w left p x r e f = rw (e, f)
 
   -- the width's number
-  width-shift : (p q : ℕ) (e f : _) (hd : ℕ) → b + p ≡ q → dueHead (withWidth (upTo bytes end) e hd q (reading (upTo bytes end) q)) ≡ shifted b (dueHead (withWidth (inner bytes b end o) f hd p (reading (inner bytes b end o) p)))
+  width-shift : (p q : ℕ) (e f : _) (hd : ℕ) → b + p ≡ q → dueHead (withWidth (upTo bytes end) e hd q (reading (upTo bytes end) q)) ≡ shifted b (dueHead (withWidth (inner bytes base b end) f hd p (reading (inner bytes base b end) p)))
   unfolding inner upTo
   width-shift p q e f hd s =
       go (reading (upTo bytes end) q) refl
-      ∙ ap (λ (r : Reading). shifted b (dueHead (withWidth (inner bytes b end o) f hd p r))) (ap (reading (upTo bytes end)) (sym s) ∙ sym (reading-inner bytes b end o p h))
+      ∙ ap (λ (r : Reading). shifted b (dueHead (withWidth (inner bytes base b end) f hd p r))) (ap (reading (upTo bytes end)) (sym s) ∙ sym (reading-inner bytes base b end p h))
     where
-      go : (r : Reading) → reading (upTo bytes end) q ≡ r → dueHead (withWidth (upTo bytes end) e hd q r) ≡ shifted b (dueHead (withWidth (inner bytes b end o) f hd p r))
+      go : (r : Reading) → reading (upTo bytes end) q ≡ r → dueHead (withWidth (upTo bytes end) e hd q r) ≡ shifted b (dueHead (withWidth (inner bytes base b end) f hd p r))
       go failed er = refl
       go (got k n) er = go2 (ltb end (q + 8 * n + k)) refl
         where
           here : b + (p + 8 * n + k) ≡ q + 8 * n + k
           here = omega arith
 
-          go2 : (x : Bool) → ltb end (q + 8 * n + k) ≡ x → dueHead (withWidth (upTo bytes end) e hd q (got k n)) ≡ shifted b (dueHead (withWidth (inner bytes b end o) f hd p (got k n)))
+          go2 : (x : Bool) → ltb end (q + 8 * n + k) ≡ x → dueHead (withWidth (upTo bytes end) e hd q (got k n)) ≡ shifted b (dueHead (withWidth (inner bytes base b end) f hd p (got k n)))
           go2 true ex = rw (ltb-shift b end (p + 8 * n + k) (q + 8 * n + k) h here, ex)
           go2 false ex =
               let u : q + 8 * n ≡ b + (p + 8 * n) = omega arith in
               let v : q + 8 * n + k ≡ b + (p + 8 * n + k) = omega arith in
               rw (ltb-shift b end (p + 8 * n + k) (q + 8 * n + k) h here, ex) (ap₂ (head.Go hd) u v)
 
-  pub field-shift : (left p : ℕ) → fieldHead (upTo bytes end) left (b + p) ≡ shifted b (fieldHead (inner bytes b end o) left p)
+  pub field-shift : (left p : ℕ) → fieldHead (upTo bytes end) left (b + p) ≡ shifted b (fieldHead (inner bytes base b end) left p)
   field-shift zero p =
       field-none (upTo bytes end) (b + p) (leb ((upTo bytes end) .size) (b + p)) (reading (upTo bytes end) (b + p)) refl refl
       ∙ go (leb ((upTo bytes end) .size) (b + p)) (reading (upTo bytes end) (b + p))
-      ∙ ap (shifted b) (sym (field-none (inner bytes b end o) p (leb ((upTo bytes end) .size) (b + p)) (reading (upTo bytes end) (b + p)) (past p) (reading-inner bytes b end o p h)))
+      ∙ ap (shifted b) (sym (field-none (inner bytes base b end) p (leb ((upTo bytes end) .size) (b + p)) (reading (upTo bytes end) (b + p)) (past p) (reading-inner bytes base b end p h)))
     where
-      go : (x : Bool) (r : Reading) → lastHead (b + p) (if x then ends else leadOf (upTo bytes end) (b + p) r) ≡ shifted b (lastHead p (if x then ends else leadOf (inner bytes b end o) p r))
+      go : (x : Bool) (r : Reading) → lastHead (b + p) (if x then ends else leadOf (upTo bytes end) (b + p) r) ≡ shifted b (lastHead p (if x then ends else leadOf (inner bytes base b end) p r))
       go true r = refl
       go false failed = refl
       go false (got v n) = go2 (eqb v 0) refl
         where
-          go2 : (x : Bool) → eqb v 0 ≡ x → lastHead (b + p) (leadOf (upTo bytes end) (b + p) (got v n)) ≡ shifted b (lastHead p (leadOf (inner bytes b end o) p (got v n)))
+          go2 : (x : Bool) → eqb v 0 ≡ x → lastHead (b + p) (leadOf (upTo bytes end) (b + p) (got v n)) ≡ shifted b (lastHead p (leadOf (inner bytes base b end) p (got v n)))
           go2 true ex = rw ex (ap head.Closed (add-assoc b p (8 * n)))
           go2 false ex = rw ex
   field-shift (suc left) p =
       field-some (upTo bytes end) left (b + p) (leb ((upTo bytes end) .size) (b + p)) (reading (upTo bytes end) (b + p)) refl refl
       ∙ go (leb ((upTo bytes end) .size) (b + p)) (reading (upTo bytes end) (b + p))
-      ∙ ap (shifted b) (sym (field-some (inner bytes b end o) left p (leb ((upTo bytes end) .size) (b + p)) (reading (upTo bytes end) (b + p)) (past p) (reading-inner bytes b end o p h)))
+      ∙ ap (shifted b) (sym (field-some (inner bytes base b end) left p (leb ((upTo bytes end) .size) (b + p)) (reading (upTo bytes end) (b + p)) (past p) (reading-inner bytes base b end p h)))
     where
-      go : (x : Bool) (r : Reading) → dueHead (fieldOf (upTo bytes end) (if x then ends else leadOf (upTo bytes end) (b + p) r)) ≡ shifted b (dueHead (fieldOf (inner bytes b end o) (if x then ends else leadOf (inner bytes b end o) p r)))
+      go : (x : Bool) (r : Reading) → dueHead (fieldOf (upTo bytes end) (if x then ends else leadOf (upTo bytes end) (b + p) r)) ≡ shifted b (dueHead (fieldOf (inner bytes base b end) (if x then ends else leadOf (inner bytes base b end) p r)))
       go true r = refl
       go false failed = refl
       go false (got v n) = go2 (eqb v 0) refl
         where
-          go2 : (x : Bool) → eqb v 0 ≡ x → dueHead (fieldOf (upTo bytes end) (leadOf (upTo bytes end) (b + p) (got v n))) ≡ shifted b (dueHead (fieldOf (inner bytes b end o) (leadOf (inner bytes b end o) p (got v n))))
+          go2 : (x : Bool) → eqb v 0 ≡ x → dueHead (fieldOf (upTo bytes end) (leadOf (upTo bytes end) (b + p) (got v n))) ≡ shifted b (dueHead (fieldOf (inner bytes base b end) (leadOf (inner bytes base b end) p (got v n))))
           go2 true ex = rw ex (ap head.Closed (add-assoc b p (8 * n)))
-          go2 false ex = rw ex (width-shift (p + 8 * n) (b + p + 8 * n) (numberAt (upTo bytes end) (b + p) n v) (numberAt (inner bytes b end o) p n v) (v - 1) (sym (add-assoc b p (8 * n))))
+          go2 false ex = rw ex (width-shift (p + 8 * n) (b + p + 8 * n) (numberAt (upTo bytes end) (b + p) n v) (numberAt (inner bytes base b end) p n v) (v - 1) (sym (add-assoc b p (8 * n))))
 
 -- ---- ways out
 
 -- a part of a window is the window of its bits
-pub part-inner : (bytes : List ℕ) (b end o p k : ℕ) → b + p + k ≤ end → part (inner bytes b end o) p k ≡ inner bytes (b + p) (b + p + k) (o + p)
+pub part-inner : (bytes : List ℕ) (base b end p k : ℕ) → b + p + k ≤ end → part (inner bytes base b end) p k ≡ inner bytes base (b + p) (b + p + k)
 unfolding inner
-part-inner bytes b end o p k h =
+part-inner bytes base b end p k h =
     let n : k ≡ b + p + k - (b + p) = omega arith in
     let f : field (field (num bytes) b (end - b)) p k ≡ field (num bytes) (b + p) (b + p + k - (b + p)) =
     field-field (num bytes) b (end - b) p k (omega arith) ∙ ap (field (num bytes) (b + p)) n in
-    λ i. record { bits = f i; size = n i; origin = o + p }
+    let s : base + b + p ≡ base + (b + p) = omega arith in
+    λ i. record { bits = f i; size = n i; origin = s i }
 
-module _ (bytes : List ℕ) (b end o p : ℕ) (h : b + p ≤ end) where
-  raw-shift : (path : List ℕ) → rawLeaf (inner bytes b end o) path p ≡ rawLeaf (inner bytes (b + p) end (o + p)) path 0
+module _ (bytes : List ℕ) (base b end p : ℕ) (h : b + p ≤ end) where
+  raw-shift : (path : List ℕ) → rawLeaf (inner bytes base b end) path p ≡ rawLeaf (inner bytes base (b + p) end) path 0
   unfolding inner
   raw-shift path =
       let n : end - b - p ≡ end - (b + p) - 0 = omega arith in
-      let s : o + p ≡ o + p + 0 = omega arith in
+      let s : base + b + p ≡ base + (b + p) + 0 = omega arith in
       let m : b + p + 0 ≡ b + p = omega arith in
       let f : field (field (num bytes) b (end - b)) p (end - b - p) ≡ field (field (num bytes) (b + p) (end - (b + p))) 0 (end - (b + p) - 0) =
       field-field (num bytes) b (end - b) p (end - b - p) (omega arith)
@@ -174,7 +175,7 @@ module _ (bytes : List ℕ) (b end o p : ℕ) (h : b + p ≤ end) where
       ∙ sym (field-field (num bytes) (b + p) (end - (b + p)) 0 (end - (b + p) - 0) (omega arith)) in
       λ i. record { path = dot path rawLabel; handle = rawHandle; start = s i; width = n i; payload = f i }
 
-  more-shift : ltb p ((inner bytes b end o) .size) ≡ ltb 0 ((inner bytes (b + p) end (o + p)) .size)
+  more-shift : ltb p ((inner bytes base b end) .size) ≡ ltb 0 ((inner bytes base (b + p) end) .size)
   unfolding inner
   more-shift = go (ltb 0 (end - (b + p))) refl
     where
@@ -183,56 +184,57 @@ module _ (bytes : List ℕ) (b end o p : ℕ) (h : b + p ≤ end) where
       go false e = let z = ltb-false 0 (end - (b + p)) e in le-ltb p (end - b) (omega arith)
 
   -- a kept tail
-  pub tail-shift : (s e : Sink) (path : List ℕ) → s .flattens ≡ e .flattens → tail s (inner bytes b end o) path p ≡ tail e (inner bytes (b + p) end (o + p)) path 0
+  pub tail-shift : (s e : Sink) (path : List ℕ) → s .flattens ≡ e .flattens → tail s (inner bytes base b end) path p ≡ tail e (inner bytes base (b + p) end) path 0
   unfolding tail
   tail-shift s e path f = rw (f, more-shift, raw-shift path)
 
-  left-shift : (inner bytes b end o) .size - p ≡ (inner bytes (b + p) end (o + p)) .size - 0
+  left-shift : (inner bytes base b end) .size - p ≡ (inner bytes base (b + p) end) .size - 0
   unfolding inner
   left-shift = omega arith
 
-  here : (n v : ℕ) → numberAt (inner bytes b end o) p n v ≡ numberAt (inner bytes (b + p) end (o + p)) 0 n v
+  here : (n v : ℕ) → numberAt (inner bytes base b end) p n v ≡ numberAt (inner bytes base (b + p) end) 0 n v
   unfolding inner
-  here n v = let s : o + p ≡ o + p + 0 = omega arith in λ i. record { start = s i; bytes = n; value = v }
+  here n v = let s : base + b + p ≡ base + (b + p) + 0 = omega arith in λ i. record { start = s i; bytes = n; value = v }
 
-  same-reading : reading (inner bytes b end o) p ≡ reading (inner bytes (b + p) end (o + p)) 0
+  same-reading : reading (inner bytes base b end) p ≡ reading (inner bytes base (b + p) end) 0
   same-reading =
-      reading-inner bytes b end o p (omega arith)
+      reading-inner bytes base b end p (omega arith)
       ∙ ap (reading (upTo bytes end)) (sym (add-zero (b + p)))
-      ∙ sym (reading-inner bytes (b + p) end (o + p) 0 h)
+      ∙ sym (reading-inner bytes base (b + p) end 0 h)
 
   -- what follows a terminator
-  pub closing-shift : (s e : Sink) → s .trailer ≡ e .trailer → s .leftover ≡ e .leftover → closing s (inner bytes b end o) p ≡ closing e (inner bytes (b + p) end (o + p)) 0
+  pub closing-shift : (s e : Sink) → s .trailer ≡ e .trailer → s .leftover ≡ e .leftover → closing s (inner bytes base b end) p ≡ closing e (inner bytes base (b + p) end) 0
   unfolding closing
   closing-shift s e t l =
-      go (s .trailer && eqb ((inner bytes b end o) .size - p) trailerBits) (reading (inner bytes b end o) p) ((inner bytes b end o) .size - p)
+      go (s .trailer && eqb ((inner bytes base b end) .size - p) trailerBits) (reading (inner bytes base b end) p) ((inner bytes base b end) .size - p)
       ∙ (λ i. by (t i && eqb (left-shift i) trailerBits) (same-reading i) (left-shift i))
     where
       by : Bool → Reading → ℕ → Trace
-      by x r n = if x then trailerOf e (inner bytes (b + p) end (o + p)) 0 r else e .leftover n ∷ []
+      by x r n = if x then trailerOf e (inner bytes base (b + p) end) 0 r else e .leftover n ∷ []
 
       rest : (n : ℕ) → s .leftover n ≡ e .leftover n
       rest n = ap (λ (f : ℕ → Event). f n) l
 
-      taken : (r : Reading) → trailerOf s (inner bytes b end o) p r ≡ trailerOf e (inner bytes (b + p) end (o + p)) 0 r
+      taken : (r : Reading) → trailerOf s (inner bytes base b end) p r ≡ trailerOf e (inner bytes base (b + p) end) 0 r
       taken failed = refl
       taken (got v n) = λ i. if eqb v 0 then number (here n v i) ∷ rest 0 i ∷ [] else rest trailerBits i ∷ []
 
-      go : (x : Bool) (r : Reading) (n : ℕ) → (if x then trailerOf s (inner bytes b end o) p r else s .leftover n ∷ []) ≡ by x r n
+      go : (x : Bool) (r : Reading) (n : ℕ) → (if x then trailerOf s (inner bytes base b end) p r else s .leftover n ∷ []) ≡ by x r n
       go true r n = taken r
       go false r n = ap (λ (v : Event). v ∷ []) (rest n)
 
 -- ---- the bytes that a payload touches
 
--- the bits start..end of the bytes are the same bits of the bytes that they touch
-pub part-bytes : (bytes : List ℕ) (start end o m : ℕ) → Bytes bytes → start ≤ end → start % 8 + (end - start) ≤ 8 * m
-    → inner (take m (drop (start / 8) bytes)) (start % 8) (start % 8 + (end - start)) o ≡ inner bytes start end o
+-- the bits start..end of the bytes are the same bits of the bytes that they touch; these start in the root window where the byte of bit start does
+pub part-bytes : (bytes : List ℕ) (base start end m : ℕ) → Bytes bytes → start ≤ end → start % 8 + (end - start) ≤ 8 * m
+    → inner (take m (drop (start / 8) bytes)) (base + (start - start % 8)) (start % 8) (start % 8 + (end - start)) ≡ inner bytes base start end
 unfolding inner
-part-bytes bytes start end o m ok le fit =
+part-bytes bytes base start end m ok le fit =
     let n : start % 8 + (end - start) - start % 8 ≡ end - start = omega arith in
     let p : 8 * (start / 8) + start % 8 ≡ start = omega arith in
     let f : field (num (take m (drop (start / 8) bytes))) (start % 8) (start % 8 + (end - start) - start % 8) ≡ field (num bytes) start (end - start) =
     ap (field (num (take m (drop (start / 8) bytes))) (start % 8)) n
     ∙ field-part bytes (start / 8) m (start % 8) (end - start) ok fit
     ∙ ap (λ (k : ℕ). field (num bytes) k (end - start)) p in
-    λ i. record { bits = f i; size = n i; origin = o }
+    let s : base + (start - start % 8) + start % 8 ≡ base + start = omega arith in
+    λ i. record { bits = f i; size = n i; origin = s i }

@@ -15,7 +15,7 @@ use Rattle.bits.specs.Packed.{Number}
 use Rattle.bits.specs.Padded.{isPadded, paddedAmong}
 use Rattle.bits.proofs.ChoiceLaws.{by-cases}
 use Rattle.bits.proofs.PaddedLaws.{among-append}
-use Rattle.framing.specs.Events.{Leaf, Pair, numbers, Event, number, element, array, leaf, pair, truncation, error, implicit, nested, root, Trace}
+use Rattle.framing.specs.Events.{Leaf, Entered, Pair, numbers, Event, number, element, array, leaf, pair, truncation, error, implicit, nested, root, Trace}
 use Rattle.framing.specs.Records.{leafWords, leafRecord, pairWords, pairRecord, payloadOf}
 use Rattle.outputs.specs.World.{World, counting, apply}
 use Rattle.steps.specs.Tally.{slots, slot, elementsSlot, fieldsSlot, truncationsSlot, errorsSlot, nestedSlot, rootSlot, implicitSlot, recordsSlot, pathsSlot, payloadsSlot, paddedSlot, worldBy, worldOf, played, padding, Pads, bumped, reserved}
@@ -150,9 +150,9 @@ played-numbers (x ∷ ns) t w =
     ∙ played-numbers ns t (padding (paddedAmong (x ∷ [])) w)
     ∙ played-number x (numbers ns ++ t) w
 
-pub played-array : (path : List ℕ) (t : Trace) (w : World) → played t w ≡ played (array path ∷ t) w
+pub played-array : (a : Entered) (t : Trace) (w : World) → played t w ≡ played (array a ∷ t) w
 unfolding played apply
-played-array path t w = refl
+played-array a t w = refl
 
 -- ---- a leaf or a pair, written and counted
 

@@ -66,21 +66,14 @@ pub record Alike (s e : Sink) : Type 0 where
   pub flattens : s .flattens ≡ e .flattens
   pub leftover : s .leftover ≡ e .leftover
 
-abbrev posOf : Head → ℕ
-posOf head.Ended = 0
-posOf head.Failed = 0
-posOf (head.Closed q) = q
-posOf (head.Limit q) = q
-posOf (head.Go v q r) = 0
-
-stop-shift : (s e : Sink) → Alike s e → (bytes : List ℕ) (b end o : ℕ) (path : List ℕ) → b ≤ end → (h : Head) → HeadIn (end - b) h → NotGo h
-    → stopAt s (inner bytes b end o) path h ≡ levelStop e bytes end (o + posOf h) path (shifted b h)
+stop-shift : (s e : Sink) → Alike s e → (bytes : List ℕ) (base b end : ℕ) (path : List ℕ) → b ≤ end → (h : Head) → HeadIn (end - b) h → NotGo h
+    → stopAt s (inner bytes base b end) path h ≡ levelStop e bytes base end path (shifted b h)
 unfolding levelStop
-stop-shift s e a bytes b end o path le head.Ended i g = refl
-stop-shift s e a bytes b end o path le head.Failed i g = refl
-stop-shift s e a bytes b end o path le (head.Closed q) i g = closing-shift bytes b end o q (omega arith) s e (a .trailer) (a .leftover)
-stop-shift s e a bytes b end o path le (head.Limit q) i g = ap (λ (t : Trace). truncation ∷ t) (tail-shift bytes b end o q (omega arith) s e path (a .flattens))
-stop-shift s e a bytes b end o path le (head.Go v q r) i g = absurd g
+stop-shift s e a bytes base b end path le head.Ended i g = refl
+stop-shift s e a bytes base b end path le head.Failed i g = refl
+stop-shift s e a bytes base b end path le (head.Closed q) i g = closing-shift bytes base b end q (omega arith) s e (a .trailer) (a .leftover)
+stop-shift s e a bytes base b end path le (head.Limit q) i g = ap (λ (t : Trace). truncation ∷ t) (tail-shift bytes base b end q (omega arith) s e path (a .flattens))
+stop-shift s e a bytes base b end path le (head.Go v q r) i g = absurd g
 
 module _ (s : Sink) (w : Window) (path : List ℕ) where
   level-stops : (x : World) → NotGo (levelHead w 0) → played (level s w path) x ≡ played (stopAt s w path (levelHead w 0)) (padding (numberPads w 0) x)
@@ -266,80 +259,80 @@ pub record Goes (r r′ : Run) (x y : World) : Type 0 where
   pub is : r ≡ prepend trace r′
   pub world : y ≡ played trace x
 
-module _ (s e : Sink) (a : Alike s e) (bytes : List ℕ) (b end : ℕ) (path : List ℕ) (le : b ≤ end) where
+module _ (s e : Sink) (a : Alike s e) (bytes : List ℕ) (base b end : ℕ) (path : List ℕ) (le : b ≤ end) where
   -- a trace that a head of the window gives is what the code's exit gives
-  exit-by : (o : ℕ) (h g : Head) → h ≡ shifted b g → HeadIn (end - b) g → NotGo h → (x y : World) → ((k : ℕ) → y ≡ played (levelStop e bytes end k path h) x)
-      → y ≡ played (stopAt s (inner bytes b end o) path g) x
-  exit-by o h g q i n x y out =
-      out (o + posOf g)
-      ∙ ap (λ (k : Head). played (levelStop e bytes end (o + posOf g) path k) x) q
-      ∙ ap (λ (t : Trace). played t x) (sym (stop-shift s e a bytes b end o path le g i (not-go-back b g (subst NotGo q n))))
+  exit-by : (h g : Head) → h ≡ shifted b g → HeadIn (end - b) g → NotGo h → (x y : World) → y ≡ played (levelStop e bytes base end path h) x
+      → y ≡ played (stopAt s (inner bytes base b end) path g) x
+  exit-by h g q i n x y out =
+      out
+      ∙ ap (λ (k : Head). played (levelStop e bytes base end path k) x) q
+      ∙ ap (λ (t : Trace). played t x) (sym (stop-shift s e a bytes base b end path le g i (not-go-back b g (subst NotGo q n))))
 
   -- a level that ends at its count
   pub level-exit : (h : Head) → levelHead (upTo bytes end) b ≡ h → NotGo h → (x y : World)
-      → ((k : ℕ) → y ≡ played (levelStop e bytes end k path h) (padding (numberPads (upTo bytes end) b) x))
-      → (o : ℕ) → y ≡ played (level s (inner bytes b end o) path) x
-  level-exit h eh n x y out o =
-      let w = inner bytes b end o in
+      → y ≡ played (levelStop e bytes base end path h) (padding (numberPads (upTo bytes end) b) x)
+      → y ≡ played (level s (inner bytes base b end) path) x
+  level-exit h eh n x y out =
+      let w = inner bytes base b end in
       let g = levelHead w 0 in
-      let q : h ≡ shifted b g = sym eh ∙ ap (levelHead (upTo bytes end)) (sym (add-zero b)) ∙ level-shift bytes b end o le 0 in
-      let i : HeadIn (end - b) g = subst (λ (k : ℕ). HeadIn k g) (size-inner bytes b end o le) (level-in w 0) in
-      exit-by o h g q i n (padding (numberPads (upTo bytes end) b) x) y out
-      ∙ ap (λ (k : ℕ). played (stopAt s w path g) (padding k x)) (level-there bytes b end o le)
+      let q : h ≡ shifted b g = sym eh ∙ ap (levelHead (upTo bytes end)) (sym (add-zero b)) ∙ level-shift bytes base b end le 0 in
+      let i : HeadIn (end - b) g = subst (λ (k : ℕ). HeadIn k g) (size-inner bytes base b end le) (level-in w 0) in
+      exit-by h g q i n (padding (numberPads (upTo bytes end) b) x) y out
+      ∙ ap (λ (k : ℕ). played (stopAt s w path g) (padding k x)) (level-there bytes base b end le)
       ∙ sym (level-stops s w path x (not-go-back b g (subst NotGo q n)))
 
   -- one that goes on to its elements
-  pub level-walks : {v f m : ℕ} → levelHead (upTo bytes end) b ≡ head.Go v f m → (x : World) (o : ℕ)
-      → played (level s (inner bytes b end o) path) x ≡ played (elements s (inner bytes b end o) path v maxElements (f - b)) (padding (numberPads (upTo bytes end) b) x)
-  level-walks {v} {f} {m} eh x o =
-      let w = inner bytes b end o in
-      let k = go-back b (levelHead w 0) (sym (ap (levelHead (upTo bytes end)) (sym (add-zero b)) ∙ level-shift bytes b end o le 0) ∙ eh) in
+  pub level-walks : {v f m : ℕ} → levelHead (upTo bytes end) b ≡ head.Go v f m → (x : World)
+      → played (level s (inner bytes base b end) path) x ≡ played (elements s (inner bytes base b end) path v maxElements (f - b)) (padding (numberPads (upTo bytes end) b) x)
+  level-walks {v} {f} {m} eh x =
+      let w = inner bytes base b end in
+      let k = go-back b (levelHead w 0) (sym (ap (levelHead (upTo bytes end)) (sym (add-zero b)) ∙ level-shift bytes base b end le 0) ∙ eh) in
       let c = level-goes w 0 (k .is) in
       let z = k .from-next in
       let y = c .next in
       let d : 8 * c .bytes ≡ f - b = omega arith in
       ap (λ (t : Trace). played t x) (level-count s w path ∙ counts w c)
       ∙ sym (played-number (numberAt w 0 (c .bytes) v) (elements s w path v maxElements (8 * c .bytes)) x)
-      ∙ ap₂ (λ (p k : ℕ). played (elements s w path v maxElements p) (padding k x)) d (sym (level-there bytes b end o le ∙ count-took w 0 v (c .bytes) (c .reads)))
+      ∙ ap₂ (λ (p k : ℕ). played (elements s w path v maxElements p) (padding k x)) d (sym (level-there bytes base b end le ∙ count-took w 0 v (c .bytes) (c .reads)))
     where
       counts : (w : Window) {q : ℕ} → (c : Counted w 0 v q) → Rattle.framing.specs.Walk.onCount s w path (reading w 0) ≡ number (numberAt w 0 (c .bytes) v) ∷ elements s w path v maxElements (8 * c .bytes)
       counts w c = rw (c .reads, le-ltb maxElements v (c .few))
 
   module _ (count left at : ℕ) (later : b ≤ at) where
-    element-here : (o : ℕ) → elementHead (upTo bytes end) count left at ≡ shifted b (elementHead (inner bytes b end o) count left (at - b))
-    element-here o = let z : b + (at - b) ≡ at = omega arith in ap (elementHead (upTo bytes end) count left) (sym z) ∙ element-shift bytes b end o le count left (at - b)
+    element-here : elementHead (upTo bytes end) count left at ≡ shifted b (elementHead (inner bytes base b end) count left (at - b))
+    element-here = let z : b + (at - b) ≡ at = omega arith in ap (elementHead (upTo bytes end) count left) (sym z) ∙ element-shift bytes base b end le count left (at - b)
 
-    element-pads : (o : ℕ) → elementPads (upTo bytes end) left at ≡ elementPads (inner bytes b end o) left (at - b)
-    element-pads o = let z : b + (at - b) ≡ at = omega arith in ap (elementPads (upTo bytes end) left) (sym z) ∙ element-there bytes b end o le left (at - b)
+    element-pads : elementPads (upTo bytes end) left at ≡ elementPads (inner bytes base b end) left (at - b)
+    element-pads = let z : b + (at - b) ≡ at = omega arith in ap (elementPads (upTo bytes end) left) (sym z) ∙ element-there bytes base b end le left (at - b)
 
     -- elements that end
     pub elements-exit : (h : Head) → elementHead (upTo bytes end) count left at ≡ h → NotGo h → (x y : World)
-        → ((k : ℕ) → y ≡ played (levelStop e bytes end k path h) (padding (elementPads (upTo bytes end) left at) x))
-        → (o : ℕ) → y ≡ played (elements s (inner bytes b end o) path count left (at - b)) x
-    elements-exit h eh n x y out o =
-        let w = inner bytes b end o in
+        → y ≡ played (levelStop e bytes base end path h) (padding (elementPads (upTo bytes end) left at) x)
+        → y ≡ played (elements s (inner bytes base b end) path count left (at - b)) x
+    elements-exit h eh n x y out =
+        let w = inner bytes base b end in
         let g = elementHead w count left (at - b) in
-        let q : h ≡ shifted b g = sym eh ∙ element-here o in
-        let i : HeadIn (end - b) g = subst (λ (k : ℕ). HeadIn k g) (size-inner bytes b end o le) (element-in w count left (at - b)) in
-        exit-by o h g q i n (padding (elementPads (upTo bytes end) left at) x) y out
-        ∙ ap (λ (k : ℕ). played (stopAt s w path g) (padding k x)) (element-pads o)
+        let q : h ≡ shifted b g = sym eh ∙ element-here in
+        let i : HeadIn (end - b) g = subst (λ (k : ℕ). HeadIn k g) (size-inner bytes base b end le) (element-in w count left (at - b)) in
+        exit-by h g q i n (padding (elementPads (upTo bytes end) left at) x) y out
+        ∙ ap (λ (k : ℕ). played (stopAt s w path g) (padding k x)) (element-pads)
         ∙ sym (elements-stops s w path count left (at - b) x (not-go-back b g (subst NotGo q n)))
 
     -- an element, and those behind it
-    pub elements-walk : {i n m : ℕ} → elementHead (upTo bytes end) count left at ≡ head.Go i n m → (x : World) (o : ℕ)
-        → played (elements s (inner bytes b end o) path count left (at - b)) x
-        ≡ played (behind (λ r. elements s (inner bytes b end o) path count (left - 1) r) (fields s (inner bytes b end o) i (inItem s path i) maxFields (n - b) true))
+    pub elements-walk : {i n m : ℕ} → elementHead (upTo bytes end) count left at ≡ head.Go i n m → (x : World)
+        → played (elements s (inner bytes base b end) path count left (at - b)) x
+        ≡ played (behind (λ r. elements s (inner bytes base b end) path count (left - 1) r) (fields s (inner bytes base b end) i (inItem s path i) maxFields (n - b) true))
         (played (element (inItem s path i) ∷ []) (padding (elementPads (upTo bytes end) left at) x))
-    elements-walk {i} {n} {m} eh x o =
-        let w = inner bytes b end o in
-        let k = go-back b (elementHead w count left (at - b)) (sym (element-here o) ∙ eh) in
+    elements-walk {i} {n} {m} eh x =
+        let w = inner bytes base b end in
+        let k = go-back b (elementHead w count left (at - b)) (sym (element-here) ∙ eh) in
         let c = element-goes w count left (at - b) (k .is) in
         let z = k .from-next in
         let d : k .next ≡ n - b = omega arith in
         ap (λ (t : Trace). played t x) (steps w left c)
         ∙ sym (played-number (c .number) (element (inItem s path i) ∷ rest w (k .next)) x)
         ∙ sym (played-then (element (inItem s path i)) (rest w (k .next)) (padding (paddedAmong (c .number ∷ [])) x))
-        ∙ ap₂ (λ (p n : ℕ). played (rest w p) (played (element (inItem s path i) ∷ []) (padding n x))) d (sym (element-pads o ∙ takes w c))
+        ∙ ap₂ (λ (p n : ℕ). played (rest w p) (played (element (inItem s path i) ∷ []) (padding n x))) d (sym (element-pads ∙ takes w c))
       where
         rest : Window → ℕ → Trace
         rest w q = behind (λ r. elements s w path count (left - 1) r) (fields s w i (inItem s path i) maxFields q true)
@@ -356,36 +349,36 @@ module _ (s e : Sink) (a : Alike s e) (bytes : List ℕ) (b end : ℕ) (path : L
         steps w (suc l) c = let p : l ≡ suc l - 1 = omega arith in rw (elements-step, c .leads, lt-leb count i (c .counted), sym p)
 
   module _ (i left at : ℕ) (first : Bool) (later : b ≤ at) where
-    field-here : (o : ℕ) → fieldHead (upTo bytes end) left at ≡ shifted b (fieldHead (inner bytes b end o) left (at - b))
-    field-here o = let z : b + (at - b) ≡ at = omega arith in ap (fieldHead (upTo bytes end) left) (sym z) ∙ field-shift bytes b end o le left (at - b)
+    field-here : fieldHead (upTo bytes end) left at ≡ shifted b (fieldHead (inner bytes base b end) left (at - b))
+    field-here = let z : b + (at - b) ≡ at = omega arith in ap (fieldHead (upTo bytes end) left) (sym z) ∙ field-shift bytes base b end le left (at - b)
 
-    field-pads : (o : ℕ) → fieldPads (upTo bytes end) left at ≡ fieldPads (inner bytes b end o) left (at - b)
-    field-pads o = let z : b + (at - b) ≡ at = omega arith in ap (fieldPads (upTo bytes end) left) (sym z) ∙ field-there bytes b end o le left (at - b)
+    field-pads : fieldPads (upTo bytes end) left at ≡ fieldPads (inner bytes base b end) left (at - b)
+    field-pads = let z : b + (at - b) ≡ at = omega arith in ap (fieldPads (upTo bytes end) left) (sym z) ∙ field-there bytes base b end le left (at - b)
 
     -- fields that end without closing
     pub fields-exit : (h : Head) → fieldHead (upTo bytes end) left at ≡ h → NotGo h → NotClosed h → (x y : World)
-        → ((k : ℕ) → y ≡ played (fieldsStop e bytes end k path h) (padding (fieldPads (upTo bytes end) left at) x))
-        → (o : ℕ) → Ends (fields s (inner bytes b end o) i path left (at - b) first) x y
-    fields-exit h eh n c x y out o =
-        let w = inner bytes b end o in
+        → y ≡ played (fieldsStop e bytes base end path h) (padding (fieldPads (upTo bytes end) left at) x)
+        → Ends (fields s (inner bytes base b end) i path left (at - b) first) x y
+    fields-exit h eh n c x y out =
+        let w = inner bytes base b end in
         let g = fieldHead w left (at - b) in
-        let q : h ≡ shifted b g = sym eh ∙ field-here o in
-        let i′ : HeadIn (end - b) g = subst (λ (k : ℕ). HeadIn k g) (size-inner bytes b end o le) (field-in w left (at - b)) in
+        let q : h ≡ shifted b g = sym eh ∙ field-here in
+        let i′ : HeadIn (end - b) g = subst (λ (k : ℕ). HeadIn k g) (size-inner bytes base b end le) (field-in w left (at - b)) in
         let halt = fields-halt s w path i left (at - b) first (not-go-back b g (subst NotGo q n)) (not-closed-back b g (subst NotClosed q c)) in
         let z = padding (fieldPads (upTo bytes end) left at) x in
-        let all : (k : ℕ) → y ≡ played (levelStop e bytes end k path h) z = λ k. out k ∙ ap (λ (t : Trace). played t z) (sym (fields-stop e bytes end k path h c)) in
+        let all : y ≡ played (levelStop e bytes base end path h) z = out ∙ ap (λ (t : Trace). played t z) (sym (fields-stop e bytes base end path h c)) in
         record {
           trace = halt .trace;
           is = halt .is;
-          world = exit-by o h g q i′ n z y all ∙ ap (λ (k : ℕ). played (stopAt s w path g) (padding k x)) (field-pads o) ∙ sym (halt .same x);
+          world = exit-by h g q i′ n z y all ∙ ap (λ (k : ℕ). played (stopAt s w path g) (padding k x)) (field-pads) ∙ sym (halt .same x);
         }
 
     -- fields that close before bit n
-    pub fields-closed : {n : ℕ} → fieldHead (upTo bytes end) left at ≡ head.Closed n → (x : World) (o : ℕ)
-        → Shuts b (fields s (inner bytes b end o) i path left (at - b) first) x (padding (fieldPads (upTo bytes end) left at) x) n
-    fields-closed {n} eh x o =
-        let w = inner bytes b end o in
-        let k = closed-back b (fieldHead w left (at - b)) (sym (field-here o) ∙ eh) in
+    pub fields-closed : {n : ℕ} → fieldHead (upTo bytes end) left at ≡ head.Closed n → (x : World)
+        → Shuts b (fields s (inner bytes base b end) i path left (at - b) first) x (padding (fieldPads (upTo bytes end) left at) x) n
+    fields-closed {n} eh x =
+        let w = inner bytes base b end in
+        let k = closed-back b (fieldHead w left (at - b)) (sym (field-here) ∙ eh) in
         let c = fields-close s w path i left (at - b) first (n - b) (k .0) in
         record {
           trace = number (c .read) ∷ [];
@@ -393,31 +386,31 @@ module _ (s e : Sink) (a : Alike s e) (bytes : List ℕ) (b end : ℕ) (path : L
           is = c .is;
           at = k .1;
           world =
-              ap (λ (m : ℕ). padding m x) (field-pads o ∙ c .took)
+              ap (λ (m : ℕ). padding m x) (field-pads ∙ c .took)
               ∙ played-none (padding (paddedAmong (c .read ∷ [])) x)
               ∙ played-number (c .read) [] x;
         }
 
     -- a field, and those behind it
-    pub fields-walk : {h body next : ℕ} → fieldHead (upTo bytes end) left at ≡ head.Go h body next → (x : World) (o : ℕ)
-        → Goes (fields s (inner bytes b end o) i path left (at - b) first) (fields s (inner bytes b end o) i path (left - 1) (next - b) (first && eqb (next - body) 0)) x
-        (played (s .field i path first h (inner bytes body next (o + (body - b)))) (padding (fieldPads (upTo bytes end) left at) x))
-    fields-walk {h} {body} {next} eh x o =
-        let w = inner bytes b end o in
-        let k = go-back b (fieldHead w left (at - b)) (sym (field-here o) ∙ eh) in
+    pub fields-walk : {h body next : ℕ} → fieldHead (upTo bytes end) left at ≡ head.Go h body next → (x : World)
+        → Goes (fields s (inner bytes base b end) i path left (at - b) first) (fields s (inner bytes base b end) i path (left - 1) (next - b) (first && eqb (next - body) 0)) x
+        (played (s .field i path first h (inner bytes base body next)) (padding (fieldPads (upTo bytes end) left at) x))
+    fields-walk {h} {body} {next} eh x =
+        let w = inner bytes base b end in
+        let k = go-back b (fieldHead w left (at - b)) (sym (field-here) ∙ eh) in
         let c = field-goes w left (at - b) (k .is) in
-        let z = size-inner bytes b end o le in
+        let z = size-inner bytes base b end le in
         let f = c .fits in
         let wide = c .wide in
         let e1 = k .from-next in
         let e2 = k .from-last in
         let fit : b + k .next + c .width ≤ end = omega arith in
-        let same : part w (k .next) (c .width) ≡ inner bytes body next (o + (body - b)) = part-inner bytes b end o (k .next) (c .width) fit ∙ (λ j. inner bytes (here1 (k .next) e1 j) (here2 (k .next) (c .width) (k .last) e2 wide j) (o + here3 (k .next) e1 j)) in
+        let same : part w (k .next) (c .width) ≡ inner bytes base body next = part-inner bytes base b end (k .next) (c .width) fit ∙ (λ j. inner bytes base (here1 (k .next) e1 j) (here2 (k .next) (c .width) (k .last) e2 wide j)) in
         record {
           trace = numbers (c .numbers) ++ s .field i path first h (part w (k .next) (c .width));
-          is = walks w left c ∙ (λ j. prepend (numbers (c .numbers) ++ s .field i path first h (part w (k .next) (c .width))) (fields s w i path (left - 1) (here4 (k .next) (c .width) (k .last) e2 wide j) (first && eqb (here5 (k .next) (c .width) (k .last) e1 e2 wide j) 0)));
+          is = walks w left c ∙ (λ j. prepend (numbers (c .numbers) ++ s .field i path first h (part w (k .next) (c .width))) (fields s w i path (left - 1) (here3 (k .next) (c .width) (k .last) e2 wide j) (first && eqb (here4 (k .next) (c .width) (k .last) e1 e2 wide j) 0)));
           world =
-              ap₂ (λ (v : Window) (m : ℕ). played (s .field i path first h v) (padding m x)) (sym same) (field-pads o ∙ takes w left c)
+              ap₂ (λ (v : Window) (m : ℕ). played (s .field i path first h v) (padding m x)) (sym same) (field-pads ∙ takes w left c)
               ∙ played-numbers (c .numbers) (s .field i path first h (part w (k .next) (c .width))) x;
         }
       where
@@ -427,14 +420,11 @@ module _ (s e : Sink) (a : Alike s e) (bytes : List ℕ) (b end : ℕ) (path : L
         here2 : (q width last : ℕ) → next ≡ b + last → last ≡ q + width → b + q + width ≡ next
         here2 q width last e f = omega arith
 
-        here3 : (q : ℕ) → body ≡ b + q → q ≡ body - b
-        here3 q e = omega arith
+        here3 : (q width last : ℕ) → next ≡ b + last → last ≡ q + width → q + width ≡ next - b
+        here3 q width last e f = omega arith
 
-        here4 : (q width last : ℕ) → next ≡ b + last → last ≡ q + width → q + width ≡ next - b
-        here4 q width last e f = omega arith
-
-        here5 : (q width last : ℕ) → body ≡ b + q → next ≡ b + last → last ≡ q + width → width ≡ next - body
-        here5 q width last e f g = omega arith
+        here4 : (q width last : ℕ) → body ≡ b + q → next ≡ b + last → last ≡ q + width → width ≡ next - body
+        here4 q width last e f g = omega arith
 
         takes : (w : Window) (l : ℕ) {q r : ℕ} → (c : Presented w l (at - b) h q r) → fieldPads w l (at - b) ≡ paddedAmong (c .numbers)
         takes w l c = ap (λ (m : ℕ). fieldPads w m (at - b)) (c .allowed) ∙ due-took w (at - b) (c .less) ∙ ap (dueTook w (at - b)) (c .due)

@@ -40,7 +40,7 @@ element-in w count left p = go (lead-in w p)
     go (I.in-end h) = tt
     go (I.in-fail h) = tt
     go (I.in-zero t) = t .fits
-    go (I.in-more {i = i} {q = q} t) = go2 (eqb left 0) (leb count i)
+    go (I.in-more {i = i} {q = q} t says) = go2 (eqb left 0) (leb count i)
       where
         before : p ≤ w .size
         before = let e = t .runs in let f = t .fits in omega arith
@@ -58,7 +58,7 @@ field-in w zero p = go (lead-in w p)
     go (I.in-end h) = tt
     go (I.in-fail h) = tt
     go (I.in-zero t) = t .fits
-    go (I.in-more t) = let e = t .runs in let f = t .fits in omega arith
+    go (I.in-more t says) = let e = t .runs in let f = t .fits in omega arith
 field-in w (suc left) p = go (due-in w p)
   where
     go : {d : Due} → DueIn w p d → HeadIn (w .size) (dueHead d)
@@ -67,7 +67,7 @@ field-in w (suc left) p = go (due-in w p)
     go (I.in-fail₁ t) = tt
     go (I.in-fail₂ t u) = tt
     go (I.in-zero t) = t .fits
-    go (I.in-field t u h) = tt
+    go (I.in-field t says u h) = tt
 
 -- ---- what goes on
 
@@ -111,7 +111,7 @@ element-goes w count left p {i} {q} {m} e = go (lead w p) refl (lead-in w p) e
     go ends el h f = never cc
     go fails el h f = never cc
     go (closes x r) el h f = never cc
-    go (opens x j r) el (I.in-more t) f = go2 (eqb left 0) refl (leb count j) refl f
+    go (opens x j r) el (I.in-more t says) f = go2 (eqb left 0) refl (leb count j) refl f
       where
         go2 : (y : Bool) → eqb left 0 ≡ y → (z : Bool) → leb count j ≡ z → (if y then head.Limit p else (if z then head.Failed else head.Go j r r)) ≡ head.Go i q m → Opened w count left p i q
         go2 true ey z ez g = never cc
@@ -162,7 +162,7 @@ field-goes w (suc left) p {h} {q} {r} e = go (fieldAt w p) refl (due-in w p) e
     go cut ed i f = never cc
     go (broken ns) ed i f = never cc
     go (closed x s) ed i f = never cc
-    go (present ns j s k) ed (I.in-field t u fit) f =
+    go (present ns j s k) ed (I.in-field t says u fit) f =
         let a : j ≡ h = cc in
         let b : s ≡ q = cc in
         let c : s + k ≡ r = cc in

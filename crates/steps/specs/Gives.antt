@@ -30,17 +30,17 @@ flatField t index path first handle w (kind.Deep x) = truncation ∷ taggedLeaf 
 flatField t index path first handle w (kind.Array lower x) = []
 
 -- a head at which an element's fields end without closing
-unfoldable pub fieldsStop : Sink → (bytes : List ℕ) (end origin : ℕ) (path : List ℕ) → Head → Trace
-fieldsStop s bytes end o path head.Ended = implicit ∷ []
-fieldsStop s bytes end o path head.Failed = error ∷ []
-fieldsStop s bytes end o path (head.Closed n) = []
-fieldsStop s bytes end o path (head.Limit n) = truncation ∷ tail s (inner bytes n end o) path 0
-fieldsStop s bytes end o path (head.Go v a b) = []
+unfoldable pub fieldsStop : Sink → (bytes : List ℕ) (base end : ℕ) (path : List ℕ) → Head → Trace
+fieldsStop s bytes base end path head.Ended = implicit ∷ []
+fieldsStop s bytes base end path head.Failed = error ∷ []
+fieldsStop s bytes base end path (head.Closed n) = []
+fieldsStop s bytes base end path (head.Limit n) = truncation ∷ tail s (inner bytes base n end) path 0
+fieldsStop s bytes base end path (head.Go v a b) = []
 
 -- a head at which a level ends
-unfoldable pub levelStop : Sink → (bytes : List ℕ) (end origin : ℕ) (path : List ℕ) → Head → Trace
-levelStop s bytes end o path head.Ended = implicit ∷ []
-levelStop s bytes end o path head.Failed = error ∷ []
-levelStop s bytes end o path (head.Closed n) = closing s (inner bytes n end o) 0
-levelStop s bytes end o path (head.Limit n) = truncation ∷ tail s (inner bytes n end o) path 0
-levelStop s bytes end o path (head.Go v a b) = []
+unfoldable pub levelStop : Sink → (bytes : List ℕ) (base end : ℕ) (path : List ℕ) → Head → Trace
+levelStop s bytes base end path head.Ended = implicit ∷ []
+levelStop s bytes base end path head.Failed = error ∷ []
+levelStop s bytes base end path (head.Closed n) = closing s (inner bytes base n end) 0
+levelStop s bytes base end path (head.Limit n) = truncation ∷ tail s (inner bytes base n end) path 0
+levelStop s bytes base end path (head.Go v a b) = []

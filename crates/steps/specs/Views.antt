@@ -1,5 +1,5 @@
 -- Where the code stands in a walk: positions are bits of the bytes, and a window is the bits from `from` to before `end`.
-use Prim.Native.Nat.{ℕ, _-_, _≤_}
+use Prim.Native.Nat.{ℕ, _+_, _-_, _≤_}
 use mathlib.Core.Bool.{Bool}
 use mathlib.Core.List.{List, []}
 use Rattle.bits.specs.Choice.{if_then_else_}
@@ -13,9 +13,9 @@ use Rattle.framing.specs.declared.Walk.{Walk}
 use Rattle.steps.specs.declared.Head.{Head}
 use Rattle.steps.specs.declared.Head.the-variants as head
 
--- the bits from `from` to before `end`, the first of them at `origin` of the root window
-unfoldable pub inner : (bytes : List ℕ) (from end origin : ℕ) → Window
-inner bytes «from» end origin = record { bits = field (num bytes) «from» (end - «from»); size = end - «from»; origin = origin }
+-- the bits from `from` to before `end`, of bytes that start at bit `base` of the root window
+unfoldable pub inner : (bytes : List ℕ) (base from end : ℕ) → Window
+inner bytes base «from» end = record { bits = field (num bytes) «from» (end - «from»); size = end - «from»; origin = base + «from» }
 
 -- all bits before `end`: its positions are the code's
 unfoldable pub upTo : (bytes : List ℕ) (end : ℕ) → Window

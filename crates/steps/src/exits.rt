@@ -7,7 +7,7 @@ ghost use lib.ListN.{take};
 ghost use Rattle.framing.specs.Walk.{tail, closing};
 ghost use Rattle.steps.specs.Paths.{LabelFits};
 ghost use Rattle.steps.specs.Tally.{worldOf, played};
-ghost use Rattle.steps.specs.Steps.{Lies, Plays};
+ghost use Rattle.steps.specs.Steps.{Lies, InRoot, Plays};
 ghost use Rattle.steps.specs.Views.{inner, leftoverOf, exitSink, HeadIn};
 ghost use Rattle.steps.specs.Gives.{fieldsStop, levelStop};
 use crate::Head;
@@ -43,8 +43,8 @@ fn count_left(tally: &mut Tally, inside: bool, n: u32)
 // counted (rule 3).
 fn close_level(tally: &mut Tally, bytes: &[u8], at: u64, end: u64, walk: Walk, inside: bool)
     requires { ⌜ Lies (now bytes) at end ⌝ }
-    ensures { λ _. ⌜ ((o : ℕ) (records paths payloads : List ℕ) → worldOf (now (tally .exit)) records paths payloads
-        ≡ played (closing (exitSink walk inside) (inner (now (bytes .entry)) at end o) 0)
+    ensures { λ _. ⌜ ((base : ℕ) (records paths payloads : List ℕ) → worldOf (now (tally .exit)) records paths payloads
+        ≡ played (closing (exitSink walk inside) (inner (now (bytes .entry)) base at end) 0)
         (worldOf (now (tally .entry)) records paths payloads)) ⌝ }
 {
     let rest = (end - at) as u32;
@@ -71,6 +71,7 @@ fn close_level(tally: &mut Tally, bytes: &[u8], at: u64, end: u64, walk: Walk, i
 fn keep_tail(
     tally: &mut Tally,
     bytes: &[u8],
+    base: u64,
     at: u64,
     end: u64,
     walk: Walk,
@@ -80,9 +81,9 @@ fn keep_tail(
     paths: &mut [u8],
     payloads: &mut [u8],
 )
-    requires { ⌜ Lies (now bytes) at end × LabelFits plen ⌝ }
+    requires { ⌜ Lies (now bytes) at end × InRoot base end × LabelFits plen ⌝ }
     ensures { λ _. ⌜ ((inside : Bool) → Plays
-        (λ (o : ℕ). tail (exitSink walk inside) (inner (now (bytes .entry)) at end o) (take plen (now (path .entry))) 0)
+        (tail (exitSink walk inside) (inner (now (bytes .entry)) base at end) (take plen (now (path .entry))) 0)
         (worldOf (now (tally .entry)) (now (records .entry)) (now (paths .entry)) (now (payloads .entry)))
         (worldOf (now (tally .exit)) (now (records .exit)) (now (paths .exit)) (now (payloads .exit)))
         plen (now (path .entry)) (now (path .exit))) ⌝ }
@@ -93,7 +94,18 @@ fn keep_tail(
     if at == end {
         return;
     }
-    put_tail(tally, bytes, at, end, plen, path, records, paths, payloads);
+    put_tail(
+        tally,
+        bytes,
+        base,
+        at,
+        end,
+        plen,
+        path,
+        records,
+        paths,
+        payloads,
+    );
 }
 
 // An element's fields that don't close (rule 5).
@@ -101,6 +113,7 @@ pub fn stop_fields(
     tally: &mut Tally,
     h: Head,
     bytes: &[u8],
+    base: u64,
     end: u64,
     walk: Walk,
     plen: usize,
@@ -109,9 +122,9 @@ pub fn stop_fields(
     paths: &mut [u8],
     payloads: &mut [u8],
 )
-    requires { ⌜ HeadIn end h × Lies (now bytes) 0 end × LabelFits plen ⌝ }
+    requires { ⌜ HeadIn end h × Lies (now bytes) 0 end × InRoot base end × LabelFits plen ⌝ }
     ensures { λ _. ⌜ ((inside : Bool) → Plays
-        (λ (o : ℕ). fieldsStop (exitSink walk inside) (now (bytes .entry)) end o (take plen (now (path .entry))) h)
+        (fieldsStop (exitSink walk inside) (now (bytes .entry)) base end (take plen (now (path .entry))) h)
         (worldOf (now (tally .entry)) (now (records .entry)) (now (paths .entry)) (now (payloads .entry)))
         (worldOf (now (tally .exit)) (now (records .exit)) (now (paths .exit)) (now (payloads .exit)))
         plen (now (path .entry)) (now (path .exit))) ⌝ }
@@ -125,6 +138,7 @@ pub fn stop_fields(
             keep_tail(
                 tally,
                 bytes,
+                base,
                 at,
                 end,
                 walk,
@@ -148,6 +162,7 @@ pub fn stop_level(
     tally: &mut Tally,
     h: Head,
     bytes: &[u8],
+    base: u64,
     end: u64,
     walk: Walk,
     inside: bool,
@@ -157,9 +172,9 @@ pub fn stop_level(
     paths: &mut [u8],
     payloads: &mut [u8],
 )
-    requires { ⌜ HeadIn end h × Lies (now bytes) 0 end × LabelFits plen ⌝ }
+    requires { ⌜ HeadIn end h × Lies (now bytes) 0 end × InRoot base end × LabelFits plen ⌝ }
     ensures { λ _. ⌜ Plays
-        (λ (o : ℕ). levelStop (exitSink walk inside) (now (bytes .entry)) end o (take plen (now (path .entry))) h)
+        (levelStop (exitSink walk inside) (now (bytes .entry)) base end (take plen (now (path .entry))) h)
         (worldOf (now (tally .entry)) (now (records .entry)) (now (paths .entry)) (now (payloads .entry)))
         (worldOf (now (tally .exit)) (now (records .exit)) (now (paths .exit)) (now (payloads .exit)))
         plen (now (path .entry)) (now (path .exit)) ⌝ }
@@ -171,6 +186,7 @@ pub fn stop_level(
         tally,
         h,
         bytes,
+        base,
         end,
         walk,
         plen,

@@ -1,11 +1,10 @@
 // What a field is, and what one gives that is no array to walk (01, Walking an array, rules 6 and 8).
 ghost use mathlib.Core.Path.{_≡_};
-ghost use Prim.Native.Nat.{ℕ};
 ghost use lib.ListN.{take};
 ghost use Rattle.schema.specs.Tables.{lookUps};
 ghost use Rattle.schema.specs.Spans.{spansOf};
 ghost use Rattle.steps.specs.Tally.{worldOf};
-ghost use Rattle.steps.specs.Steps.{Lies, Plays};
+ghost use Rattle.steps.specs.Steps.{Lies, InRoot, Plays};
 ghost use Rattle.steps.specs.Views.{inner};
 ghost use Rattle.steps.specs.Paths.{pools, LabelFits};
 ghost use Rattle.steps.specs.Kinds.{kindOf, KindLies};
@@ -67,6 +66,7 @@ pub fn put_field<'a>(
     tally: &mut Tally,
     kind: Kind,
     bytes: &[u8],
+    base: u64,
     from: u64,
     end: u64,
     index: u32,
@@ -80,10 +80,10 @@ pub fn put_field<'a>(
     paths: &mut [u8],
     payloads: &mut [u8],
 )
-    requires { ⌜ Lies (now bytes) «from» end × LabelFits plen × KindLies (pools (now names) (now «declared_names»)) kind ⌝ }
+    requires { ⌜ Lies (now bytes) «from» end × InRoot base end × LabelFits plen × KindLies (pools (now names) (now «declared_names»)) kind ⌝ }
     ensures { λ _. ⌜ Plays
-        (λ (o : ℕ). flatField (pools (now (names .entry)) (now («declared_names» .entry))) index (take plen (now (path .entry))) first handle
-        (inner (now (bytes .entry)) «from» end o) kind)
+        (flatField (pools (now (names .entry)) (now («declared_names» .entry))) index (take plen (now (path .entry))) first handle
+        (inner (now (bytes .entry)) base «from» end) kind)
         (worldOf (now (tally .entry)) (now (records .entry)) (now (paths .entry)) (now (payloads .entry)))
         (worldOf (now (tally .exit)) (now (records .exit)) (now (paths .exit)) (now (payloads .exit)))
         plen (now (path .entry)) (now (path .exit)) ⌝ }
@@ -107,6 +107,7 @@ pub fn put_field<'a>(
     put_leaf(
         tally,
         bytes,
+        base,
         from,
         end,
         handle,

@@ -1,7 +1,7 @@
 // One leaf: its record, its path and its payload.
 ghost use mathlib.Core.Path.{_≡_};
 ghost use mathlib.Core.List.{[]};
-ghost use Prim.Native.Nat.{ℕ, _+_, _-_, _≤_};
+ghost use Prim.Native.Nat.{_+_, _-_, _≤_};
 ghost use lib.ListN.{length, take};
 ghost use Rattle.bits.specs.Sizes.{longestPath};
 ghost use Rattle.bits.specs.Bits.{num, field};
@@ -11,7 +11,7 @@ ghost use Rattle.framing.specs.Events.{rawHandle};
 ghost use Rattle.framing.specs.Records.{leafWords, leafNumbers};
 ghost use Rattle.steps.specs.Paths.{pools, tagBytes, tagLength, TagLies, LabelFits};
 ghost use Rattle.steps.specs.Tally.{slots, slot, recordsSlot, pathsSlot, payloadsSlot, worldOf, reserved};
-ghost use Rattle.steps.specs.Steps.{Lies, Plays};
+ghost use Rattle.steps.specs.Steps.{Lies, InRoot, Plays};
 ghost use Rattle.steps.specs.Views.{inner};
 ghost use Rattle.steps.specs.Gives.{taggedLeaf};
 use crate::Tag;
@@ -69,6 +69,7 @@ fn store_path<'a>(
 fn put_rest(
     tally: &mut Tally,
     bytes: &[u8],
+    base: u64,
     from: u64,
     end: u64,
     handle: u32,
@@ -76,11 +77,11 @@ fn put_rest(
     records: &mut [u32],
     payloads: &mut [u8],
 )
-    requires { ⌜ Lies (now bytes) «from» end × (n ≤ longestPath) ⌝ }
+    requires { ⌜ Lies (now bytes) «from» end × InRoot base end × (n ≤ longestPath) ⌝ }
     ensures counts { λ _. ⌜ now (tally .exit) ≡ reserved (now (tally .entry)) leafWords n (bytesFor (end - «from»)) ⌝ }
     ensures sized { λ _. ⌜ length (now (tally .entry)) ≡ slots ⌝ }
     ensures recorded { λ _. ⌜ now (records .exit) ≡ store (now (records .entry)) (slot (now (tally .entry)) recordsSlot)
-        (leafNumbers (slot (now (tally .entry)) pathsSlot) n handle (end - «from») (slot (now (tally .entry)) payloadsSlot)) ⌝ }
+        (leafNumbers (slot (now (tally .entry)) pathsSlot) n handle (end - «from») (slot (now (tally .entry)) payloadsSlot) (base + «from»)) ⌝ }
     ensures loaded { λ _. ⌜ now (payloads .exit) ≡ store (now (payloads .entry)) (slot (now (tally .entry)) payloadsSlot)
         (bytesOf (bytesFor (end - «from»)) (field (num (now (bytes .entry))) «from» (end - «from»))) ⌝ }
 {
@@ -89,6 +90,7 @@ fn put_rest(
     let at = tally[RECORDS];
     let path_start = tally[PATHS];
     let payload_start = tally[PAYLOADS];
+    let window_start = base + from;
     store_leaf(
         records,
         at,
@@ -97,15 +99,17 @@ fn put_rest(
         handle,
         width as u32,
         payload_start,
+        window_start as u32,
     );
     store_payload(payloads, payload_start, bytes, from, end);
     reserve(tally, LEAF_WORDS as u32, n as u32, size as u32);
 }
 
-// A leaf of the bits from..end of bytes, its tag behind the working path.
+// A leaf of the bits from..end of bytes, its tag behind the working path; the first bit of bytes is bit `base` of the root window.
 pub fn put_leaf<'a>(
     tally: &mut Tally,
     bytes: &[u8],
+    base: u64,
     from: u64,
     end: u64,
     handle: u32,
@@ -118,10 +122,10 @@ pub fn put_leaf<'a>(
     paths: &mut [u8],
     payloads: &mut [u8],
 )
-    requires { ⌜ Lies (now bytes) «from» end × LabelFits plen × TagLies (pools (now names) (now «declared_names»)) tag ⌝ }
+    requires { ⌜ Lies (now bytes) «from» end × InRoot base end × LabelFits plen × TagLies (pools (now names) (now «declared_names»)) tag ⌝ }
     ensures { λ _. ⌜ Plays
-        (λ (o : ℕ). taggedLeaf (pools (now (names .entry)) (now («declared_names» .entry))) (take plen (now (path .entry))) handle tag
-        (inner (now (bytes .entry)) «from» end o))
+        (taggedLeaf (pools (now (names .entry)) (now («declared_names» .entry))) (take plen (now (path .entry))) handle tag
+        (inner (now (bytes .entry)) base «from» end))
         (worldOf (now (tally .entry)) (now (records .entry)) (now (paths .entry)) (now (payloads .entry)))
         (worldOf (now (tally .exit)) (now (records .exit)) (now (paths .exit)) (now (payloads .exit)))
         plen (now (path .entry)) (now (path .exit)) ⌝ }
@@ -139,13 +143,14 @@ pub fn put_leaf<'a>(
         names,
         declared_names,
     );
-    put_rest(tally, bytes, from, end, handle, n, records, payloads);
+    put_rest(tally, bytes, base, from, end, handle, n, records, payloads);
 }
 
 // A tail kept as a leaf `_raw` (01, Walking an array, rule 7). A function of its own: put_leaf then has one caller and is compiled into it.
 pub fn put_tail(
     tally: &mut Tally,
     bytes: &[u8],
+    base: u64,
     from: u64,
     end: u64,
     plen: usize,
@@ -154,9 +159,9 @@ pub fn put_tail(
     paths: &mut [u8],
     payloads: &mut [u8],
 )
-    requires { ⌜ Lies (now bytes) «from» end × LabelFits plen ⌝ }
+    requires { ⌜ Lies (now bytes) «from» end × InRoot base end × LabelFits plen ⌝ }
     ensures { λ _. ⌜ Plays
-        (λ (o : ℕ). taggedLeaf (pools [] []) (take plen (now (path .entry))) rawHandle Tag.Raw (inner (now (bytes .entry)) «from» end o))
+        (taggedLeaf (pools [] []) (take plen (now (path .entry))) rawHandle Tag.Raw (inner (now (bytes .entry)) base «from» end))
         (worldOf (now (tally .entry)) (now (records .entry)) (now (paths .entry)) (now (payloads .entry)))
         (worldOf (now (tally .exit)) (now (records .exit)) (now (paths .exit)) (now (payloads .exit)))
         plen (now (path .entry)) (now (path .exit)) ⌝ }
@@ -175,5 +180,15 @@ pub fn put_tail(
         &none,
         &none,
     );
-    put_rest(tally, bytes, from, end, RAW_HANDLE, n, records, payloads);
+    put_rest(
+        tally,
+        bytes,
+        base,
+        from,
+        end,
+        RAW_HANDLE,
+        n,
+        records,
+        payloads,
+    );
 }

@@ -41,8 +41,8 @@ pub fn object_field(
     records: &mut [u32],
 )
     requires { ⌜ Lies (now bytes) «from» end ⌝ }
-    ensures { λ _. ⌜ ((o : ℕ) (paths payloads : List ℕ) → worldOf (now (tally .exit)) (now (records .exit)) paths payloads
-        ≡ played (objectField index first (inner (now (bytes .entry)) «from» end o))
+    ensures { λ _. ⌜ ((base : ℕ) (paths payloads : List ℕ) → worldOf (now (tally .exit)) (now (records .exit)) paths payloads
+        ≡ played (objectField index first (inner (now (bytes .entry)) base «from» end))
         (worldOf (now (tally .entry)) (now (records .entry)) paths payloads)) ⌝ }
 {
     if from == end {

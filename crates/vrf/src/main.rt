@@ -32,7 +32,12 @@ fn usage() {
     error::text(
         b"without BITS all of it; of an empty file that is no bits. Padded numbers stand in more bytes than they need:\n",
     );
-    error::text(b"this box's recorder build writes long forms, and nothing is damaged.\n");
+    error::text(
+        b"this box's recorder build writes long forms, and nothing is damaged. A leaf's start is the bit of the\n",
+    );
+    error::text(
+        b"window at which its payload stands, counted from the window's first bit, which is 0, however deep the leaf is.\n",
+    );
 }
 
 fn run(job: Job, bytes: &[u8], bits: u32) {

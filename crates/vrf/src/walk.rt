@@ -75,6 +75,7 @@ fn say_leaf(leaf: LeafRecord, paths: &[u8], payloads: &[u8], width: usize) {
     say::left(say::part(paths, leaf.path_start, leaf.path_length), width);
     say::right(say::wide(leaf.handle), 12);
     say::right(say::wide(bits), 8);
+    say::right(say::wide(leaf.window_start), 9);
     say::text(b"  ");
     say::hex(say::part(payloads, leaf.payload_start, bytes_of(bits)));
     say::text(b"\n");
@@ -85,7 +86,7 @@ fn say_leaves(count: usize, leaves: &[u32], paths: &[u8], payloads: &[u8])
 {
     let width = path_width(leaves, count);
     say::left(b"path", width);
-    say::text(b"      handle    bits  payload\n");
+    say::text(b"      handle    bits    start  payload\n");
     let mut i = 0;
     while i < count {
         let leaf = records::leaf_at(leaves, i);

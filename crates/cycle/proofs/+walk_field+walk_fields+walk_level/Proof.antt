@@ -44,15 +44,15 @@ use Rattle.cycle.proofs.CycleLaws.{kind-is, kind-ready, Fielding, field
 
 abbrev μ-walk-field : Measures 10 walk-field-kinds.ps ℕ
 μ-walk-field κs a =
-    3 * (a .1 .1 .1 .1 .1 .0) + (a .1 .1 .1 .0 - a .1 .1 .0)
+    3 * (a .1 .1 .1 .1 .1 .1 .0) + (a .1 .1 .1 .1 .0 - a .1 .1 .1 .0)
 
 abbrev μ-walk-fields : Measures 10 walk-fields-kinds.ps ℕ
 μ-walk-fields κs a =
-    3 * (a .1 .1 .1 .1 .1 .0) + 1 + (a .1 .1 .1 .0 - a .1 .1 .0)
+    3 * (a .1 .1 .1 .1 .1 .1 .0) + 1 + (a .1 .1 .1 .1 .0 - a .1 .1 .1 .0)
 
 abbrev μ-walk-level : Measures 10 walk-level-kinds.ps ℕ
 μ-walk-level κs a =
-    3 * (a .1 .1 .1 .1 .1 .1 .0) + 2 + (a .1 .1 .1 .0 - a .1 .1 .0)
+    3 * (a .1 .1 .1 .1 .1 .1 .1 .0) + 2 + (a .1 .1 .1 .1 .0 - a .1 .1 .1 .0)
 
 abbrev walk-field-at : ℕ → In 10 walk-field-kinds.ps
 walk-field-at t =
@@ -136,7 +136,7 @@ walk-field-put-field-requires t c κs =
     let a = at-start .args in
     let ready = at-start .pre .1 in
     let lies = kind-ready (a .rows .now) (a .names .now) (a .declared .now) (a .declared-names .now) ready _ _ _ _ _ (at-after-kind-of .kind-of .ensures) in
-    (ready .lies, omega (arith, ready .path), kind-pools (a .rows .now) (a .names .now) (a .declared .now) (a .declared-names .now) (at-after-kind-of .kind-of .result) lies)
+    (ready .lies, ready .in-root, omega (arith, ready .path), kind-pools (a .rows .now) (a .names .now) (a .declared .now) (a .declared-names .now) (at-after-kind-of .kind-of .result) lies)
 
 walk-field-same-length : (t : ℕ) → walk-field-lts.Need-same-length (walk-field-claims t) (walk-field-at t) walk-field.Post
 walk-field-same-length t c = search needs
@@ -158,7 +158,7 @@ walk-field-returns t c =
     let put = at-after-put-field .put-field .ensures in
     let x = worldOf (a .tally .now) (a .records .now) (a .paths .now) (a .payloads .now) in
     field-put _ _ _ _ _ _ (at-start .pre .1 .lies .0) _ k (not-array (at-after-kind-of .kind-of .result) (at-at-match-keys2 .match .keys2)) _ _
-    (λ o. put .out o ∙ ap (λ (u : Trace). played u x) (flat-pools (a .rows .now) (a .names .now) (a .declared .now) (a .declared-names .now) _ _ _ _ _ _)) (put .kept)
+    (put .out ∙ ap (λ (u : Trace). played u x) (flat-pools (a .rows .now) (a .names .now) (a .declared .now) (a .declared-names .now) _ _ _ _ _ _)) (put .kept)
 
 walk-field-grow-label-requires : (t : ℕ) → walk-field-lts.Need-grow-label-requires (walk-field-claims t) (walk-field-at t) walk-field.Post
 walk-field-grow-label-requires t c κs =
@@ -174,6 +174,9 @@ walk-field-add-z : (t : ℕ) → walk-field-lts.Need-add-z (walk-field-claims t)
 walk-field-add-z t c =
     let at-start = c .before .before .before .before .before .before .before .before .before .before .before .before .before .before in
     omega (arith, at-start .pre .1 .lies)
+
+walk-field-sub-skipped : (t : ℕ) → walk-field-lts.Need-sub-skipped (walk-field-claims t) (walk-field-at t) walk-field.Post
+walk-field-sub-skipped t c = omega arith
 
 walk-field-sub-walk-level : (t : ℕ) → walk-field-lts.Need-sub-walk-level (walk-field-claims t) (walk-field-at t) walk-field.Post
 walk-field-sub-walk-level t c =
@@ -193,6 +196,11 @@ walk-field-part-walk-level-end t c =
 walk-field-add-walk-level : (t : ℕ) → walk-field-lts.Need-add-walk-level (walk-field-claims t) (walk-field-at t) walk-field.Post
 walk-field-add-walk-level t c =
     let at-start = c .before .before .before .before .before .before .before .before .before .before .before .before .before .before .before .before in
+    omega (arith, at-start .pre .1 .in-root, at-start .pre .1 .lies)
+
+walk-field-add-walk-level-2 : (t : ℕ) → walk-field-lts.Need-add-walk-level-2 (walk-field-claims t) (walk-field-at t) walk-field.Post
+walk-field-add-walk-level-2 t c =
+    let at-start = c .before .before .before .before .before .before .before .before .before .before .before .before .before .before .before .before in
     omega (arith, at-start .pre .1 .lies)
 
 walk-field-sub-walk-level-2 : (t : ℕ) → walk-field-lts.Need-sub-walk-level-2 (walk-field-claims t) (walk-field-at t) walk-field.Post
@@ -209,7 +217,7 @@ walk-field-walk-level-requires t c κs =
     let at-after-kind-of = at-after-kind .before .before in
     let at-start = at-after-kind-of .before .before .before .before .before .before .before .before .before in
     let n = array-below _ _ _ _ _ _ _ _ (sym (at-after-kind .kind .given .1) ∙ at-after-kind-of .kind-of .ensures) in
-    (omega (arith, at-start .pre .0), ready-child _ _ _ _ _ _ _ _ _ (at-start .pre .1) (omega (arith, at-start .pre .1 .path, at-after-grow-label .grow-label .ensures .within)))
+    (omega (arith, at-start .pre .0), ready-child _ _ _ _ _ _ _ _ _ _ (at-start .pre .1) (omega (arith, at-start .pre .1 .path, at-after-grow-label .grow-label .ensures .within)))
 
 walk-field-same-length-4 : (t : ℕ) → walk-field-lts.Need-same-length-4 (walk-field-claims t) (walk-field-at t) walk-field.Post
 walk-field-same-length-4 t c = search needs
@@ -237,18 +245,18 @@ walk-field-returns-2 t c =
     let k = kind-is (a .rows .now) (a .names .now) (a .declared .now) (a .declared-names .now) _ _ _ _ _ (sym (at-after-kind .kind .given .1) ∙ at-after-kind-of .kind-of .ensures) in
     field-walked _ _ _ _ _ _ (ready .lies .0) _ _ k _ _ _ _ _ _
     (grew .is ∙ ap (λ (l : List ℕ). dot path l) bytes) played-level refl
-    (λ o. part-bytes _ _ _ o ((a .end + 7) / 8 - a .from / 8) (λ i. at-after-shared-slice-known .shared-slice-known .given i .fits) (ready .lies .0)
+    (part-bytes _ _ _ _ ((a .end + 7) / 8 - a .from / 8) (λ i. at-after-shared-slice-known .shared-slice-known .given i .fits) (ready .lies .0)
     (omega (arith, ready .lies)))
     (prefix _ _ _ _ (grew .more) (played-level .kept) ∙ grew .kept)
 
 abbrev walk-fields-Inv-loop : walk-fields-lts.InvT-loop
-walk-fields-Inv-loop tally₀ bytes from end walk below level plen index rows spans names declared declaredNames path₀ records₀ paths₀ payloads₀ first₀ at₀ left₀ tally path records paths payloads first at left =
-    Fielding (place walk (tables rows names declared declaredNames) below level bytes end (take plen path₀)) index «from»
+walk-fields-Inv-loop tally₀ bytes base from end walk below level plen index rows spans names declared declaredNames path₀ records₀ paths₀ payloads₀ first₀ at₀ left₀ tally path records paths payloads first at left =
+    Fielding (place walk (tables rows names declared declaredNames) below level bytes base end (take plen path₀)) index «from»
     (worldOf tally₀ records₀ paths₀ payloads₀) (worldOf tally records paths payloads) (take plen path) at left first
     × (length records ≡ length records₀) × (length paths ≡ length paths₀) × (length payloads ≡ length payloads₀)
 
 abbrev walk-fields-μ-loop : walk-fields-lts.MeasureT-loop
-walk-fields-μ-loop tally₀ bytes from end walk below level plen index rows spans names declared declaredNames path₀ records₀ paths₀ payloads₀ first₀ at₀ left₀ tally path records paths payloads first at left =
+walk-fields-μ-loop tally₀ bytes base from end walk below level plen index rows spans names declared declaredNames path₀ records₀ paths₀ payloads₀ first₀ at₀ left₀ tally path records paths payloads first at left =
     left
 
 walk-fields-loop-holds : (t : ℕ) → walk-fields-lts.Need-loop-holds (walk-fields-claims t) (walk-fields-at t) walk-fields.Post walk-fields-Inv-loop walk-fields-μ-loop
@@ -299,7 +307,7 @@ walk-fields-stop-fields-requires t c κs =
     let at-at-loop = at-after-field-head .before .before in
     let at-start = at-at-loop .before .before .before .before .before .before .before .before .before in
     let ready = at-start .pre .1 in
-    (field-head-in _ _ _ _ _ (sym (at-after-field-head .field-head .ensures .0)), up-to ready, omega (arith, ready .path))
+    (field-head-in _ _ _ _ _ (sym (at-after-field-head .field-head .ensures .0)), up-to ready, ready .in-root, omega (arith, ready .path))
 
 walk-fields-same-length-4 : (t : ℕ) → walk-fields-lts.Need-same-length-4 (walk-fields-claims t) (walk-fields-at t) walk-fields.Post walk-fields-Inv-loop walk-fields-μ-loop
 walk-fields-same-length-4 t c = search needs
@@ -323,7 +331,7 @@ walk-fields-returns-2 t c =
     let loop = at-at-loop .loop in
     fields-end _ _ _ _ _ _ _ _ _ (at-start .pre .1 .lies .0) (loop .inv .0) _
     (at-after-field-head .field-head .ensures .1 (loop .records) (loop .paths) (loop .payloads)) h (sym (at-after-field-head .field-head .ensures .0))
-    (not-go h (at-at-match2-keys2 .match2 .keys2)) (not-closed h (at-at-match-keys2 .match .keys2)) _ _ (λ o inside. stop inside .out o) (stop true .kept)
+    (not-go h (at-at-match2-keys2 .match2 .keys2)) (not-closed h (at-at-match-keys2 .match .keys2)) _ _ (λ inside. stop inside .out) (stop true .kept)
 
 walk-fields-walk-field-requires : (t : ℕ) → walk-fields-lts.Need-walk-field-requires (walk-fields-claims t) (walk-fields-at t) walk-fields.Post walk-fields-Inv-loop walk-fields-μ-loop
 walk-fields-walk-field-requires t c κs =
@@ -333,7 +341,7 @@ walk-fields-walk-field-requires t c κs =
     let at-start = at-at-loop .before .before .before .before .before .before .before .before .before in
     let n = field-next _ _ _ _ (sym (at-after-field-head .field-head .ensures .0) ∙ at-after-h2 .h2 .given .1) in
     let z = at-at-loop .loop .inv .0 .later in
-    (omega (arith, at-start .pre .0), ready-part _ _ _ _ _ _ _ _ _ _ _ (at-start .pre .1) (n .2) (n .3) (at-start .pre .1 .path))
+    (omega (arith, at-start .pre .0), ready-part _ _ _ _ _ _ _ _ _ _ _ _ (at-start .pre .1) (n .2) (n .3) (at-start .pre .1 .path))
 
 walk-fields-still-first-requires : (t : ℕ) → walk-fields-lts.Need-still-first-requires (walk-fields-claims t) (walk-fields-at t) walk-fields.Post walk-fields-Inv-loop walk-fields-μ-loop
 walk-fields-still-first-requires t c κs =
@@ -368,7 +376,7 @@ walk-fields-loop-again t c =
     let at-after-field-head = at-after-h2 .before .before .before in
     let at-at-loop = at-after-field-head .before .before in
     let at-start = at-at-loop .before .before .before .before .before .before .before .before .before in
-    let kept = at-after-walk-field .walk-field .kept .1 .1 .1 .1 .1 .1 .1 .1 .1 .1 .1 .1 .1 .1 .1 .1 .1 in
+    let kept = at-after-walk-field .walk-field .kept .1 .1 .1 .1 .1 .1 .1 .1 .1 .1 .1 .1 .1 .1 .1 .1 .1 .1 in
     let loop = at-at-loop .loop in
     let inv = loop .inv in (
       fields-turn _ _ _ _ _ _ _ _ _ (at-start .pre .1 .lies .0) (inv .0) _
@@ -380,13 +388,13 @@ walk-fields-loop-again t c =
     )
 
 abbrev walk-level-Inv-loop : walk-level-lts.InvT-loop
-walk-level-Inv-loop tally₀ bytes from end walk inside below level plen rows spans names declared declaredNames path₀ records₀ paths₀ payloads₀ total first at₀ left₀ tally path records paths payloads at left =
-    Leveling (place walk (tables rows names declared declaredNames) below level bytes end (take plen path₀)) inside «from» total first
+walk-level-Inv-loop tally₀ bytes base from end walk inside below level plen rows spans names declared declaredNames path₀ records₀ paths₀ payloads₀ total first at₀ left₀ tally path records paths payloads at left =
+    Leveling (place walk (tables rows names declared declaredNames) below level bytes base end (take plen path₀)) inside «from» total first
     (worldOf tally₀ records₀ paths₀ payloads₀) (worldOf tally records paths payloads) (take plen path) at left
     × (length records ≡ length records₀) × (length paths ≡ length paths₀) × (length payloads ≡ length payloads₀)
 
 abbrev walk-level-μ-loop : walk-level-lts.MeasureT-loop
-walk-level-μ-loop tally₀ bytes from end walk inside below level plen rows spans names declared declaredNames path₀ records₀ paths₀ payloads₀ total first at₀ left₀ tally path records paths payloads at left =
+walk-level-μ-loop tally₀ bytes base from end walk inside below level plen rows spans names declared declaredNames path₀ records₀ paths₀ payloads₀ total first at₀ left₀ tally path records paths payloads at left =
     left
 
 walk-level-level-head-requires : (t : ℕ) → walk-level-lts.Need-level-head-requires (walk-level-claims t) (walk-level-at t) walk-level.Post walk-level-Inv-loop walk-level-μ-loop
@@ -402,7 +410,7 @@ walk-level-stop-level-requires t c κs =
     let at-after-level-head = c .before .before .before .before .before .before in
     let at-start = at-after-level-head .before .before .before .before .before .before .before .before .before .before in
     let ready = at-start .pre .1 in
-    (level-head-in _ _ _ _ (sym (at-after-level-head .level-head .ensures .0)), up-to ready, omega (arith, ready .path))
+    (level-head-in _ _ _ _ (sym (at-after-level-head .level-head .ensures .0)), up-to ready, ready .in-root, omega (arith, ready .path))
 
 walk-level-same-length : (t : ℕ) → walk-level-lts.Need-same-length (walk-level-claims t) (walk-level-at t) walk-level.Post walk-level-Inv-loop walk-level-μ-loop
 walk-level-same-length t c = search needs
@@ -447,7 +455,7 @@ walk-level-stop-level-requires-2 t c κs =
     let at-after-o = at-at-loop .before .before in
     let at-start = at-after-o .before .before .before .before .before .before .before .before .before .before .before .before in
     let ready = at-start .pre .1 in
-    (element-head-in _ _ _ _ _ _ (sym (at-after-element-head .element-head .ensures .0)), up-to ready, omega (arith, ready .path))
+    (element-head-in _ _ _ _ _ _ (sym (at-after-element-head .element-head .ensures .0)), up-to ready, ready .in-root, omega (arith, ready .path))
 
 walk-level-same-length-4 : (t : ℕ) → walk-level-lts.Need-same-length-4 (walk-level-claims t) (walk-level-at t) walk-level.Post walk-level-Inv-loop walk-level-μ-loop
 walk-level-same-length-4 t c = search needs
@@ -498,7 +506,7 @@ walk-level-walk-fields-requires t c κs =
     let at-start = at-after-o .before .before .before .before .before .before .before .before .before .before .before .before in
     let n = element-next _ _ _ _ _ (sym (at-after-element-head .element-head .ensures .0) ∙ at-after-h .h .given .1) in
     let z = at-at-loop .loop .inv .0 .later in
-    (omega (arith, at-start .pre .0), ready-part _ _ _ _ _ _ _ _ _ _ _ (at-start .pre .1) (n .2) (omega arith) (omega (arith, at-start .pre .1 .path, at-after-enter .enter .ensures .grew .within)))
+    (omega (arith, at-start .pre .0), ready-part _ _ _ _ _ _ _ _ _ _ _ _ (at-start .pre .1) (n .2) (omega arith) (omega (arith, at-start .pre .1 .path, at-after-enter .enter .ensures .grew .within)))
 
 walk-level-enum-known-w : (t : ℕ) → walk-level-lts.Need-enum-known-w (walk-level-claims t) (walk-level-at t) walk-level.Post walk-level-Inv-loop walk-level-μ-loop
 walk-level-enum-known-w t c = search needs
@@ -510,19 +518,19 @@ walk-level-same-length-7 : (t : ℕ) → walk-level-lts.Need-same-length-7 (walk
 walk-level-same-length-7 t c =
     let at-after-walk-fields = c .before .before .before .before .before .before .before .before in
     let at-at-loop = at-after-walk-fields .before .before .before .before .before .before .before .before .before .before .before .before .before .before in
-    at-after-walk-fields .walk-fields .kept .1 .1 .1 .1 .1 .1 .1 .1 .1 .1 .1 .1 .1 .1 .1 .0 ∙ at-at-loop .loop .inv .1
+    at-after-walk-fields .walk-fields .kept .1 .1 .1 .1 .1 .1 .1 .1 .1 .1 .1 .1 .1 .1 .1 .1 .0 ∙ at-at-loop .loop .inv .1
 
 walk-level-same-length-8 : (t : ℕ) → walk-level-lts.Need-same-length-8 (walk-level-claims t) (walk-level-at t) walk-level.Post walk-level-Inv-loop walk-level-μ-loop
 walk-level-same-length-8 t c =
     let at-after-walk-fields = c .before .before .before .before .before .before .before .before in
     let at-at-loop = at-after-walk-fields .before .before .before .before .before .before .before .before .before .before .before .before .before .before in
-    at-after-walk-fields .walk-fields .kept .1 .1 .1 .1 .1 .1 .1 .1 .1 .1 .1 .1 .1 .1 .1 .1 .0 ∙ at-at-loop .loop .inv .2
+    at-after-walk-fields .walk-fields .kept .1 .1 .1 .1 .1 .1 .1 .1 .1 .1 .1 .1 .1 .1 .1 .1 .1 .0 ∙ at-at-loop .loop .inv .2
 
 walk-level-same-length-9 : (t : ℕ) → walk-level-lts.Need-same-length-9 (walk-level-claims t) (walk-level-at t) walk-level.Post walk-level-Inv-loop walk-level-μ-loop
 walk-level-same-length-9 t c =
     let at-after-walk-fields = c .before .before .before .before .before .before .before .before in
     let at-at-loop = at-after-walk-fields .before .before .before .before .before .before .before .before .before .before .before .before .before .before in
-    at-after-walk-fields .walk-fields .kept .1 .1 .1 .1 .1 .1 .1 .1 .1 .1 .1 .1 .1 .1 .1 .1 .1 .0 ∙ at-at-loop .loop .inv .3
+    at-after-walk-fields .walk-fields .kept .1 .1 .1 .1 .1 .1 .1 .1 .1 .1 .1 .1 .1 .1 .1 .1 .1 .1 .0 ∙ at-at-loop .loop .inv .3
 
 walk-level-returns-3 : (t : ℕ) → walk-level-lts.Need-returns-3 (walk-level-claims t) (walk-level-at t) walk-level.Post walk-level-Inv-loop walk-level-μ-loop
 walk-level-returns-3 t c =
@@ -576,7 +584,7 @@ walk-level-loop-again t c =
     let entered = at-after-enter .enter .ensures in
     let loop = at-at-loop .loop in
     let fields = at-after-walk-fields .walk-fields .ensures in
-    let kept = at-after-walk-fields .walk-fields .kept .1 .1 .1 .1 .1 .1 .1 .1 .1 .1 .1 .1 .1 .1 .1 in (
+    let kept = at-after-walk-fields .walk-fields .kept .1 .1 .1 .1 .1 .1 .1 .1 .1 .1 .1 .1 .1 .1 .1 .1 in (
       elements-turn _ _ _ (at-start .pre .1 .lies .0) _ _ _ _ _ _ _ (loop .inv .0) _ _ _ (sym (at-after-element-head .element-head .ensures .0) ∙ at-after-h .h .given .1)
           _ _ _ _ (λ p. entered .counts p (loop .records) (loop .paths) (loop .payloads) ∙ ap (played (element p ∷ [])) (at-after-element-head .element-head .ensures .1 (loop .records) (loop .paths) (loop .payloads))) (entered .grew .is) _ _ fields
           (prefix _ _ _ _ (entered .grew .more) (fields .kept) ∙ entered .grew .kept) _ (at-after-w .w .given .1),
@@ -599,10 +607,12 @@ pub +walk-field+walk-fields+walk-level-spec : {M : Type 1} → statement M
     (walk-field-returns t)
     (walk-field-grow-label-requires t)
     (walk-field-add-z t)
+    (walk-field-sub-skipped t)
     (walk-field-sub-walk-level t)
     (walk-field-part-walk-level-start t)
     (walk-field-part-walk-level-end t)
     (walk-field-add-walk-level t)
+    (walk-field-add-walk-level-2 t)
     (walk-field-sub-walk-level-2 t)
     (walk-field-walk-level-requires t)
     (walk-field-same-length-4 t)

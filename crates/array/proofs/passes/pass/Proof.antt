@@ -48,7 +48,7 @@ returns-3 c =
     let inside = walked .before .before .before .before .before .before in
     let at-start = inside .before .before .before .before .before .before .before .before .before .before .before in
     played-level (at-start .args .walk) _ _ _ _ _ _ (sym (inside .before .before .is-silent .ensures) ∙ inside .before .if1 .left) (inside .if2 .left)
-    (walked .walk-level .ensures .out 0)
+    (walked .walk-level .ensures .out)
 
 pub pass-spec : {M : Type 1} → statement M
 pass-spec =

@@ -1,4 +1,4 @@
--- A record that fits is written by five stores, and one that does not is not written.
+-- A record that fits is written by six stores, and one that does not is not written.
 use borrow.Author.Needs.{needs}
 use mathlib.Core.Path.{sym}
 use native.Mathlib.Omega.{arith}
@@ -64,11 +64,20 @@ mul-leaves-5 c = search needs
 slice-write-leaves-5 : tie.Need-slice-write-leaves-5
 slice-write-leaves-5 c = simp length-set (omega (arith, room c))
 
+add-leaves-6 : tie.Need-add-leaves-6
+add-leaves-6 c = search needs
+
+mul-leaves-6 : tie.Need-mul-leaves-6
+mul-leaves-6 c = search needs
+
+slice-write-leaves-6 : tie.Need-slice-write-leaves-6
+slice-write-leaves-6 c = simp length-set (omega (arith, room c))
+
 same-length : tie.Need-same-length
 same-length c = search needs
 
 returns-2 : tie.Need-returns-2
-returns-2 c = leaf-stores _ _ _ _ _ _ _ (room c)
+returns-2 c = leaf-stores _ _ _ _ _ _ _ _ (room c)
 
 pub store-leaf-spec : {M : Type 1} → statement M
 store-leaf-spec =
@@ -91,5 +100,8 @@ store-leaf-spec =
     add-leaves-5
     mul-leaves-5
     slice-write-leaves-5
+    add-leaves-6
+    mul-leaves-6
+    slice-write-leaves-6
     same-length
     returns-2)

@@ -15,14 +15,14 @@ returns c inside =
     let at-start = c .before .before .before .before .before .before in
     let a = at-start .args in
     let object = sym (c .before .gives-leaves .ensures) ∙ not-true _ (c .if1 .taken) in
-    record { out = λ o. tail-object (a .walk) inside (a .bytes .now) (a .at) (a .end) o (take (a .plen) (a .path .now)) _ object; kept = refl }
+    record { out = tail-object (a .walk) inside (a .bytes .now) (a .base) (a .at) (a .end) (take (a .plen) (a .path .now)) _ object; kept = refl }
 
 returns-2 : tie.Need-returns-2
 returns-2 c inside =
     let at-start = c .before .before .before .before .before .before .before in
     let a = at-start .args in
     let leafy = sym (c .before .before .gives-leaves .ensures) ∙ not-false _ (c .before .if1 .left) in
-    record { out = λ o. tail-end (a .walk) inside (a .bytes .now) (a .at) (a .end) o (take (a .plen) (a .path .now)) _ leafy (c .if2 .taken); kept = refl }
+    record { out = tail-end (a .walk) inside (a .bytes .now) (a .base) (a .at) (a .end) (take (a .plen) (a .path .now)) _ leafy (c .if2 .taken); kept = refl }
 
 put-tail-requires : tie.Need-put-tail-requires
 put-tail-requires c κs = search needs
@@ -46,7 +46,7 @@ returns-3 c inside =
     let leafy = sym (asked .gives-leaves .ensures) ∙ not-false _ (some .before .if1 .left) in
     let a = at-start .args in
     let p = put .put-tail .ensures in
-    record { out = λ o. tail-kept (a .walk) inside (a .bytes .now) (a .at) (a .end) o (take (a .plen) (a .path .now)) _ leafy _ _ (at-start .pre .0 .0) (some .if2 .left) (p .out o); kept = p .kept }
+    record { out = tail-kept (a .walk) inside (a .bytes .now) (a .base) (a .at) (a .end) (take (a .plen) (a .path .now)) _ leafy _ _ (at-start .pre .0 .0) (some .if2 .left) (p .out); kept = p .kept }
 
 pub keep-tail-spec : {M : Type 1} → statement M
 keep-tail-spec =

@@ -38,13 +38,13 @@ enum-told-4 : tie.Need-enum-told-4
 enum-told-4 c = search needs
 
 returns : tie.Need-returns
-returns c inside = record { out = λ o. fields-ended _ _ _ o _ _ _ _ _ _ _ (c .before .before .enum-told .given .1) (c .count .ensures .1) (c .count .ensures .0); kept = refl }
+returns c inside = record { out = fields-ended _ _ _ _ _ _ _ _ _ _ _ (c .before .before .enum-told .given .1) (c .count .ensures .1) (c .count .ensures .0); kept = refl }
 
 returns-2 : tie.Need-returns-2
-returns-2 c inside = record { out = λ o. fields-failed _ _ _ o _ _ _ _ _ _ _ (c .before .before .enum-told2 .given .1) (c .count2 .ensures .1) (c .count2 .ensures .0); kept = refl }
+returns-2 c inside = record { out = fields-failed _ _ _ _ _ _ _ _ _ _ _ (c .before .before .enum-told2 .given .1) (c .count2 .ensures .1) (c .count2 .ensures .0); kept = refl }
 
 returns-3 : tie.Need-returns-3
-returns-3 c inside = record { out = λ o. fields-closed _ _ _ o _ _ _ _ (c .enum-told3 .given .1); kept = refl }
+returns-3 c inside = record { out = fields-closed _ _ _ _ _ _ _ _ (c .enum-told3 .given .1); kept = refl }
 
 same-length : tie.Need-same-length
 same-length c = search needs
@@ -62,10 +62,10 @@ returns-4 c inside =
     let limit = counted .before .before .before in
     let k = kept .keep-tail .ensures inside in
     let n = counted .count3 .ensures in
-    record { out = λ o. fields-limit _ _ _ o _ _ _ _ _ _ _ _ _ (limit .h .given .1) (n .1) (n .0) (k .out o); kept = k .kept }
+    record { out = fields-limit _ _ _ _ _ _ _ _ _ _ _ _ _ (limit .h .given .1) (n .1) (n .0) (k .out); kept = k .kept }
 
 returns-5 : tie.Need-returns-5
-returns-5 c inside = record { out = λ o. fields-go _ _ _ o _ _ _ _ _ _ (c .enum-told4 .given .1); kept = refl }
+returns-5 c inside = record { out = fields-go _ _ _ _ _ _ _ _ _ _ (c .enum-told4 .given .1); kept = refl }
 
 pub stop-fields-spec : {M : Type 1} → statement M
 stop-fields-spec =

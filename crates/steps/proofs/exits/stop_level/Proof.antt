@@ -18,7 +18,7 @@ close-level-requires c κs =
 
 returns : tie.Need-returns
 returns c =
-    record { out = λ o. level-closed _ _ _ o _ _ _ _ _ (c .before .before .before .h .given .1) (c .close-level .ensures o _ _ _); kept = refl }
+    record { out = level-closed _ _ _ _ _ _ _ _ _ (c .before .before .before .h .given .1) (c .close-level .ensures _ _ _ _); kept = refl }
 
 stop-fields-requires : tie.Need-stop-fields-requires
 stop-fields-requires c κs = search needs
@@ -38,7 +38,7 @@ returns-2 c =
     let other = stopped .before .before .before .before .before .before in
     let at-start = other .before .before .before .before .before in
     let p = stopped .stop-fields .ensures (at-start .args .inside) in
-    record { out = λ o. level-other _ _ _ o _ _ _ _ (other .match .keys2) (p .out o); kept = p .kept }
+    record { out = level-other _ _ _ _ _ _ _ _ (other .match .keys2) (p .out); kept = p .kept }
 
 pub stop-level-spec : {M : Type 1} → statement M
 stop-level-spec =

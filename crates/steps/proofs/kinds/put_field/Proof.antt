@@ -24,13 +24,13 @@ same-length : tie.Need-same-length
 same-length c = search needs
 
 returns : tie.Need-returns
-returns c = record { out = λ o. flat-object _ _ _ _ _ _ _ _ _ (c .before .before .before .before .before .enum-told .given .1) (c .before .before .object-field .ensures o _ _); kept = refl }
+returns c = record { out = flat-object _ _ _ _ _ _ _ _ _ (c .before .before .before .before .before .enum-told .given .1) (c .before .before .object-field .ensures _ _ _); kept = refl }
 
 enum-told-2 : tie.Need-enum-told-2
 enum-told-2 c = search needs
 
 returns-2 : tie.Need-returns-2
-returns-2 c = record { out = λ o. flat-nothing _ _ _ _ _ _ _ _ (c .enum-told2 .given .1); kept = refl }
+returns-2 c = record { out = flat-nothing _ _ _ _ _ _ _ _ (c .enum-told2 .given .1); kept = refl }
 
 enum-known-kind : tie.Need-enum-known-kind
 enum-known-kind c = search needs
@@ -45,7 +45,7 @@ enum-told-3 : tie.Need-enum-told-3
 enum-told-3 c = search needs
 
 returns-3 : tie.Need-returns-3
-returns-3 c = record { out = λ o. flat-array _ _ _ _ _ _ _ _ _ _ (c .enum-told3 .given .1); kept = refl }
+returns-3 c = record { out = flat-array _ _ _ _ _ _ _ _ _ _ (c .enum-told3 .given .1); kept = refl }
 
 put-leaf-requires : tie.Need-put-leaf-requires
 put-leaf-requires c κs =
@@ -53,7 +53,7 @@ put-leaf-requires c κs =
     let at-start = chosen .before .before .before .before .before .before .before in
     let a = at-start .args in
     let p = at-start .pre in
-    (p .0, p .1, labelled-lies _ _ _ _ (pools (a .names .now) (a .declared-names .now)) (labelled chosen) (p .2))
+    (p .0, p .1, p .2, labelled-lies _ _ _ _ (pools (a .names .now) (a .declared-names .now)) (labelled chosen) (p .3))
 
 same-length-2 : tie.Need-same-length-2
 same-length-2 c = search needs
@@ -69,7 +69,7 @@ returns-4 c =
     let put = c .before .before .before .before .before .before in
     let chosen = put .before .before .before .before .before .before in
     let p = put .put-leaf .ensures in
-    record { out = λ o. flat-labelled _ _ _ _ _ _ _ _ _ _ _ _ _ _ (labelled chosen) (p .out o); kept = p .kept }
+    record { out = flat-labelled _ _ _ _ _ _ _ _ _ _ _ _ _ _ (labelled chosen) (p .out); kept = p .kept }
 
 pub put-field-spec : {M : Type 1} → statement M
 put-field-spec =

@@ -18,7 +18,7 @@ add-n-2 : tie.Need-add-n-2
 add-n-2 c =
     let at-start = c .before .before .before .before .before .before .before in
     let a = at-start .args in
-    omega (arith, c .tag-length .ensures, tag-short (pools (a .names .now) (a .declared-names .now)) (a .handle) (a .tag) (at-start .pre .2))
+    omega (arith, c .tag-length .ensures, tag-short (pools (a .names .now) (a .declared-names .now)) (a .handle) (a .tag) (at-start .pre .3))
 
 element-copy-out-path-start : tie.Need-element-copy-out-path-start
 element-copy-out-path-start c = search needs
@@ -29,8 +29,8 @@ store-path-requires c κs =
     let at-start = measured .before .before .before .before .before .before .before in
     let a = at-start .args in
     let m = measured .tag-length .ensures in
-    let h = tag-short (pools (a .names .now) (a .declared-names .now)) (a .handle) (a .tag) (at-start .pre .2) in
-    (ap (λ (k : ℕ). a .plen + 1 + k) m, omega (arith, at-start .pre .1, m, h), at-start .pre .2)
+    let h = tag-short (pools (a .names .now) (a .declared-names .now)) (a .handle) (a .tag) (at-start .pre .3) in
+    (ap (λ (k : ℕ). a .plen + 1 + k) m, omega (arith, at-start .pre .2, m, h), at-start .pre .3)
 
 put-rest-requires : tie.Need-put-rest-requires
 put-rest-requires c κs =
@@ -38,8 +38,8 @@ put-rest-requires c κs =
     let at-start = measured .before .before .before .before .before .before .before in
     let a = at-start .args in
     let m = measured .tag-length .ensures in
-    let h = tag-short (pools (a .names .now) (a .declared-names .now)) (a .handle) (a .tag) (at-start .pre .2) in
-    (at-start .pre .0, omega (arith, at-start .pre .1, m, h))
+    let h = tag-short (pools (a .names .now) (a .declared-names .now)) (a .handle) (a .tag) (at-start .pre .3) in
+    (at-start .pre .0, at-start .pre .1, omega (arith, at-start .pre .2, m, h))
 
 same-length : tie.Need-same-length
 same-length c = search needs
@@ -61,9 +61,9 @@ returns c =
     let m = measured .tag-length .ensures in
     let s = stored .store-path .ensures in
     let t = put .put-rest .ensures in
-    let written = leaf-put (pools (a .names .now) (a .declared-names .now)) (a .handle) (a .tag) (a .path .now) (a .plen) _ (p .2) (s .1 .1) (omega (arith, p .1)) (ap (λ (k : ℕ). a .plen + 1 + k) m) _ _ _ in
+    let written = leaf-put (pools (a .names .now) (a .declared-names .now)) (a .handle) (a .tag) (a .path .now) (a .plen) _ (p .3) (s .1 .1) (omega (arith, p .2)) (ap (λ (k : ℕ). a .plen + 1 + k) m) _ _ _ _ in
     record {
-      out = λ o. written o _ _ _ _ _ (t .1 .0) _ _ _ (t .0) (t .1 .1 .0) (s .0) (t .1 .1 .1);
+      out = written _ _ _ _ _ (t .1 .0) _ _ _ (t .0) (t .1 .1 .0) (s .0) (t .1 .1 .1);
       kept = s .1 .0;
     }
 

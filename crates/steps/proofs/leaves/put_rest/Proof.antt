@@ -18,11 +18,17 @@ element-copy-out-path-start c = search needs
 element-copy-out-payload-start : tie.Need-element-copy-out-payload-start
 element-copy-out-payload-start c = search needs
 
+add-window-start : tie.Need-add-window-start
+add-window-start c = search needs
+
 cast-store-leaf : tie.Need-cast-store-leaf
 cast-store-leaf c = search needs
 
 cast-store-leaf-2 : tie.Need-cast-store-leaf-2
 cast-store-leaf-2 c = search needs
+
+cast-store-leaf-3 : tie.Need-cast-store-leaf-3
+cast-store-leaf-3 c = search needs
 
 store-leaf-requires : tie.Need-store-leaf-requires
 store-leaf-requires c κs = search needs
@@ -63,8 +69,10 @@ put-rest-spec =
     element-copy-out-at
     element-copy-out-path-start
     element-copy-out-payload-start
+    add-window-start
     cast-store-leaf
     cast-store-leaf-2
+    cast-store-leaf-3
     store-leaf-requires
     store-payload-requires
     cast-reserve

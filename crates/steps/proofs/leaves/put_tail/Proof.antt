@@ -25,12 +25,12 @@ slice-aggregate-store-path-2 c = search needs
 store-path-requires : tie.Need-store-path-requires
 store-path-requires c κs =
     let at-start = c .before .before .before .before .before .before .before .before .before in
-    (omega arith, omega (arith, at-start .pre .1), tt)
+    (omega arith, omega (arith, at-start .pre .2), tt)
 
 put-rest-requires : tie.Need-put-rest-requires
 put-rest-requires c κs =
     let at-start = c .before .before .before .before .before .before .before .before .before .before .before .before .before .before .before in
-    (at-start .pre .0, omega (arith, at-start .pre .1))
+    (at-start .pre .0, at-start .pre .1, omega (arith, at-start .pre .2))
 
 same-length : tie.Need-same-length
 same-length c = search needs
@@ -49,9 +49,9 @@ returns c =
     let a = at-start .args in
     let s = stored .store-path .ensures in
     let t = put .put-rest .ensures in
-    let written = leaf-put (pools [] []) rawHandle tag.Raw (a .path .now) (a .plen) (a .plen + 5) tt (s .1 .1) (omega (arith, at-start .pre .1)) (omega arith) _ _ _ in
+    let written = leaf-put (pools [] []) rawHandle tag.Raw (a .path .now) (a .plen) (a .plen + 5) tt (s .1 .1) (omega (arith, at-start .pre .2)) (omega arith) _ _ _ _ in
     record {
-      out = λ o. written o _ _ _ _ _ (t .1 .0) _ _ _ (t .0) (t .1 .1 .0) (s .0) (t .1 .1 .1);
+      out = written _ _ _ _ _ (t .1 .0) _ _ _ (t .0) (t .1 .1 .0) (s .0) (t .1 .1 .1);
       kept = s .1 .0;
     }
 

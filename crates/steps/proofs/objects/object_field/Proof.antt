@@ -9,7 +9,7 @@ use Rattle.steps.proofs.objects.object_field.Statement.{statement}
 use Rattle.steps.proofs.objects.object_field.Tie as tie
 
 returns : tie.Need-returns
-returns c o paths payloads = object-empty _ _ _ o (c .before .before .before .args .index) _ _ (omega arith) (c .before .before .before .args .first) (c .if1 .taken) refl
+returns c base paths payloads = object-empty _ base _ _ (c .before .before .before .args .index) _ _ (omega arith) (c .before .before .before .args .first) (c .if1 .taken) refl
 
 sub-count : tie.Need-sub-count
 sub-count c = search needs
@@ -21,11 +21,11 @@ count-requires : tie.Need-count-requires
 count-requires c κs = search needs
 
 returns-2 : tie.Need-returns-2
-returns-2 c o paths payloads =
+returns-2 c base paths payloads =
     let then-2 = c .before .before in
     let else-1 = then-2 .before in
     let at-start = else-1 .before .before .before in
-    object-later _ _ _ o (at-start .args .index) _ _ (omega arith) (else-1 .if1 .left) (at-start .args .first) (not-true _ (then-2 .if2 .taken))
+    object-later _ base _ _ (at-start .args .index) _ _ (omega arith) (else-1 .if1 .left) (at-start .args .first) (not-true _ (then-2 .if2 .taken))
     (by-count _ _ _ _ _ _ _ _ (c .count .ensures) (count-nested _ _ _ _ _))
 
 number-at-requires : tie.Need-number-at-requires
@@ -44,7 +44,7 @@ same-length : tie.Need-same-length
 same-length c = search needs
 
 returns-3 : tie.Need-returns-3
-returns-3 c o paths payloads =
+returns-3 c base paths payloads =
     let after-put-pair = c .before .before in
     let then-3 = after-put-pair .before .before .before in
     let after-take-number = then-3 .before in
@@ -54,7 +54,7 @@ returns-3 c o paths payloads =
     let else-1 = else-2 .before in
     let at-start = else-1 .before .before .before in
     let e = sym (after-number-at .number-at .ensures) ∙ after-number .number .given .1 in
-    object-pair _ _ _ o (at-start .args .index) _ _ (omega arith) (else-1 .if1 .left) (at-start .args .first) (not-false _ (else-2 .if2 .left)) _ _ e _
+    object-pair _ base _ _ (at-start .args .index) _ _ (omega arith) (else-1 .if1 .left) (at-start .args .first) (not-false _ (else-2 .if2 .left)) _ _ e _
     (then-3 .if3 .taken) (after-take-number .take-number .ensures (at-start .args .records .now) paths payloads) (after-put-pair .put-pair .ensures paths payloads)
 
 count-requires-2 : tie.Need-count-requires-2
@@ -67,7 +67,7 @@ count-requires-3 : tie.Need-count-requires-3
 count-requires-3 c κs = search needs
 
 returns-4 : tie.Need-returns-4
-returns-4 c o paths payloads =
+returns-4 c base paths payloads =
     let else-3 = c .before .before in
     let after-take-number = else-3 .before in
     let after-number = after-take-number .before .before .before in
@@ -76,18 +76,18 @@ returns-4 c o paths payloads =
     let else-1 = else-2 .before in
     let at-start = else-1 .before .before .before in
     let e = sym (after-number-at .number-at .ensures) ∙ after-number .number .given .1 in
-    object-longer _ _ _ o (at-start .args .index) _ _ (omega arith) (else-1 .if1 .left) (at-start .args .first) (not-false _ (else-2 .if2 .left)) _ _ e _
+    object-longer _ base _ _ (at-start .args .index) _ _ (omega arith) (else-1 .if1 .left) (at-start .args .first) (not-false _ (else-2 .if2 .left)) _ _ e _
     (else-3 .if3 .left) (after-take-number .take-number .ensures (at-start .args .records .now) paths payloads)
     (by-count _ _ _ _ _ _ _ _ (c .count2 .ensures) (count-error _ _ _ _))
 
 returns-5 : tie.Need-returns-5
-returns-5 c o paths payloads =
+returns-5 c base paths payloads =
     let after-enum-told = c .before .before in
     let after-number-at = after-enum-told .before .before in
     let else-2 = after-number-at .before in
     let else-1 = else-2 .before in
     let at-start = else-1 .before .before .before in
-    object-failed _ _ _ o (at-start .args .index) _ _ (omega arith) (else-1 .if1 .left) (at-start .args .first) (not-false _ (else-2 .if2 .left))
+    object-failed _ base _ _ (at-start .args .index) _ _ (omega arith) (else-1 .if1 .left) (at-start .args .first) (not-false _ (else-2 .if2 .left))
     (sym (after-number-at .number-at .ensures) ∙ after-enum-told .enum-told .given .1)
     (by-count _ _ _ _ _ _ _ _ (c .count3 .ensures) (count-error _ _ _ _))
 
