@@ -12,7 +12,7 @@ standard error.
 
 How many padded numbers were read is recorded, as a number of 64 bits, of these kinds:
 
-    S X O   behind the verdict: the first number of the trace; a window that has no place for a padded number wants no trace
+    S X O   behind the verdict: the first number of the trace; without a trace, where no padded number has a place in the window, 0
     F       behind the bits used, before the keys: the first number of the trace
     P       the answer's second and third value: the number's bytes, and 1 if it is padded, else 0
     M       behind the record: how many of frame and handle are padded
@@ -20,12 +20,15 @@ How many padded numbers were read is recorded, as a number of 64 bits, of these 
 The Rust doesn't say it of P and M, so there it is read off the window; the answer's values and cursor have to be those found
 there. In a refused answer of the other kinds the number stands too, and is 0.
 
+A leaf of S or X is six numbers of 32 bits. The last is the bit where its payload starts in the window: the trace has one for each
+leaf behind its first two numbers, and the payload has to stand there. So an answer with leaves wants a trace.
+
 In the lists and pools of a case of kind L parts may be joined by `+` and repeated by `count*`: `2*0,1+5` is `0,1,0,1,5`.
 """
 import struct
 import sys
 
-MAGIC = b"VRFCASE3"
+MAGIC = b"VRFCASE4"
 # The most bytes of a case that the replay takes.
 LARGEST = 1310720
 # The numbers that it takes of a case of kind L: of rows, of declared names.
@@ -93,11 +96,11 @@ class Bits:
 
 
 def traced(answer):
-    """The words of an answer, and the first number of its trace: how many padded numbers were read."""
+    """The words of an answer, and the numbers of its trace, of which the first says how many padded numbers were read."""
     words, trace = before(answer, "trace")
     if not trace:
         raise Broken("no trace behind the answer: `oracle answer CASES --trace` gives it")
-    return words, number(trace[0], 32)
+    return words, [number(word, 32) for word in trace]
 
 
 def cursor(words):
@@ -352,8 +355,8 @@ def fast(words, answer):
         raise Broken("3 fields were expected")
     front = u64(number(words[0]), number(words[1])) + run(hexed(words[2]))
     if answer[:1] == ["ok"]:
-        words, padded = traced(answer)
-        return front + body(words[1:], padded)
+        words, trace = traced(answer)
+        return front + body(words[1:], trace[0])
     if answer[:1] != ["ERR"]:
         raise Broken("no answer of a fast array")
     refused, rest = refusal(answer[1:], 0)
@@ -423,13 +426,15 @@ def may_pad(bits, data):
 
 
 def walked(bits, data, answer):
-    """The same of a walk of this window; of a refusal, with no counters and no verdict, no words stand behind it."""
+    """The same of a walk of this window, and the starts in its trace; of a refusal, with no counters and no verdict, no words stand
+    behind it."""
     refusal = REFUSED_WALKS.get(" ".join(answer))
     if refusal is not None:
-        return u64(refusal, *[0] * 9), None
+        return u64(refusal, *[0] * 9), None, []
     if "trace" not in answer and not may_pad(bits, data):
-        return counted(answer, 0)
-    return counted(*traced(answer))
+        return *counted(answer, 0), []
+    words, trace = traced(answer)
+    return *counted(words, trace[0]), trace[2:]
 
 
 def unescaped(text):
@@ -444,19 +449,26 @@ def unescaped(text):
     return bytes(out)
 
 
-def leaves_of(words):
-    """The needs, and the leaves as records, path bytes and payload bytes."""
-    needs = [number(w) for w in words[:3]]
+def leaves_of(bits, data, words, starts):
+    """The needs, and the leaves as records, path bytes and payload bytes; each payload stands at its start in the window."""
+    needs, given = [number(w) for w in words[:3]], words[3:]
+    if len(given) != len(starts):
+        raise Broken("%d leaves, and %d starts in the trace" % (len(given), len(starts)))
+    window = Bits(data)
+    window.end = min(bits, window.end)
     records, paths, payloads = [], bytearray(), bytearray()
-    for word in words[3:]:
+    for word, start in zip(given, starts):
         path, handle, width, payload = word.split(":")
         name, load = unescaped(path), hexed(payload or "-")
-        records += [len(paths), len(name), number(handle, 32), number(width, 32), len(payloads)]
+        records += [len(paths), len(name), number(handle, 32), number(width, 32), len(payloads), start]
         if len(load) != (int(width) + 7) // 8:
             raise Broken("a payload of %s bits has %d bytes" % (width, len(load)))
+        window.at = start
+        if window.take(int(width)) != int.from_bytes(load, "little"):
+            raise Broken("the payload of %s doesn't stand at bit %d" % (path, start))
         paths += name
         payloads += load
-    if needs != [len(records) // 5, len(paths), len(payloads)]:
+    if needs != [len(given), len(paths), len(payloads)]:
         raise Broken("the needs are not those of the leaves")
     whole = needs[0] <= LEAF_ROOM and needs[1] <= PATH_ROOM
     if not whole:
@@ -466,8 +478,8 @@ def leaves_of(words):
 
 def flattened(bits, data, answer):
     """The window and the answer of a struct or exact walk."""
-    counts, rest = walked(bits, data, answer)
-    return u64(bits) + run(data) + counts + leaves_of(["0", "0", "0"] if rest is None else rest)
+    counts, rest, starts = walked(bits, data, answer)
+    return u64(bits) + run(data) + counts + leaves_of(bits, data, ["0", "0", "0"] if rest is None else rest, starts)
 
 
 def struct_walk(words, answer):
@@ -488,7 +500,7 @@ def object_walk(words, answer):
     if len(words) != 2:
         raise Broken("2 fields were expected")
     bits, data = number(words[0], 32), hexed(words[1])
-    counts, rest = walked(bits, data, answer)
+    counts, rest, _ = walked(bits, data, answer)
     needed, *given = ["0"] if rest is None else rest
     pairs = [number(v, 32) for w in given for v in w.split(":")]
     if number(needed) != len(pairs) // 2:

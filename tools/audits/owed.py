@@ -91,6 +91,7 @@ KINDS = {
     "clean": lambda call: call.name in WALKS,
     "judged": lambda call: call.name in JUDGE,
     "paths": lambda call: call.name in LEAFY,
+    "placed": lambda call: call.name in LEAFY,
     "behind": lambda call: call.name in OBJECTS,
     **{law: lambda call: call.name in MERGES for law in ("commutes", "associates", "zero", "totals", "parts")},
 }

@@ -410,15 +410,328 @@ STATED = {
           pub accepted : r .refusal ≡ 0 → MovementInC bytes bits rotation location r
           pub refused : (r .refusal ≡ 0 → ⊥) → r .padded ≡ 0
         """,
+    ("promises", "specs/Places"): """
+        use Prim.Native.Nat.{ℕ, _+_, _≤_, _<_}
+        use mathlib.Core.Path.{_≡_}
+        use mathlib.Core.List.{List}
+        use lib.ListN.{length, take, drop}
+        use Rattle.bits.specs.Members.{StandsAt}
+        use Rattle.framing.specs.Windows.{windowOf}
+        use Rattle.framing.specs.Events.{Leaf, leaves}
+        use Rattle.framing.specs.Places.{Placed}
+        use Rattle.framing.specs.Records.{payloadOf, pathStartAt, pathLengthAt, handleAt, payloadBitsAt, payloadStartAt, windowStartAt, pathBytes, payloadBytes}
+        use Rattle.framing.specs.Refusing.{Room}
+        use Rattle.outputs.specs.Records.{leafNumber}
+        use Rattle.outputs.specs.Answers.{Call, Lent, traceOf}
+        use Rattle.array.specs.Refusals.{roomIn}
+        use Rattle.array.specs.declared.StructArray.{StructArray}
+        use Rattle.array.specs.declared.StructArray.the-variants as structs
+        use Rattle.exports.specs.WalkResults.{filledIn}
+        use Rattle.exports.specs.declared.VrfWalk.{VrfWalk}
+
+        abbrev pub stretch : (buffer : List ℕ) (start bytes : ℕ) → List ℕ
+        stretch buffer start bytes = take bytes (drop start buffer)
+
+        pub record RecordOf (x : Lent) (i : ℕ) (before : List Leaf) (l : Leaf) : Type 0 where
+          pub handle : leafNumber (x .leaves) i handleAt ≡ l .handle
+          pub bits : leafNumber (x .leaves) i payloadBitsAt ≡ l .width
+          pub starts : leafNumber (x .leaves) i windowStartAt ≡ l .start
+          pub path-start : leafNumber (x .leaves) i pathStartAt ≡ length (pathBytes before)
+          pub path-length : leafNumber (x .leaves) i pathLengthAt ≡ length (l .path)
+          pub path : stretch (x .paths) (leafNumber (x .leaves) i pathStartAt) (length (l .path)) ≡ l .path
+          pub payload-start : leafNumber (x .leaves) i payloadStartAt ≡ length (payloadBytes before)
+          pub payload : stretch (x .payloads) (leafNumber (x .leaves) i payloadStartAt) (length (payloadOf l)) ≡ payloadOf l
+
+        pub record LeafFound (call : Call) (x : Lent) (i : ℕ) : Type 0 where
+          pub leaf : Leaf
+          pub stands : StandsAt leaf i (leaves (traceOf call))
+          pub recorded : RecordOf x i (stands .before) leaf
+          pub inside : leafNumber (x .leaves) i windowStartAt + leafNumber (x .leaves) i payloadBitsAt ≤ call .bits
+
+        pub record LeavesFound (call : Call) (filled : Room) (x : Lent) : Type 0 where
+          pub all : filled .leaves ≡ length (leaves (traceOf call))
+          pub leaf : (i : ℕ) → i < filled .leaves → LeafFound call x i
+          pub placed : Placed (windowOf (call .bytes) (call .bits)) (traceOf call)
+
+        abbrev pub PlacedLeaves : Call → StructArray → Lent → Type 0
+        PlacedLeaves call (structs.Decoded st v e p) x = LeavesFound call (roomIn e) x
+        PlacedLeaves call structs.TooLong x = Unit {0}
+        PlacedLeaves call structs.BrokenTables x = Unit {0}
+        PlacedLeaves call (structs.Short e) x = Unit {0}
+
+        abbrev pub PlacedLeavesInC : Call → VrfWalk → Lent → Type 0
+        PlacedLeavesInC call r x = r .refusal ≡ 0 → LeavesFound call (filledIn r) x
+        """,
+    ("framing", "specs/Places"): """
+        use Prim.Native.Nat.{ℕ, suc, _+_, _*_, _≤_, _<_}
+        use mathlib.Core.Path.{_≡_}
+        use mathlib.Core.List.{List, [], _∷_, _++_}
+        use Rattle.bits.specs.Members.{All, Any}
+        use Rattle.bits.specs.Packed.{Number}
+        use Rattle.bits.specs.Sizes.{maxElements}
+        use Rattle.schema.specs.Labels.{atIndex, dot, rawLabel}
+        use Rattle.framing.specs.Windows.{Window, got, reading}
+        use Rattle.framing.specs.Events.{Leaf, Entered, rawHandle, Event, number, element, array, leaf, pair, truncation, error, implicit, nested, root, leaves, taken, arrays, Trace}
+
+        abbrev pub rootArray : (n : ℕ) → Entered
+        rootArray n = record { path = []; start = 0; width = n }
+
+        pub record Range : Type 0 where
+          pub start : ℕ
+          pub width : ℕ
+
+        abbrev pub range : (start width : ℕ) → Range
+        range start width = record { start = start; width = width }
+
+        abbrev pub ranges : Trace → List Range
+        ranges [] = []
+        ranges (number x ∷ t) = range (x .start) (8 * x .bytes) ∷ ranges t
+        ranges (leaf x ∷ t) = range (x .start) (x .width) ∷ ranges t
+        ranges (array a ∷ t) = range (a .start) (a .width) ∷ ranges t
+        ranges (element p ∷ t) = ranges t
+        ranges (pair x ∷ t) = ranges t
+        ranges (truncation ∷ t) = ranges t
+        ranges (error ∷ t) = ranges t
+        ranges (implicit ∷ t) = ranges t
+        ranges (nested n ∷ t) = ranges t
+        ranges (root n ∷ t) = ranges t
+
+        pub record Between (p q : ℕ) (r : Range) : Type 0 where
+          pub starts : p ≤ r .start
+          pub ends : r .start + r .width ≤ q
+
+        abbrev pub Within : Entered → Range → Type 0
+        Within a = Between (a .start) (a .start + a .width)
+
+        pub record ReadUpTo (p q : ℕ) (t : Trace) : Type 0 where
+          pub inside : All (Between p q) (ranges t)
+          pub reached : Any (λ r. r .start + r .width ≡ q) (ranges t)
+
+        pub record FieldIn (t : Trace) (e : Event) (handle start width : ℕ) : Type 0 where
+          pub before : Trace
+          pub handled : Number
+          pub wide : Number
+          pub between : Trace
+          pub after : Trace
+          pub whole : t ≡ before ++ (number handled ∷ number wide ∷ between ++ (e ∷ after))
+          pub nothing-between : ranges between ≡ []
+          pub says-handle : handled .value ≡ suc handle
+          pub says-width : wide .value ≡ width
+          pub behind-handle : wide .start ≡ handled .start + 8 * handled .bytes
+          pub behind-width : start ≡ wide .start + 8 * wide .bytes
+
+        pub data Since (whole : Entered) (t : Trace) : (a : Entered) (u : Trace) → Type 0 where
+          whole-walk : {u : Trace} → t ≡ u → Since whole t whole u
+          entered : (before : Trace) {u : Trace} {a : Entered} → t ≡ before ++ (array a ∷ u) → Since whole t a u
+
+        pub data KeptUnder (path : List ℕ) (t : Trace) : (under : List ℕ) → Type 0 where
+          array-itself : KeptUnder path t path
+          in-element : {i : ℕ} → i < maxElements → Any (λ e. e ≡ element (atIndex path i)) t → KeptUnder path t (atIndex path i)
+
+        pub record TailIn (whole : Entered) (t : Trace) (x : Leaf) : Type 0 where
+          pub of : Entered
+          pub read : Trace
+          pub after : Trace
+          pub since : Since whole t of (read ++ (leaf x ∷ after))
+          pub starts : ReadUpTo (of .start) (x .start) read
+          pub ends : x .start + x .width ≡ of .start + of .width
+          pub some : 0 < x .width
+          pub under : List ℕ
+          pub kept-under : KeptUnder (of .path) read under
+          pub named : x .path ≡ dot under rawLabel
+
+        pub record LeafPlaced (whole : Entered) (t : Trace) (x : Leaf) : Type 0 where
+          pub tail : x .handle ≡ rawHandle → TailIn whole t x
+          pub field : (x .handle ≡ rawHandle → ⊥) → FieldIn t (leaf x) (x .handle) (x .start) (x .width)
+
+        pub record ArrayPlaced (t : Trace) (a : Entered) : Type 0 where
+          pub handle : ℕ
+          pub field : FieldIn t (array a) handle (a .start) (a .width)
+          pub some : 0 < a .width
+
+        abbrev pub NumberIn : Window → Number → Type 0
+        NumberIn w x = reading w (x .start) ≡ got (x .value) (x .bytes)
+
+        pub record Placed (w : Window) (t : Trace) : Type 0 where
+          pub numbers : All (NumberIn w) (taken t)
+          pub inside : All (Within (rootArray (w .size))) (ranges t)
+          pub leaves : All (LeafPlaced (rootArray (w .size)) t) (leaves t)
+          pub arrays : All (ArrayPlaced t) (arrays t)
+        """,
+    ("framing", "specs/Records"): """
+        use Prim.Native.Nat.{ℕ, _+_, _/_}
+        use mathlib.Core.List.{List, [], _∷_, _++_}
+        use lib.ListN.{length}
+        use Rattle.bits.specs.Runs.{bytesOf, bytesFor}
+        use Rattle.framing.specs.Events.{Leaf, Pair}
+
+        abbrev pub payloadOf : Leaf → List ℕ
+        payloadOf x = bytesOf (bytesFor (x .width)) (x .payload)
+
+        abbrev pub wholeRecords : (words numbers : ℕ) → ℕ
+        wholeRecords words numbers = numbers / words
+
+        abbrev pub leafWords : ℕ
+        leafWords = 6
+
+        abbrev pub leafNumbers : (pathStart pathLength handle payloadBits payloadStart windowStart : ℕ) → List ℕ
+        leafNumbers pathStart pathLength handle payloadBits payloadStart windowStart =
+            pathStart ∷ pathLength ∷ handle ∷ payloadBits ∷ payloadStart ∷ windowStart ∷ []
+
+        abbrev pub pathStartAt : ℕ
+        pathStartAt = 0
+
+        abbrev pub pathLengthAt : ℕ
+        pathLengthAt = 1
+
+        abbrev pub handleAt : ℕ
+        handleAt = 2
+
+        abbrev pub payloadBitsAt : ℕ
+        payloadBitsAt = 3
+
+        abbrev pub payloadStartAt : ℕ
+        payloadStartAt = 4
+
+        abbrev pub windowStartAt : ℕ
+        windowStartAt = 5
+
+        abbrev pub leafRecord : (pathStart payloadStart : ℕ) → Leaf → List ℕ
+        leafRecord pathStart payloadStart x = leafNumbers pathStart (length (x .path)) (x .handle) (x .width) payloadStart (x .start)
+
+        abbrev pub pairWords : ℕ
+        pairWords = 2
+
+        abbrev pub pairNumbers : (index guid : ℕ) → List ℕ
+        pairNumbers index guid = index ∷ guid ∷ []
+
+        abbrev pub indexAt : ℕ
+        indexAt = 0
+
+        abbrev pub guidAt : ℕ
+        guidAt = 1
+
+        abbrev pub pairRecord : Pair → List ℕ
+        pairRecord x = pairNumbers (x .index) (x .guid)
+
+        unfoldable pub pathBytes : List Leaf → List ℕ
+        pathBytes [] = []
+        pathBytes (x ∷ l) = x .path ++ pathBytes l
+
+        unfoldable pub payloadBytes : List Leaf → List ℕ
+        payloadBytes [] = []
+        payloadBytes (x ∷ l) = payloadOf x ++ payloadBytes l
+
+        unfoldable pub leafRecords : (pathAt payloadAt : ℕ) → List Leaf → List ℕ
+        leafRecords a b [] = []
+        leafRecords a b (x ∷ l) = leafRecord a b x ++ leafRecords (a + length (x .path)) (b + length (payloadOf x)) l
+
+        unfoldable pub pairRecords : List Pair → List ℕ
+        pairRecords [] = []
+        pairRecords (x ∷ l) = pairRecord x ++ pairRecords l
+        """,
+    ("outputs", "specs/Records"): """
+        use Prim.Native.Nat.{ℕ, _+_, _*_}
+        use mathlib.Core.List.{List}
+        use lib.ListN.{getD}
+        use Rattle.framing.specs.Records.{leafWords, pathStartAt, pathLengthAt, handleAt, payloadBitsAt, payloadStartAt, windowStartAt, pairWords, indexAt, guidAt}
+        use Rattle.outputs.specs.declared.LeafRecord.{LeafRecord}
+        use Rattle.outputs.specs.declared.PairRecord.{PairRecord}
+
+        abbrev pub leafNumber : (leaves : List ℕ) (i place : ℕ) → ℕ
+        leafNumber leaves i place = getD leaves (leafWords * i + place) 0
+
+        abbrev pub leafAt : (leaves : List ℕ) (i : ℕ) → LeafRecord
+        leafAt leaves i =
+            record {
+              «path_start» = leafNumber leaves i pathStartAt;
+              «path_length» = leafNumber leaves i pathLengthAt;
+              handle = leafNumber leaves i handleAt;
+              «payload_bits» = leafNumber leaves i payloadBitsAt;
+              «payload_start» = leafNumber leaves i payloadStartAt;
+              «window_start» = leafNumber leaves i windowStartAt;
+            }
+
+        abbrev pub pairNumber : (pairs : List ℕ) (i place : ℕ) → ℕ
+        pairNumber pairs i place = getD pairs (pairWords * i + place) 0
+
+        abbrev pub pairAt : (pairs : List ℕ) (i : ℕ) → PairRecord
+        pairAt pairs i = record { index = pairNumber pairs i indexAt; guid = pairNumber pairs i guidAt }
+        """,
     ("framing", "specs/Events"): """
+        use Prim.Native.Nat.{ℕ}
         use mathlib.Core.List.{List, [], _∷_}
         use Rattle.bits.specs.Packed.{Number}
+
+        pub record Leaf : Type 0 where
+          pub path : List ℕ
+          pub handle : ℕ
+          pub start : ℕ
+          pub width : ℕ
+          pub payload : ℕ
+
+        pub record Entered : Type 0 where
+          pub path : List ℕ
+          pub start : ℕ
+          pub width : ℕ
+
+        pub record Pair : Type 0 where
+          pub index : ℕ
+          pub guid : ℕ
+
+        pub data Event : Type 0 where
+          number : Number → Event
+          element : (path : List ℕ) → Event
+          array : Entered → Event
+          leaf : Leaf → Event
+          pair : Pair → Event
+          truncation : Event
+          error : Event
+          implicit : Event
+          nested : (bits : ℕ) → Event
+          root : (bits : ℕ) → Event
+
+        abbrev pub Trace : Type 0
+        Trace = List Event
+
+        abbrev pub rawHandle : ℕ
+        rawHandle = 4294967295
+
+        abbrev pub numbers : List Number → Trace
+        numbers [] = []
+        numbers (x ∷ xs) = number x ∷ numbers xs
+
+        abbrev pub leaves : Trace → List Leaf
+        leaves [] = []
+        leaves (leaf x ∷ t) = x ∷ leaves t
+        leaves (number x ∷ t) = leaves t
+        leaves (element p ∷ t) = leaves t
+        leaves (array a ∷ t) = leaves t
+        leaves (pair x ∷ t) = leaves t
+        leaves (truncation ∷ t) = leaves t
+        leaves (error ∷ t) = leaves t
+        leaves (implicit ∷ t) = leaves t
+        leaves (nested n ∷ t) = leaves t
+        leaves (root n ∷ t) = leaves t
+
+        abbrev pub pairs : Trace → List Pair
+        pairs [] = []
+        pairs (pair x ∷ t) = x ∷ pairs t
+        pairs (number x ∷ t) = pairs t
+        pairs (element p ∷ t) = pairs t
+        pairs (array a ∷ t) = pairs t
+        pairs (leaf x ∷ t) = pairs t
+        pairs (truncation ∷ t) = pairs t
+        pairs (error ∷ t) = pairs t
+        pairs (implicit ∷ t) = pairs t
+        pairs (nested n ∷ t) = pairs t
+        pairs (root n ∷ t) = pairs t
 
         abbrev pub taken : Trace → List Number
         taken [] = []
         taken (number x ∷ t) = x ∷ taken t
         taken (element p ∷ t) = taken t
-        taken (array p ∷ t) = taken t
+        taken (array a ∷ t) = taken t
         taken (leaf x ∷ t) = taken t
         taken (pair x ∷ t) = taken t
         taken (truncation ∷ t) = taken t
@@ -426,6 +739,19 @@ STATED = {
         taken (implicit ∷ t) = taken t
         taken (nested n ∷ t) = taken t
         taken (root n ∷ t) = taken t
+
+        abbrev pub arrays : Trace → List Entered
+        arrays [] = []
+        arrays (array a ∷ t) = a ∷ arrays t
+        arrays (number x ∷ t) = arrays t
+        arrays (element p ∷ t) = arrays t
+        arrays (leaf x ∷ t) = arrays t
+        arrays (pair x ∷ t) = arrays t
+        arrays (truncation ∷ t) = arrays t
+        arrays (error ∷ t) = arrays t
+        arrays (implicit ∷ t) = arrays t
+        arrays (nested n ∷ t) = arrays t
+        arrays (root n ∷ t) = arrays t
         """,
     ("fastarray", "specs/Body"): """
         use mathlib.Core.List.{List, [], _∷_, _++_}
@@ -555,7 +881,7 @@ STATED = {
         others (pair x ∷ t) = others t
         others (number x ∷ t) = number x ∷ others t
         others (element p ∷ t) = element p ∷ others t
-        others (array p ∷ t) = array p ∷ others t
+        others (array a ∷ t) = array a ∷ others t
         others (leaf x ∷ t) = leaf x ∷ others t
         others (truncation ∷ t) = truncation ∷ others t
         others (error ∷ t) = error ∷ others t
@@ -803,12 +1129,24 @@ STATED = {
         inC = record { counts = countersIn; zero = noCounters; sumIn = λ r. if eqb (r .refusal) 0 then some (r .counters) else none }
         """,
     ("bits", "specs/Members"): """
+        use Prim.Native.Nat.{ℕ}
         use mathlib.Core.Path.{_≡_}
         use mathlib.Core.List.{List, _∷_, _++_}
+        use lib.ListN.{length}
 
         abbrev pub All : {A : Type 0} → (A → Type 0) → List A → Type 0
         All holds [] = Unit {0}
         All holds (x ∷ l) = holds x × All holds l
+
+        pub data Any {A : Type 0} (holds : A → Type 0) : List A → Type 0 where
+          first : {x : A} {l : List A} → holds x → Any holds (x ∷ l)
+          later : {x : A} {l : List A} → Any holds l → Any holds (x ∷ l)
+
+        pub record StandsAt {A : Type 0} (x : A) (i : ℕ) (l : List A) : Type 0 where
+          pub before : List A
+          pub after : List A
+          pub whole : l ≡ before ++ (x ∷ after)
+          pub many : length before ≡ i
 
         pub record StandsIn {A : Type 0} (x : A) (others : List A → Type 0) (m : List A) : Type 0 where
           pub before : List A
@@ -846,7 +1184,7 @@ STATED = {
         abbrev pub workingPaths : Trace → List (List ℕ)
         workingPaths [] = []
         workingPaths (element p ∷ t) = p ∷ workingPaths t
-        workingPaths (array p ∷ t) = p ∷ workingPaths t
+        workingPaths (array a ∷ t) = a .path ∷ workingPaths t
         workingPaths (leaf x ∷ t) = x .path ∷ workingPaths t
         workingPaths (number x ∷ t) = workingPaths t
         workingPaths (pair x ∷ t) = workingPaths t

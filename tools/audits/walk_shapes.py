@@ -1,4 +1,4 @@
-"""The shapes of the theorems on walks alone: prefix-, clean-, judged-, paths- and behind-. shapes.py says what each is held to."""
+"""The shapes of the theorems on walks alone: prefix-, clean-, judged-, paths-, placed- and behind-. shapes.py says what each is held to."""
 from .contracts import ANSWER
 from .owed import COUNTS, window_of
 from .statement import Spoken, Wrong
@@ -8,6 +8,7 @@ OF_PREFIX = ("promises", "specs/Prefix")
 OF_CLEAN = ("promises", "specs/Clean")
 OF_VERDICTS = ("promises", "specs/Verdicts")
 OF_PATHS = ("promises", "specs/Paths")
+OF_PLACES = ("promises", "specs/Places")
 OF_PAIRS = ("promises", "specs/PairsBehind")
 ROOM_IN = ("array", "specs/Refusals", "roomIn")
 ANSWER_OF = ("array", "specs/Refusals", "answerOf")
@@ -166,6 +167,15 @@ class WalkShapes(Spoken):
         r = self.answer_in(found)
         word, of = ("PathsFit", applied(ANSWER_OF, r)) if self.in_rattle else ("PathsFitInC", r)
         self.ends_in(statement, (*OF_PATHS, word), (of,))
+        self.all_stand(statement, found)
+
+    def placed(self, statement):
+        self.opened(statement)
+        found = {}
+        if len(statement.premises) != 1 or not self.fits(statement.premises[0], self.contract.clause.whole, found):
+            raise Wrong("its premise is not an answer that meets the contract")
+        walk, _, r, end = arguments(statement.premises[0])
+        self.ends_in(statement, (*OF_PLACES, "PlacedLeaves" if self.in_rattle else "PlacedLeavesInC"), (walk, r, end))
         self.all_stand(statement, found)
 
     def behind(self, statement):
