@@ -61,6 +61,12 @@ def combat_rounds(padded=False):
     return array(1, [(0, [(4, reports)])], padded=padded)
 
 
+def kept_tail():
+    """A round with two Reports arrays: in the first a leaf of no bits and one of three, of the second, with a count past the limit, a tail."""
+    reports = array(1, [(0, [(1, Bits()), (2, Bits().field(5, 3))])])
+    return array(1, [(0, [(4, reports), (4, Bits().packed(5000).add(raw(b"\xab")))])])
+
+
 def ability_casts():
     targets = array(2, [(0, [(19, Bits().packed(300)), (20, number(12.5))]), (1, [(19, Bits().packed(302)), (20, number(4))])])
     effects = array(1, [(0, [(14, Bits().packed(7)), (16, number(16.5)), (18, targets)])])
@@ -118,6 +124,7 @@ def main():
     for name, window in {
         "combat-rounds": combat_rounds(),
         "combat-rounds-padded": combat_rounds(padded=True),
+        "kept-tail": kept_tail(),
         "ability-casts": ability_casts(),
         "life-change-damage": life_change_damage(),
         "none": plain(True),

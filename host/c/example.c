@@ -48,12 +48,13 @@ static void *room(size_t n, size_t size) {
 }
 
 static void print_leaf(const uint32_t *leaf, const uint8_t *paths, const uint8_t *payloads) {
-  const uint32_t path_start = leaf[0], path_length = leaf[1], handle = leaf[2], bits = leaf[3], payload_start = leaf[4];
+  const uint32_t path_start = leaf[0], path_length = leaf[1], handle = leaf[2], bits = leaf[3], payload_start = leaf[4],
+                 window_start = leaf[5];
   fwrite(paths + path_start, 1, path_length, stdout);
   if (handle == VRF_NONE) {
-    printf("  kept tail, %" PRIu32 " bits:", bits);
+    printf("  kept tail, %" PRIu32 " bits from bit %" PRIu32 " on:", bits, window_start);
   } else {
-    printf("  handle %" PRIu32 ", %" PRIu32 " bits:", handle, bits);
+    printf("  handle %" PRIu32 ", %" PRIu32 " bits from bit %" PRIu32 " on:", handle, bits, window_start);
   }
   for (size_t i = 0; i < ((size_t)bits + 7) / 8; i++) {
     printf(" %02x", payloads[payload_start + i]);

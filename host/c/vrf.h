@@ -8,7 +8,7 @@
  * What you hand in
  *   A slice is a pointer and a length. Lengths count elements of the pointer's type, not bytes: a buffer of 170 uint32_t has
  *   the length 170. A `const` slice is read; the others are lent for the time of the call and may be written.
- *   A bit count says how many bits of the bytes belong to the payload. A byte holds eight, its lowest bit first.
+ *   A bit count says how many bits of the bytes belong to the window. A byte holds eight, its lowest bit first.
  *
  * What you owe, since nothing here can check it
  *   - A length is real: so many elements stand behind the pointer, and all of them may be read (lent ones: written).
@@ -91,7 +91,7 @@ enum {
 enum {
   VRF_LONGEST_WINDOW = 524288, /* bits */
   VRF_LONGEST_PATH = 852,      /* bytes of a leaf's path, at most */
-  VRF_LEAF_WORDS = 5,          /* uint32_t in a leaf */
+  VRF_LEAF_WORDS = 6,          /* uint32_t in a leaf */
   VRF_PAIR_WORDS = 2,          /* uint32_t in a pair */
   VRF_CLEAN = 0,               /* verdicts; a refused walk has none, and 0 in its place */
   VRF_PARTIAL = 1,
@@ -140,8 +140,12 @@ typedef struct VrfWalk {
  * and the length of its name in declared_names. Without tables pass lengths 0, levels 0 and root VRF_NONE. rows_len has to be the
  * table's own length: what stands behind the table in a larger buffer is not a row.
  *
- * Outputs. A leaf is five uint32_t: path start, path length, handle, bits, payload start. Starts count bytes of paths and of
- * payloads; paths aren't ended by a zero. A payload takes (bits + 7) / 8 bytes, the first bit lowest, the last byte's spare bits 0.
+ * Outputs. A leaf is six uint32_t: path start, path length, handle, bits, payload start, window start. Path and payload start count
+ * bytes of paths and of payloads; paths aren't ended by a zero. A payload takes (bits + 7) / 8 bytes, the first bit lowest, the last
+ * byte's spare bits 0. The window start is the bit of the walked window where the payload starts, counted from the window's first bit
+ * also for a leaf of an array in an array; tests/window_starts.c tries whether vrf_copy_bits finds the same payload there. A leaf of no
+ * bits starts behind its width. A kept tail starts behind the count if that is above 4,096; behind 128 fields or 4,096 elements it starts
+ * with the number that is one too many, which is part of the tail.
  *
  * How large to lend: call once with lengths 0. The answer is refusal 3 with leaves, path_bytes and payload_bytes; lend
  * VRF_LEAF_WORDS * leaves numbers and so many bytes, and call again. (A walk that gives nothing is accepted at once.) Paths never

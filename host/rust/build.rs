@@ -24,6 +24,8 @@ fn made() -> PathBuf {
         "crates/bits",
         "crates/bitio",
         "crates/schema",
+        "crates/framing",
+        "crates/outputs",
         "crates/steps",
         "crates/cycle",
         "crates/array",

@@ -83,6 +83,7 @@ int main(void) {
   run("fast arrays", fast_arrays);
   run("reads", reads);
   run("padded numbers", padded_numbers);
+  run("window starts", window_starts);
   run("copies", copies);
   run("vectors", vectors);
   run("rotations", rotations);

@@ -61,6 +61,7 @@ void levels(void);
 void fast_arrays(void);
 void reads(void);
 void padded_numbers(void);
+void window_starts(void);
 void copies(void);
 void vectors(void);
 void rotations(void);

@@ -8,7 +8,11 @@ static const uint8_t deaths[] = {'D', 'e', 'a', 't', 'h', 's'};
 enum { NUMBERS = 8, DEATHS = 6 };
 
 enum { LEAVES_EXACT = 3, PATHS_EXACT = 23, PAYLOADS_EXACT = 4, WORDS_EXACT = LEAVES_EXACT * VRF_LEAF_WORDS };
-static const uint32_t leaves_expected[WORDS_EXACT] = {0, 4, 0, 1, 0, 4, 10, 3, 16, 1, 14, 9, 199, 2, 3};
+static const uint32_t leaves_expected[WORDS_EXACT] = {
+    0,  4,  0,   1,  0, 120, /* path start, path length, handle, bits, payload start, window start */
+    4,  10, 3,   16, 1, 137, /* */
+    14, 9,  199, 2,  3, 209, /* its handle takes two bytes */
+};
 static const char paths_expected[] = "[1].[1].Deaths[2]._h199";
 static const uint8_t payloads_expected[PAYLOADS_EXACT] = {0x01, 0xcd, 0xab, 0x02};
 

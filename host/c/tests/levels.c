@@ -98,8 +98,8 @@ static void hold_rows(const LentSchema *s) {
   SAME(behind, VRF_SCHEMA_NAMES);
 }
 
-/* Arrays inside one another, one element each, with a leaf of handle 200 in the innermost: the walk's only path. */
-static void hold_path(const LentSchema *s, uint32_t root, const uint32_t *handles, size_t depth, const char *path) {
+/* Arrays inside one another, one element each, with a leaf of handle 200 in the innermost: the walk's only path, and where its bit is. */
+static void hold_path(const LentSchema *s, uint32_t root, const uint32_t *handles, size_t depth, const char *path, uint32_t start) {
   Window w, inner;
   window_clear(&w);
   put_packed(&w, 1);
@@ -125,6 +125,7 @@ static void hold_path(const LentSchema *s, uint32_t root, const uint32_t *handle
   SAME(a.verdict, VRF_CLEAN);
   SAME(a.path_bytes, strlen(path));
   SAME_BYTES(paths, path, strlen(path));
+  SAME(leaves[5], start);
 }
 
 void levels(void) {
@@ -138,13 +139,13 @@ void levels(void) {
   hold_rows(&s);
 
   static const uint32_t dealt[] = {4, 10, 26, 44}, received[] = {4, 10, 61, 79}, targets[] = {13, 18};
-  hold_path(&s, VRF_COMBAT_ROUNDS, dealt, 4, "[0].Reports[0].Interactions[0].DealtInteractions[0].Regions[0]._h200");
-  hold_path(&s, VRF_CHARACTER_REPORT, dealt + 1, 3, "[0].Interactions[0].DealtInteractions[0].Regions[0]._h200");
-  hold_path(&s, VRF_PARTICIPANT, received + 2, 2, "[0].ReceivedInteractions[0].Regions[0]._h200");
-  hold_path(&s, VRF_DEALT_INTERACTION, dealt + 3, 1, "[0].Regions[0]._h200");
-  hold_path(&s, VRF_RECEIVED_INTERACTION, received + 3, 1, "[0].Regions[0]._h200");
-  hold_path(&s, VRF_ABILITY_CASTS, targets, 2, "[0].Effects[0].AffectedTargetsArray[0]._h200");
-  hold_path(&s, VRF_ABILITY_EFFECTS, targets + 1, 1, "[0].AffectedTargetsArray[0]._h200");
-  hold_path(&s, VRF_AFFECTED_TARGET, NULL, 0, "[0]._h200");
-  hold_path(&s, VRF_LEAVES, NULL, 0, "[0]._h200");
+  hold_path(&s, VRF_COMBAT_ROUNDS, dealt, 4, "[0].Reports[0].Interactions[0].DealtInteractions[0].Regions[0]._h200", 184);
+  hold_path(&s, VRF_CHARACTER_REPORT, dealt + 1, 3, "[0].Interactions[0].DealtInteractions[0].Regions[0]._h200", 144);
+  hold_path(&s, VRF_PARTICIPANT, received + 2, 2, "[0].ReceivedInteractions[0].Regions[0]._h200", 104);
+  hold_path(&s, VRF_DEALT_INTERACTION, dealt + 3, 1, "[0].Regions[0]._h200", 72);
+  hold_path(&s, VRF_RECEIVED_INTERACTION, received + 3, 1, "[0].Regions[0]._h200", 72);
+  hold_path(&s, VRF_ABILITY_CASTS, targets, 2, "[0].Effects[0].AffectedTargetsArray[0]._h200", 104);
+  hold_path(&s, VRF_ABILITY_EFFECTS, targets + 1, 1, "[0].AffectedTargetsArray[0]._h200", 72);
+  hold_path(&s, VRF_AFFECTED_TARGET, NULL, 0, "[0]._h200", 40);
+  hold_path(&s, VRF_LEAVES, NULL, 0, "[0]._h200", 40);
 }

@@ -23,11 +23,11 @@ enum { DECLARED = 6, POOL = 10 };
 enum { LEAVES = 5, PATHS = 56, PAYLOADS = 7, LEAF_WORDS = LEAVES * VRF_LEAF_WORDS };
 
 static const uint32_t expected_leaves[LEAF_WORDS] = {
-    0,  9,  1,        3,  0, /* path start, path length, handle, bits, payload start */
-    9,  8,  5,        12, 1, /* */
-    17, 7,  9,        8,  3, /* */
-    24, 18, 7,        9,  4, /* */
-    42, 14, VRF_NONE, 5,  6, /* a kept tail */
+    0,  9,  1,        3,  0, 32,  /* path start, path length, handle, bits, payload start, window start */
+    9,  8,  5,        12, 1, 51,  /* */
+    17, 7,  9,        8,  3, 79,  /* */
+    24, 18, 7,        9,  4, 255, /* 144 bits into an array that starts at 111 */
+    42, 14, VRF_NONE, 5,  6, 548, /* a kept tail, behind the 16 bits of a count that starts at 532 */
 };
 static const char expected_paths[] = "[0].Kills[0].Five[0]._h9[0].Inner[3].Seven[1].Inner._raw";
 static const uint8_t expected_payloads[PAYLOADS] = {0x05, 0xbc, 0x0a, 0x5d, 0x33, 0x01, 0x19};
@@ -168,7 +168,7 @@ static void without_tables(void) {
   static const uint8_t a[] = {0x02, 0x02, 0x04, 0x10, 0xab, 0x00, 0x00};
   Lent lent;
   lay_out(&lent, sizeof lent);
-  VrfWalk v = vrf_struct_array(a, 7, 56, NULL, 0, 0, VRF_NONE, NULL, 0, NULL, 0, NULL, 0, lent.leaves, 5, lent.paths, 7, lent.payloads, 1);
+  VrfWalk v = vrf_struct_array(a, 7, 56, NULL, 0, 0, VRF_NONE, NULL, 0, NULL, 0, NULL, 0, lent.leaves, 6, lent.paths, 7, lent.payloads, 1);
   SAME(v.refusal, 0);
   SAME(v.leaves, 1);
   SAME(v.path_bytes, 7);
@@ -177,7 +177,8 @@ static void without_tables(void) {
   SAME(v.verdict, VRF_CLEAN);
   SAME(v.padded, 0);
   SAME_BYTES(lent.paths, "[0]._h1", 7);
-  v = vrf_struct_array(a, 7, 48, NULL, 0, 0, VRF_NONE, NULL, 0, NULL, 0, NULL, 0, lent.leaves, 5, lent.paths, 7, lent.payloads, 1);
+  SAME(lent.leaves[5], 32);
+  v = vrf_struct_array(a, 7, 48, NULL, 0, 0, VRF_NONE, NULL, 0, NULL, 0, NULL, 0, lent.leaves, 6, lent.paths, 7, lent.payloads, 1);
   SAME_COUNTERS(v.counters, 1, 1, 0, 0, 0, 0, 1);
   SAME(v.verdict, VRF_PARTIAL);
   v = vrf_struct_array(a, 6, 56, NULL, 0, 0, VRF_NONE, NULL, 0, NULL, 0, NULL, 0, NULL, 0, NULL, 0, NULL, 0);
@@ -253,6 +254,7 @@ static void longest_path(uint32_t handle, uint64_t truncations, uint32_t verdict
       SAME(v.verdict, verdict);
       SAME(leaf[1], VRF_LONGEST_PATH);
       SAME(leaf[2], handle);
+      SAME(leaf[5], 656); /* ten levels of 56 bits in front of their array, whose width takes two bytes; one of 48; and the field's 48 */
       SAME(payload[0], 0xab);
       SAME_BYTES(paths, path, sizeof path);
       SAME_UNTOUCHED(paths + VRF_LONGEST_PATH, 1);

@@ -5,6 +5,7 @@ use crate::faults::{self, Call};
 use crate::movement::MovementCase;
 use crate::walk::{WalkCase, port_counters};
 use crate::window::Window;
+use counting_decode::Seen;
 use decode::array::{ArrayDecodeStats, FlattenedField};
 use decode::decode::DecodeError;
 use decode::fastarray::FastArrayDelta;
@@ -73,7 +74,14 @@ fn same_decoded<T>(
         .is_ok_and(|d| values(&d.values) && port_counters(&d.stats) == counters(stats) && (d.verdict, d.padded) == said)
 }
 
-pub fn walk(case: &WalkCase, fields: &[FlattenedField], stats: &ArrayDecodeStats, verdict: Verdict, padded: u32) -> Result<(), Difference> {
+fn same_fields<'a>(rust: &[FlattenedField], given: impl ExactSizeIterator<Item = &'a port::FlattenedField>) -> bool {
+    let same = |(a, b): (&FlattenedField, &port::FlattenedField)| {
+        a.path == b.path && a.handle == b.handle && a.bit_count == b.bit_count && a.raw_bits == b.raw_bits
+    };
+    rust.len() == given.len() && rust.iter().zip(given).all(same)
+}
+
+pub fn walk(case: &WalkCase, fields: &[FlattenedField], stats: &ArrayDecodeStats, verdict: Verdict, seen: &Seen) -> Result<(), Difference> {
     if case.schema.dropin.is_none() && case.schema.linked.is_some() {
         return Ok(()); // an unrolled table that is larger than a table may be
     }
@@ -84,22 +92,22 @@ pub fn walk(case: &WalkCase, fields: &[FlattenedField], stats: &ArrayDecodeStats
         port::decode_struct_array(&w.bytes, w.bits, case.schema.dropin, &names, &mut given)
     };
     faults::answer(Call::DropInLeaves, &mut leaves);
-    let same = |(a, b): (&FlattenedField, &port::FlattenedField)| {
-        a.path == b.path && a.handle == b.handle && a.bit_count == b.bit_count && a.raw_bits == b.raw_bits
-    };
-    let same = |leaves: &[port::FlattenedField]| leaves.len() == fields.len() && fields.iter().zip(leaves).all(same);
     let mut tried = if case.exact {
         port::try_decode_struct_array_exact(&w.bytes, w.bits, &names)
     } else {
         port::try_decode_struct_array(&w.bytes, w.bits, case.schema.dropin, &names)
     };
     faults::answer(Call::TryLeaves, &mut tried);
-    if same(&leaves) && same_stats(stats, &mut given) && same_decoded(&tried, stats, (verdict, padded), same) {
+    let same_tried = same_decoded(&tried, stats, (verdict, seen.padded), |leaves| {
+        let starts = leaves.iter().map(|leaf| u64::from(leaf.window_start));
+        same_fields(fields, leaves.iter().map(|leaf| &leaf.field)) && starts.eq(seen.starts.iter().copied())
+    });
+    if same_fields(fields, leaves.iter()) && same_stats(stats, &mut given) && same_tried {
         return Ok(());
     }
     Err(Difference::new(
         "the drop-in",
-        format!("{fields:?} {stats:?}, padded {padded}"),
+        format!("{fields:?} {stats:?}, padded {}, starts {:?}", seen.padded, seen.starts),
         format!("{leaves:?} {given:?}, tried: {tried:?}"),
     ))
 }

@@ -1,8 +1,8 @@
 //! Fast-array bodies.
 use crate::answer::{Difference, Outcome, refused, told};
 use crate::lent::Room;
-use crate::padded;
 use crate::port::Desk;
+use crate::seen;
 use crate::window::Window;
 use decode::fastarray::{ChecksumMode, FastArrayDelta, decode_fast_array_delta};
 use vrf_proved::lent::{FIELD_WORDS, FastArray, ITEM_WORDS, Refusal};
@@ -59,7 +59,7 @@ impl FastCase {
         let mode = if self.flags { ChecksumMode::Present } else { ChecksumMode::Absent };
         let (bytes, bits) = (&self.window.bytes, self.window.bits);
         let given = decode_fast_array_delta(bytes, bits, mode);
-        let padded = given.as_ref().map_or(0, |_| padded::of_fast(self));
+        let padded = given.as_ref().map_or(0, |_| seen::of_fast(self));
         crate::dropin::fast(self, given.as_ref(), padded)?;
         let Some(d) = given else {
             lend(desk, [4; 3], Room::Longer);

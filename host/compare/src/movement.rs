@@ -1,7 +1,7 @@
 //! Movement records.
 use crate::answer::{Difference, Outcome, of_bit_error, of_decode_error, told};
 use crate::window::Window;
-use crate::{padded, port};
+use crate::{port, seen};
 use decode::decode::{self as rust, DecodeError};
 use decode::types::{FRepMovement, FRotator, FVector, RotatorQuantization, VectorQuantization};
 use vrf_bitio::BitReader;
@@ -109,7 +109,7 @@ impl MovementCase {
 
     pub fn check(&self) -> Result<Outcome, Difference> {
         let (answer, position) = self.rust();
-        let padded = answer.as_ref().map_or(0, |_| padded::of_movement(self));
+        let padded = answer.as_ref().map_or(0, |_| seen::of_movement(self));
         let rust = match &answer {
             Ok(m) => Ok(of_rust(m, padded)),
             Err(DecodeError::BitIo(e)) => Err(of_bit_error(e)),

@@ -1,8 +1,8 @@
 //! Object walks.
 use crate::answer::{Difference, Outcome, told, walked};
 use crate::lent::Room;
-use crate::padded;
 use crate::port::Desk;
+use crate::seen;
 use crate::verdicts;
 use crate::walk::port_counters;
 use crate::window::Window;
@@ -22,7 +22,7 @@ impl ObjectCase {
         let mut stats = ArrayDecodeStats::default();
         let given = decode_object_ref_array_with_stats(&self.0.bytes, self.0.bits, &mut stats);
         let verdict = verdicts::of_pairs(self.0.bits, stats.is_clean());
-        let padded = padded::of_objects(&self.0, &stats);
+        let padded = seen::of_objects(&self.0, &stats);
         let pairs: Vec<u32> = given.iter().flat_map(|(index, object)| [*index, *object]).collect();
         for room in Room::all([pairs.len()]) {
             let [lent] = room.of([pairs.len()]);

@@ -105,13 +105,13 @@ impl OpeningCase {
         if self.walk().is_none() {
             return records <= long.records.len() && short.records == long.records[..records];
         }
-        if records > 0 && short.records[records - 3] == NONE {
+        if let Some([_, _, NONE, _, _, _]) = short.records.last_chunk::<LEAF_WORDS>() {
             records -= LEAF_WORDS;
         }
         if records > long.records.len() || short.records[..records] != long.records[..records] {
             return false;
         }
-        let Some([path, path_len, _, bits, payload]) = short.records[..records].last_chunk::<LEAF_WORDS>() else {
+        let Some([path, path_len, _, bits, payload, _]) = short.records[..records].last_chunk::<LEAF_WORDS>() else {
             return true;
         };
         let (paths, payloads) = ((path + path_len) as usize, (payload + bits.div_ceil(8)) as usize);

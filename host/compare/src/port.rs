@@ -32,13 +32,13 @@ impl Desk {
 
     pub fn struct_array(&mut self, bytes: &[u8], bits: u32, tables: Tables<'_>) -> Result<Walk, Refusal> {
         let mut r = lent::struct_array(bytes, bits, tables, self.buffers());
-        faults::walk(&mut r, self.buffers());
+        faults::walk(&mut r, bytes, bits, self.buffers());
         r
     }
 
     pub fn struct_array_exact(&mut self, bytes: &[u8], bits: u32, declared: &[u32], pool: &[u8]) -> Result<Walk, Refusal> {
         let mut r = lent::struct_array_exact(bytes, bits, declared, pool, self.buffers());
-        faults::walk(&mut r, self.buffers());
+        faults::walk(&mut r, bytes, bits, self.buffers());
         r
     }
 

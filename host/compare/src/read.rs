@@ -1,7 +1,7 @@
 //! Single reads: at a place of a window that may start anywhere in its bytes.
 use crate::answer::{Difference, Outcome, ReadAnswer, Value, of_bit_error, of_decode_error};
-use crate::padded;
 use crate::port::{self, Desk};
+use crate::seen;
 use crate::window::Window;
 use decode::decode as rust;
 use decode::types::{FRotator, FVector};
@@ -102,7 +102,7 @@ impl ReadCase {
     fn packed(&self, r: &mut BitReader<'_>) -> Result<Value, BitError> {
         let value = r.read_int_packed()?;
         let bytes = ((r.position() - self.skip) / 8) as u32;
-        Ok(Value::Packed(value.into(), bytes, bytes > padded::needed(value)))
+        Ok(Value::Packed(value.into(), bytes, bytes > seen::needed(value)))
     }
 
     pub fn port(&self, desk: &mut Desk) -> ReadAnswer {

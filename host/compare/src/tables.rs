@@ -1,5 +1,5 @@
 //! Schemas and declared names in both forms: as the port is lent them, and as the Rust takes them.
-use crate::{dropin, padded};
+use crate::{dropin, seen};
 use decode::array::ArrayFieldSchema;
 use oracle::tables::{Table, builtin, levels, unroll, unroll_as};
 use oracle::text::hex;
@@ -47,7 +47,7 @@ impl Schema {
             rows,
             names,
             linked: Some(levels()[root as usize]),
-            counting: unroll_as(&builtin(root), padded::level),
+            counting: unroll_as(&builtin(root), seen::level),
             dropin: Some(dropin::levels()[root as usize]),
             twelve: Some(root),
         })
@@ -65,7 +65,7 @@ impl Schema {
             root,
             rows: table.rows.concat(),
             linked: unroll(&table),
-            counting: unroll_as(&table, padded::level),
+            counting: unroll_as(&table, seen::level),
             dropin: if unrolled_fits(&table) {
                 unroll_as(&table, dropin::level)
             } else {

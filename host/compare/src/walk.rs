@@ -1,11 +1,12 @@
 //! Struct and exact walks.
 use crate::answer::{Difference, Outcome, told, walked};
 use crate::lent::Room;
-use crate::padded;
 use crate::port::Desk;
+use crate::seen;
 use crate::tables::{Declared, Schema};
 use crate::verdicts;
 use crate::window::Window;
+use counting_decode::Seen;
 use decode::array::{ArrayDecodeStats, FlattenedField, decode_struct_array, decode_struct_array_exact};
 use oracle::answers::counters;
 use oracle::text::{esc, hex};
@@ -47,16 +48,17 @@ impl Default for Flat {
 }
 
 impl Flat {
-    fn fill(&mut self, bits: u32, fields: &[FlattenedField], stats: &ArrayDecodeStats, padded: u32) {
+    fn fill(&mut self, bits: u32, fields: &[FlattenedField], stats: &ArrayDecodeStats, seen: &Seen) {
         self.counters = counters(stats);
         self.verdict = verdicts::of_leaves(bits, stats.is_clean());
-        self.padded = padded;
+        self.padded = seen.padded;
         self.leaves.clear();
         self.paths.clear();
         self.payloads.clear();
-        for f in fields {
+        for (f, start) in fields.iter().zip(&seen.starts) {
             let (path, payload) = (self.paths.len() as u32, self.payloads.len() as u32);
-            self.leaves.extend([path, f.path.len() as u32, f.handle, f.bit_count, payload]);
+            let record: [u32; LEAF_WORDS] = [path, f.path.len() as u32, f.handle, f.bit_count, payload, *start as u32];
+            self.leaves.extend(record);
             self.paths.extend_from_slice(f.path.as_bytes());
             self.payloads.extend_from_slice(&f.raw_bits);
         }
@@ -67,7 +69,7 @@ impl Flat {
     }
 }
 
-/// In the oracle's form, with the first number of its trace.
+/// In the oracle's form with its trace, whose second number, the bits of all packed numbers, isn't known here.
 impl fmt::Display for Flat {
     fn fmt(&self, f: &mut fmt::Formatter<'_>) -> fmt::Result {
         for c in self.counters {
@@ -81,7 +83,8 @@ impl fmt::Display for Flat {
             let payload = part(&self.payloads, l[4], l[3].div_ceil(8));
             write!(f, " {}:{}:{}:{}", esc(path), l[2], l[3], hex(payload))?;
         }
-        write!(f, " trace {}", self.padded)
+        write!(f, " trace {} -", self.padded)?;
+        self.leaves.chunks(LEAF_WORDS).try_for_each(|l| write!(f, " {}", l[5]))
     }
 }
 
@@ -139,7 +142,8 @@ impl WalkCase {
     /// `expected` is scratch: it holds the Rust's answer afterwards.
     pub fn check(&self, desk: &mut Desk, expected: &mut Flat) -> Result<Outcome, Difference> {
         let (fields, stats) = self.rust();
-        expected.fill(self.window.bits, &fields, &stats, padded::of_walk(self, &stats));
+        let seen = seen::of_walk(self, &fields, &stats);
+        expected.fill(self.window.bits, &fields, &stats, &seen);
         let needs = expected.needs();
         for room in Room::all(needs) {
             let lent = room.of(needs);
@@ -157,7 +161,7 @@ impl WalkCase {
                 return Err(Difference::new(call, format!("{asked}{expected}"), shown(&answer, desk, needs)));
             }
         }
-        crate::dropin::walk(self, &fields, &stats, expected.verdict, expected.padded)?;
+        crate::dropin::walk(self, &fields, &stats, expected.verdict, &seen)?;
         Ok(walked(expected.verdict))
     }
 

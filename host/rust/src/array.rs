@@ -28,6 +28,17 @@ pub struct FlattenedField {
     pub raw_bits: Vec<u8>,
 }
 
+/// A leaf, and where in the walked window it sits.
+#[derive(Debug, Clone, PartialEq, Eq)]
+#[must_use]
+pub struct PlacedField {
+    /// The leaf, as the original gives it.
+    pub field: FlattenedField,
+    /// The bit where its payload starts, counted from the first bit of the walked window also for a leaf of an array in an array.
+    /// [`lent::LEAF_WORDS`] says where a leaf without payload starts, and where a kept tail does.
+    pub window_start: u32,
+}
+
 /// What an accepted walk gave, with counters of its own that start from zero.
 #[derive(Debug, Clone, PartialEq, Eq)]
 #[must_use]
@@ -72,10 +83,10 @@ pub fn decode_struct_array(
     declared: &[Option<&str>],
     stats: &mut ArrayDecodeStats,
 ) -> Vec<FlattenedField> {
-    counted(try_decode_struct_array(data, bit_count, schema, declared), stats)
+    counted(structs(data, bit_count, schema, declared, |field, _| field), stats)
 }
 
-/// [`decode_struct_array`] with its own counters and verdict, or the refusal: 1 or 2.
+/// [`decode_struct_array`] with where each leaf sits, its own counters and verdict, or the refusal: 1 or 2.
 ///
 /// ```
 /// use vrf_proved::lent::Verdict;
@@ -83,7 +94,8 @@ pub fn decode_struct_array(
 ///
 /// let window = [0x02, 0x02, 0x04, 0x10, 0xab, 0x00, 0x00];
 /// let walk = try_decode_struct_array(&window, 56, None, &[None, Some("Kills")])?;
-/// assert_eq!((walk.values[0].path.as_str(), walk.verdict), ("[0].Kills", Verdict::Clean));
+/// let kills = &walk.values[0];
+/// assert_eq!((kills.field.path.as_str(), kills.window_start, walk.verdict), ("[0].Kills", 32, Verdict::Clean));
 ///
 /// // without the last of its closing zeros
 /// let walk = try_decode_struct_array(&window, 48, None, &[])?;
@@ -91,7 +103,7 @@ pub fn decode_struct_array(
 ///
 /// // its count in two bytes, where one would do
 /// let walk = try_decode_struct_array(&[&[0x03, 0x00], &window[1..]].concat(), 64, None, &[])?;
-/// assert_eq!((walk.padded, walk.verdict), (1, Verdict::Clean));
+/// assert_eq!((walk.values[0].window_start, walk.padded, walk.verdict), (40, 1, Verdict::Clean));
 ///
 /// // nothing was sent; and an array of no elements, which was
 /// assert_eq!(try_decode_struct_array(&[], 0, None, &[])?.verdict, Verdict::Empty);
@@ -107,9 +119,8 @@ pub fn try_decode_struct_array(
     bit_count: u32,
     schema: Option<&ArrayFieldSchema>,
     declared: &[Option<&str>],
-) -> Result<Decoded<FlattenedField>, Refusal> {
-    let tables = OwnTables::of(schema, declared);
-    leaves_of(|lent| lent::struct_array(data, bit_count, tables.lent(), lent))
+) -> Result<Decoded<PlacedField>, Refusal> {
+    structs(data, bit_count, schema, declared, placed)
 }
 
 /// [`decode_struct_array`] with no schema, and with no zero byte accepted behind the array.
@@ -131,10 +142,10 @@ pub fn decode_struct_array_exact(
     declared: &[Option<&str>],
     stats: &mut ArrayDecodeStats,
 ) -> Vec<FlattenedField> {
-    counted(try_decode_struct_array_exact(data, bit_count, declared), stats)
+    counted(exact_structs(data, bit_count, declared, |field, _| field), stats)
 }
 
-/// [`decode_struct_array_exact`] with its own counters and verdict, or the refusal: 1 or 2.
+/// [`decode_struct_array_exact`] with where each leaf sits, its own counters and verdict, or the refusal: 1 or 2.
 ///
 /// ```
 /// use vrf_proved::{lent::Verdict, try_decode_struct_array_exact};
@@ -142,13 +153,12 @@ pub fn decode_struct_array_exact(
 /// let window = [0x02, 0x02, 0x04, 0x10, 0xab, 0x00, 0x00, 0x00];
 /// let walk = try_decode_struct_array_exact(&window, 64, &[])?;
 /// assert_eq!((walk.stats.unconsumed_root_bits, walk.verdict), (8, Verdict::Partial));
+/// assert_eq!((walk.values[0].field.raw_bits.as_slice(), walk.values[0].window_start), (&window[4..5], 32));
 /// assert_eq!(try_decode_struct_array_exact(&window, 56, &[None; 1025]).unwrap_err().number, 2);
 /// # Ok::<(), vrf_proved::lent::Refusal>(())
 /// ```
-pub fn try_decode_struct_array_exact(data: &[u8], bit_count: u32, declared: &[Option<&str>]) -> Result<Decoded<FlattenedField>, Refusal> {
-    let tables = OwnTables::of(None, declared);
-    let tables = tables.lent();
-    leaves_of(|lent| lent::struct_array_exact(data, bit_count, tables.declared, tables.declared_names, lent))
+pub fn try_decode_struct_array_exact(data: &[u8], bit_count: u32, declared: &[Option<&str>]) -> Result<Decoded<PlacedField>, Refusal> {
+    exact_structs(data, bit_count, declared, placed)
 }
 
 /// The pairs of index and object in the first `bit_count` bits of `data`. It tells nothing of damage, nor of a refusal, which gives
@@ -209,6 +219,37 @@ pub fn try_decode_object_ref_array(data: &[u8], bit_count: u32) -> Result<Decode
     })
 }
 
+/// A struct walk whose leaves have the form that `leaf` makes of a field and its window start.
+fn structs<T>(
+    data: &[u8],
+    bit_count: u32,
+    schema: Option<&ArrayFieldSchema>,
+    declared: &[Option<&str>],
+    leaf: impl Fn(FlattenedField, u32) -> T,
+) -> Result<Decoded<T>, Refusal> {
+    let tables = OwnTables::of(schema, declared);
+    leaves_of(|lent| lent::struct_array(data, bit_count, tables.lent(), lent), leaf)
+}
+
+/// An exact walk, likewise.
+fn exact_structs<T>(
+    data: &[u8],
+    bit_count: u32,
+    declared: &[Option<&str>],
+    leaf: impl Fn(FlattenedField, u32) -> T,
+) -> Result<Decoded<T>, Refusal> {
+    let tables = OwnTables::of(None, declared);
+    let tables = tables.lent();
+    leaves_of(
+        |lent| lent::struct_array_exact(data, bit_count, tables.declared, tables.declared_names, lent),
+        leaf,
+    )
+}
+
+fn placed(field: FlattenedField, window_start: u32) -> PlacedField {
+    PlacedField { field, window_start }
+}
+
 /// The original's form of an answer: values, and counters added up.
 fn counted<T>(answer: Result<Decoded<T>, Refusal>, stats: &mut ArrayDecodeStats) -> Vec<T> {
     match answer {
@@ -255,10 +296,12 @@ impl Leaves {
     }
 
     /// The leaves that an accepted walk left here.
-    fn owned(&self, walk: &lent::Walk) -> Vec<FlattenedField> {
+    fn owned<T>(&self, walk: &lent::Walk, leaf: impl Fn(FlattenedField, u32) -> T) -> Vec<T> {
         let paths = std::str::from_utf8(&self.paths[..walk.path_bytes]).expect("paths are made of whole names, which were strings");
         let records = self.records.chunks_exact(LEAF_WORDS).take(walk.leaves);
-        records.map(|record| field_of(record, paths, &self.payloads)).collect()
+        records
+            .map(|record| leaf(field_of(record, paths, &self.payloads), record[5]))
+            .collect()
     }
 }
 
@@ -272,11 +315,14 @@ fn field_of(record: &[u32], paths: &str, payloads: &[u8]) -> FlattenedField {
     }
 }
 
-fn leaves_of(walk: impl Fn(lent::Buffers<'_>) -> Result<lent::Walk, Refusal>) -> Result<Decoded<FlattenedField>, Refusal> {
+fn leaves_of<T>(
+    walk: impl Fn(lent::Buffers<'_>) -> Result<lent::Walk, Refusal>,
+    leaf: impl Fn(FlattenedField, u32) -> T,
+) -> Result<Decoded<T>, Refusal> {
     scratch::lend(&LEAVES, |lent: &mut Leaves| {
         let walk = walk(lent.lent())?;
         Ok(Decoded {
-            values: lent.owned(&walk),
+            values: lent.owned(&walk, &leaf),
             stats: walk.counters,
             verdict: walk.verdict,
             padded: walk.padded,

@@ -4,11 +4,11 @@
 //! lent buffers afterwards, are those of the proved definitions (crates/exports/src/lib.rt holds the contracts).
 //!
 //! ```
-//! use vrf_proved::lent::{self, Buffers, Tables, Verdict};
+//! use vrf_proved::lent::{self, Buffers, Tables, Verdict, LEAF_WORDS};
 //!
 //! // one element with one field: handle 1, the byte AB
 //! let bytes = [0x02, 0x02, 0x04, 0x10, 0xab, 0x00, 0x00];
-//! let (mut leaves, mut paths, mut payloads) = ([0; 5], [0; 7], [0; 1]);
+//! let (mut leaves, mut paths, mut payloads) = ([0; LEAF_WORDS], [0; 7], [0; 1]);
 //! let lent = Buffers { leaves: &mut leaves, paths: &mut paths, payloads: &mut payloads };
 //! let walk = lent::struct_array(&bytes, 56, Tables::NONE, lent)?;
 //! assert_eq!((walk.leaves, walk.verdict), (1, Verdict::Clean));
@@ -50,7 +50,11 @@ pub const LONGEST_PATH: usize = raw::LONGEST_PATH;
 /// A root that means no schema; the start of a declared name, with length 0, that means none; the handle of a kept tail; in C the
 /// answer for a number that is no byte, where [`byte_angle_steps`] gives `None`.
 pub const NONE: u32 = raw::NONE;
-/// Numbers in a leaf: path start, path length, handle, bits, payload start.
+/// Numbers in a leaf: path start, path length, handle, bits, payload start, window start. The first counts bytes of [`Buffers::paths`],
+/// the fifth bytes of [`Buffers::payloads`], and the last bits of the walked window: where the payload starts there, counted from the
+/// window's first bit also for a leaf of an array in an array. A leaf without payload starts behind its width. A kept tail starts behind
+/// the count if that is above 4,096; behind 128 fields or 4,096 elements it starts with the number that is one too many, which is part of
+/// the tail.
 pub const LEAF_WORDS: usize = raw::LEAF_WORDS;
 /// Numbers in a pair: index, object.
 pub const PAIR_WORDS: usize = raw::PAIR_WORDS;
@@ -201,7 +205,7 @@ impl Tables<'_> {
 /// The buffers that a struct or exact walk fills from their front.
 #[derive(Debug, Default)]
 pub struct Buffers<'a> {
-    /// [`LEAF_WORDS`] numbers a leaf.
+    /// [`LEAF_WORDS`] numbers a leaf, in the order given there.
     pub leaves: &'a mut [u32],
     /// Paths, one behind the other; none has more than [`LONGEST_PATH`] bytes.
     pub paths: &'a mut [u8],
@@ -266,10 +270,11 @@ fn walk_of(w: raw::VrfWalk) -> Result<Walk, Refusal> {
 /// let (mut rows, mut names) = ([0; lent::SCHEMA_ROWS], [0; lent::SCHEMA_NAMES]);
 /// let levels = lent::schema(&mut rows, &mut names)?.levels;
 /// let tables = Tables { rows: &rows, names: &names, levels, root: 1, ..Tables::NONE };
-/// let (mut leaves, mut paths, mut payloads) = ([0; 5], [0; 18], [0; 1]);
+/// let (mut leaves, mut paths, mut payloads) = ([0; 6], [0; 18], [0; 1]);
 /// let lent = Buffers { leaves: &mut leaves, paths: &mut paths, payloads: &mut payloads };
 /// assert_eq!(lent::struct_array(&bytes, 104, tables, lent)?.counters.elements_decoded, 2);
-/// assert_eq!((leaves, &paths, payloads), ([0, 18, 1, 8, 0], b"[0].Reports[0]._h1", [0xab]));
+/// assert_eq!((leaves, &paths, payloads), ([0, 18, 1, 8, 0, 64], b"[0].Reports[0]._h1", [0xab]));
+/// assert_eq!(bytes[leaves[5] as usize / 8], payloads[0]);
 /// # Ok::<(), lent::Refusal>(())
 /// ```
 #[inline]
@@ -306,10 +311,11 @@ pub fn struct_array(bytes: &[u8], bits: u32, tables: Tables<'_>, lent: Buffers<'
 /// ```
 /// # use vrf_proved::lent::{self, Buffers, Verdict};
 /// let bytes = [0x02, 0x02, 0x04, 0x10, 0xab, 0x00, 0x00, 0x00];
-/// let (mut leaves, mut paths, mut payloads) = ([0; 5], [0; 7], [0; 1]);
+/// let (mut leaves, mut paths, mut payloads) = ([0; 6], [0; 7], [0; 1]);
 /// let lent = Buffers { leaves: &mut leaves, paths: &mut paths, payloads: &mut payloads };
 /// let walk = lent::struct_array_exact(&bytes, 64, &[], &[], lent)?;
 /// assert_eq!((walk.counters.unconsumed_root_bits, walk.verdict), (8, Verdict::Partial));
+/// assert_eq!(leaves, [0, 7, 1, 8, 0, 32]);
 /// # Ok::<(), lent::Refusal>(())
 /// ```
 #[inline]

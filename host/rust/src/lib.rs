@@ -20,8 +20,8 @@ mod types;
 pub use angles::BYTE_ANGLE_STEPS;
 pub use array::{
     decode_object_ref_array, decode_object_ref_array_with_stats, decode_struct_array, decode_struct_array_exact,
-    try_decode_object_ref_array, try_decode_struct_array, try_decode_struct_array_exact, Decoded, FlattenedField, MAX_ELEMENTS,
-    MAX_FIELDS_PER_ELEMENT, MAX_RECURSION_DEPTH,
+    try_decode_object_ref_array, try_decode_struct_array, try_decode_struct_array_exact, Decoded, FlattenedField, PlacedField,
+    MAX_ELEMENTS, MAX_FIELDS_PER_ELEMENT, MAX_RECURSION_DEPTH,
 };
 pub use error::{BitError, DecodeError};
 pub use movement::{read_rep_movement, try_read_rep_movement, MovementRead};

@@ -2,7 +2,7 @@
 
 pub(crate) const NONE: u32 = u32::MAX;
 pub(crate) const LONGEST_PATH: usize = 852;
-pub(crate) const LEAF_WORDS: usize = 5;
+pub(crate) const LEAF_WORDS: usize = 6;
 pub(crate) const PAIR_WORDS: usize = 2;
 pub(crate) const ITEM_WORDS: usize = 2;
 pub(crate) const FIELD_WORDS: usize = 3;

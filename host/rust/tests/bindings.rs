@@ -117,16 +117,16 @@ fn struct_walks() {
         declared_names: POOL,
     };
     let walk = |lent: Buffers<'_>| lent::struct_array(&window.bytes, window.bits, tables, lent);
-    let (answer, lent) = at_every_length([25, 56, 7], [5, 56, 7], walk);
+    let (answer, lent) = at_every_length([30, 56, 7], [5, 56, 7], walk);
     assert_eq!((answer.leaves, answer.path_bytes, answer.payload_bytes), (5, 56, 7));
     assert_eq!(answer.counters, stats([6, 5, 2, 3, 11, 13, 4]));
     assert_eq!((answer.verdict, answer.padded), (Verdict::Partial, 9));
     let leaves = [
-        [0, 9, 1, 3, 0],
-        [9, 8, 5, 12, 1],
-        [17, 7, 9, 8, 3],
-        [24, 18, 7, 9, 4],
-        [42, 14, NONE, 5, 6],
+        [0, 9, 1, 3, 0, 32],
+        [9, 8, 5, 12, 1, 51],
+        [17, 7, 9, 8, 3, 79],
+        [24, 18, 7, 9, 4, 111 + 160],
+        [42, 14, NONE, 5, 6, 548 + 16],
     ];
     let paths = b"[0].Kills[0].Five[0]._h9[0].Inner[3].Seven[1].Inner._raw";
     lent.hold(&leaves.concat(), paths, &[0x05, 0xbc, 0x0a, 0x5d, 0x33, 0x01, 0x19]);
@@ -183,11 +183,11 @@ fn exact_walks() {
     window.push(0, 8);
     let (declared, pool) = ([6, 0, NONE, 0, NONE, 0, 0, 6], b"Deaths");
     let walk = |lent: Buffers<'_>| lent::struct_array_exact(&window.bytes, window.bits, &declared, pool, lent);
-    let (answer, lent) = at_every_length([15, 23, 4], [3, 23, 4], walk);
+    let (answer, lent) = at_every_length([18, 23, 4], [3, 23, 4], walk);
     assert_eq!((answer.leaves, answer.path_bytes, answer.payload_bytes), (3, 23, 4));
     assert_eq!((answer.counters, answer.verdict), (stats([4, 3, 0, 0, 0, 8, 0]), Verdict::Partial));
     assert_eq!(answer.padded, 5, "the count and four indices");
-    let leaves = [[0, 4, 0, 1, 0], [4, 10, 3, 16, 1], [14, 9, 199, 2, 3]];
+    let leaves = [[0, 4, 0, 1, 0, 72], [4, 10, 3, 16, 1, 89], [14, 9, 199, 2, 3, 153]];
     lent.hold(&leaves.concat(), b"[1].[1].Deaths[2]._h199", &[0x01, 0xcd, 0xab, 0x02]);
 
     let refused = |bytes: &[u8], bits, declared: &[u32], pool: &[u8]| {

@@ -30,7 +30,7 @@ fn check_counting(elements: u32) {
             bit_count: payload.bits,
             raw_bits: payload.bytes,
         };
-        assert_eq!(*leaf, expected);
+        assert_eq!(leaf.field, expected);
     }
     let objects = try_decode_object_ref_array(&window.bytes, window.bits).unwrap();
     assert_eq!(objects.values, (0..elements).map(|index| (index, index)).collect::<Vec<_>>());
@@ -56,7 +56,7 @@ fn the_longest_window() {
     window.bytes[6..65_534].fill(0xa5);
     let walk = try_decode_struct_array(&window.bytes, 524_288, None, &[]).unwrap();
     assert_eq!(walk.stats, stats([1, 1, 0, 0, 0, 0, 0]));
-    assert_eq!(walk.values[0].raw_bits, vec![0xa5; 65_528]);
+    assert_eq!(walk.values[0].field.raw_bits, vec![0xa5; 65_528]);
 }
 
 /// A fast-array body with so many deleted ids and changed items; the item `n` has `n % 4` fields.

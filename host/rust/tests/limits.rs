@@ -5,7 +5,7 @@ mod common;
 use common::{stats, Window};
 use vrf_proved::*;
 
-fn walk(window: &Window) -> Decoded<FlattenedField> {
+fn walk(window: &Window) -> Decoded<PlacedField> {
     try_decode_struct_array(&window.bytes, window.bits, None, &[]).unwrap()
 }
 
@@ -26,7 +26,8 @@ fn elements() {
         bit_count: 9,
         raw_bits: vec![0xff, 0x01],
     };
-    assert_eq!(kept.values, [tail]);
+    let window_start = 16; // behind the count
+    assert_eq!(kept.values, [PlacedField { field: tail, window_start }]);
 }
 
 #[test]
@@ -36,5 +37,5 @@ fn fields() {
     assert_eq!((most.values.len(), most.stats), (128, stats([1, 128, 0, 0, 0, 0, 0])));
     let over = walk(&element(MAX_FIELDS_PER_ELEMENT + 1));
     assert_eq!(over.stats, stats([1, 129, 1, 0, 0, 0, 0]));
-    assert_eq!(over.values[128].path, "[0]._raw");
+    assert_eq!(over.values[128].field.path, "[0]._raw");
 }

@@ -1,4 +1,5 @@
-//! Packed numbers that take more bytes than they need: told of a single one, counted in every other answer, and nothing else changes.
+//! Packed numbers that take more bytes than they need: told of a single one, counted in every other answer, and nothing else changes but
+//! the start.
 
 mod common;
 
@@ -87,10 +88,12 @@ fn every_place() {
             walks(&window, padded, [1, 0, 0, 0, 0, 0, 0]);
             let walk = try_decode_struct_array(&window.bytes, window.bits, None, &[]).unwrap();
             assert_eq!(
-                (&walk.values, &walk.stats, walk.verdict),
-                (&leaves, &counted, Verdict::Clean),
-                "nothing else changes"
+                (&walk.values[0].field, &walk.stats, walk.verdict),
+                (&leaves[0], &counted, Verdict::Clean),
+                "nothing else changes but the start"
             );
+            let in_front = 8 * sizes[..4].iter().sum::<u32>();
+            assert_eq!((walk.values.len(), walk.values[0].window_start), (1, in_front));
             assert_eq!(
                 decode_struct_array(&window.bytes, window.bits, None, &[], &mut ArrayDecodeStats::default()),
                 leaves

@@ -14,7 +14,7 @@ fn refusal(bits: u32, schema: Option<&ArrayFieldSchema>, declared: &[Option<&str
     let fields = decode_struct_array(&A, bits, schema, declared, &mut counted);
     match try_decode_struct_array(&A, bits, schema, declared) {
         Ok(walk) => {
-            assert_eq!(walk.values, fields);
+            assert!(walk.values.iter().map(|leaf| &leaf.field).eq(&fields));
             None
         }
         Err(refusal) => {
@@ -86,7 +86,7 @@ fn declared_names_on_their_edges() {
     assert_eq!(refusal(0, None, &[Some(&too_long)]), Some(2), "an empty window too");
 
     let walk = try_decode_struct_array(&A, 56, None, &[None, Some(&longest)]).unwrap();
-    assert_eq!(walk.values[0].path, format!("[0].{longest}"));
+    assert_eq!(walk.values[0].field.path, format!("[0].{longest}"));
     let mut counted = ArrayDecodeStats::default();
     assert!(decode_struct_array_exact(&A, 56, &[Some(&too_long)], &mut counted).is_empty());
     assert_eq!(counted, stats([0, 0, 0, 1, 0, 0, 0]));

@@ -93,7 +93,7 @@ fn a_copy_of_a_static_walks_as_the_proved_table() {
             let proved = try_decode_struct_array(&window.bytes, window.bits, Some(schema), declared).unwrap();
             let linked = try_decode_struct_array(&window.bytes, window.bits, Some(&copy), declared).unwrap();
             assert_eq!(proved, linked);
-            let depths = proved.values.iter().map(|leaf| leaf.path.matches('[').count());
+            let depths = proved.values.iter().map(|leaf| leaf.field.path.matches('[').count());
             deepest = depths.max().unwrap_or(0).max(deepest);
         }
     }
@@ -127,17 +127,23 @@ fn a_cycle_ends_at_the_deepest_level() {
         try_decode_struct_array(&window.bytes, window.bits, Some(&NEST), &[]).unwrap()
     };
     let three = walk(3);
-    assert_eq!(three.values[0].path, "[0].Down[0].Up[0].Here");
-    assert_eq!((three.values[0].bit_count, &three.values[0].raw_bits[..]), (3, &[0x5][..]));
+    assert_eq!(three.values[0].field.path, "[0].Down[0].Up[0].Here");
+    assert_eq!(
+        (three.values[0].field.bit_count, &three.values[0].field.raw_bits[..]),
+        (3, &[0x5][..])
+    );
     assert_eq!(three.stats, stats([3, 1, 0, 0, 0, 0, 0]));
 
     // twelve arrays are walked; the last of thirteen is one leaf, and a truncation
     let deepest = walk(12);
-    assert_eq!(deepest.values[0].path, format!("{}[0].Down[0]._h1", "[0].Down[0].Up".repeat(5)));
+    assert_eq!(
+        deepest.values[0].field.path,
+        format!("{}[0].Down[0]._h1", "[0].Down[0].Up".repeat(5))
+    );
     assert_eq!(deepest.stats, stats([12, 1, 0, 0, 0, 0, 0]));
     let deeper = walk(MAX_RECURSION_DEPTH as usize + 1);
-    assert_eq!(deeper.values[0].path, "[0].Down[0].Up".repeat(6));
-    assert_eq!(deeper.values[0].bit_count, nested(1).bits);
+    assert_eq!(deeper.values[0].field.path, "[0].Down[0].Up".repeat(6));
+    assert_eq!(deeper.values[0].field.bit_count, nested(1).bits);
     assert_eq!(deeper.stats, stats([12, 1, 1, 0, 0, 0, 0]));
 }
 
@@ -146,7 +152,7 @@ fn the_first_entry_of_a_handle_counts_and_an_empty_name_is_a_name() {
     let rounds = Window::array(&[vec![(4, Window::array(&[vec![(9, Window::of(1, 1))]]))]]);
     let window = Window::array(&[vec![(0, Window::array(&[vec![(3, rounds)]]))]]);
     let walk = try_decode_struct_array(&window.bytes, window.bits, Some(&NEST), &[]).unwrap();
-    assert_eq!(walk.values[0].path, "[0].Down[0].[0].Reports[0]._h9");
+    assert_eq!(walk.values[0].field.path, "[0].Down[0].[0].Reports[0]._h9");
 }
 
 #[test]
@@ -154,7 +160,7 @@ fn declared_names_are_for_leaves_at_every_depth() {
     let declared = [Some("Zero"), Some("Größe"), Some("Two"), None];
     let window = nested(3);
     let walk = try_decode_struct_array(&window.bytes, window.bits, Some(&NEST), &declared).unwrap();
-    assert_eq!(walk.values[0].path, "[0].Down[0].Up[0].Größe");
+    assert_eq!(walk.values[0].field.path, "[0].Down[0].Up[0].Größe");
 }
 
 #[test]
@@ -167,7 +173,7 @@ fn a_schema_on_the_stack() {
     let rounds = Window::array(&[vec![(4, Window::array(&[vec![(1, Window::of(0xab, 8))]]))]]);
     let window = Window::array(&[vec![(7, rounds)]]);
     let walk = try_decode_struct_array(&window.bytes, window.bits, Some(&root), &[]).unwrap();
-    assert_eq!(walk.values[0].path, "[0].Matches[0].Reports[0]._h1");
+    assert_eq!(walk.values[0].field.path, "[0].Matches[0].Reports[0]._h1");
 }
 
 /// 64 levels and 512 rows in all: a root with 63 arrays, each with names of its own.
@@ -197,7 +203,7 @@ fn a_table_that_is_full_has_every_row() {
         for &(handle, name) in level.field_names {
             let window = Window::array(&[vec![(number, Window::array(&[vec![(handle, Window::of(1, 1))]]))]]);
             let walk = try_decode_struct_array(&window.bytes, window.bits, Some(&root), &[]).unwrap();
-            assert_eq!(walk.values[0].path, format!("[0]._h{number}[0].{name}"));
+            assert_eq!(walk.values[0].field.path, format!("[0]._h{number}[0].{name}"));
         }
     }
 }

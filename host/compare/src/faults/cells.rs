@@ -11,7 +11,10 @@ const fn buffer(name: &'static str, words: &'static [&'static str]) -> Buffer {
     Buffer { name, words }
 }
 
-pub const LEAVES: Buffer = buffer("leaves", &["path start", "path length", "handle", "bits", "payload start"]);
+pub const LEAVES: Buffer = buffer(
+    "leaves",
+    &["path start", "path length", "handle", "bits", "payload start", "window start"],
+);
 pub const PATHS: Buffer = buffer("paths", &["byte"]);
 pub const PAYLOADS: Buffer = buffer("payloads", &["byte"]);
 pub const PAIRS: Buffer = buffer("pairs", &["index", "object"]);

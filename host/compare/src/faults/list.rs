@@ -1,14 +1,16 @@
 //! Which faults there are, and the kinds that have to tell of each.
 use super::cells::{Buffer, DELETED, FIELDS, ITEMS, LEAVES, NAMES, PAIRS, PATHS, PAYLOADS, ROWS, TARGET};
 use super::parts::Parts;
+use super::starts::{BEFORE_WIDTH, BEHIND_NUMBER, FROM_CHILD, ONE_BIT_MORE, PAYLOAD_TWICE, TAIL_FROM_CHILD, WINDOW_TWICE};
 use super::{
-    CLEAN, Call, EMPTY, Fault, GIVEN, LOST, NO_BITS, ONE_ERROR, ONE_MORE, ONE_PADDED, REFUSED, SHORT_FORM, STOPS, UNCOUNTED, probed,
+    CLEAN, Call, EMPTY, Fault, GIVEN, LOST, LOST_START, NO_BITS, ONE_ERROR, ONE_MORE, ONE_PADDED, REFUSED, SHORT_FORM, STOPS, UNCOUNTED,
+    probed,
 };
 use crate::probes::{Probe, ProbeCall};
 use std::sync::OnceLock;
 use vrf_proved::fastarray::{FastArrayDelta, FastArrayRead};
 use vrf_proved::lent::{FastArray, Movement, Objects, Packed, Read, Refusal, RefusedMerge, Schema, Walk};
-use vrf_proved::{ArrayDecodeStats, DecodeError, Decoded, FRepMovement, FlattenedField, MovementRead};
+use vrf_proved::{ArrayDecodeStats, DecodeError, Decoded, FRepMovement, FlattenedField, MovementRead, PlacedField};
 
 const STRUCTS: &[&str] = &["none", "twelve", "tables", "deep", "edges", "exact", "padded"];
 const OBJECTS: &[&str] = &["objects", "edges", "padded"];
@@ -113,7 +115,7 @@ impl List {
         self.add(Call::DropInMovement, other, &["refusals"]);
         self.answer::<ArrayDecodeStats>(Call::DropInMerge, MERGE);
         self.add(Call::DropInClean, vec!["truth".into()], &["merge", "none", "objects"]);
-        self.answer::<Decoded<FlattenedField>>(Call::TryLeaves, STRUCTS);
+        self.answer::<Decoded<PlacedField>>(Call::TryLeaves, STRUCTS);
         self.answer::<Decoded<(u32, u32)>>(Call::TryPairs, OBJECTS);
         self.answer::<Result<FastArrayRead, Refusal>>(Call::TryFastArray, FAST);
         self.answer::<Result<MovementRead, Refusal>>(Call::TryMovement, MOVEMENT);
@@ -150,7 +152,7 @@ impl List {
         self.add(Call::Walk, vec![CLEAN.into()], &["windows", "strings", "openings", "all-openings"]);
         self.add(Call::Walk, vec![EMPTY.into()], &["windows", "openings", "all-openings"]);
         self.add(Call::Walk, vec![UNCOUNTED.into()], &["windows", "strings"]);
-        self.add(Call::Walk, vec![LOST.into()], &["openings"]);
+        self.add(Call::Walk, [LOST, LOST_START].map(String::from).into(), &["openings"]);
         self.add(Call::Objects, vec![CLEAN.into()], &["openings", "all-openings"]);
         self.add(Call::Objects, vec![UNCOUNTED.into()], &["windows", "strings"]);
         self.add(Call::Objects, vec![NO_BITS.into()], &["windows"]);
@@ -168,6 +170,13 @@ impl List {
             self.add(call, [SHORT_FORM, ONE_PADDED, ONE_MORE].map(String::from).into(), kinds);
         }
         self.add(Call::ReadPacked, vec![SHORT_FORM.into()], &["packed"]);
+        let placed = [ONE_BIT_MORE, BEFORE_WIDTH, PAYLOAD_TWICE, WINDOW_TWICE];
+        self.add(Call::Walk, placed.map(String::from).into(), STRUCTS);
+        self.also(&["strings", "largest"], |call, part| call == Call::Walk && placed.contains(&part));
+        let children = &["twelve", "tables", "deep", "edges", "padded", "largest"];
+        self.add(Call::Walk, vec![FROM_CHILD.into()], children);
+        self.add(Call::Walk, vec![TAIL_FROM_CHILD.into()], &["edges", "padded"]);
+        self.add(Call::Walk, vec![BEHIND_NUMBER.into()], STRUCTS);
         let walks = |call| matches!(call, Call::Walk | Call::Objects);
         self.also(&["windows"], |call, part| walks(call) && [SHORT_FORM, ONE_MORE].contains(&part));
         self.also(&["strings"], |call, part| {

@@ -3,6 +3,7 @@
 mod cells;
 mod list;
 mod parts;
+mod starts;
 
 use crate::probes::{Probe, ProbeCall};
 use cells::{DELETED, FIELDS, ITEMS, LEAVES, NAMES, PAIRS, PATHS, PAYLOADS, ROWS, TARGET};
@@ -73,6 +74,7 @@ const EMPTY: &str = "empty passes for clean";
 const UNCOUNTED: &str = "nothing counted passes for empty";
 const NO_BITS: &str = "no bits pass for empty";
 const LOST: &str = "the first record of a cut window is another";
+const LOST_START: &str = "the first record of a cut window starts elsewhere";
 
 const SHORT_FORM: &str = "no number is padded";
 const ONE_PADDED: &str = "at most one number is padded";
@@ -140,7 +142,7 @@ pub fn movement(r: &mut Read<Movement>) {
     answer(Call::Movement, r);
 }
 
-pub fn walk(r: &mut Result<Walk, Refusal>, lent: Buffers<'_>) {
+pub fn walk(r: &mut Result<Walk, Refusal>, bytes: &[u8], bits: u32, lent: Buffers<'_>) {
     let Some(part) = part(Call::Walk) else { return };
     let filled = r.as_ref().ok().map(|w| [LEAF_WORDS * w.leaves, w.path_bytes, w.payload_bytes]);
     let Buffers { leaves, paths, payloads } = lent;
@@ -152,7 +154,11 @@ pub fn walk(r: &mut Result<Walk, Refusal>, lent: Buffers<'_>) {
         Ok(w) if part == EMPTY && w.verdict == Verdict::Empty => w.verdict = Verdict::Clean,
         Ok(w) if part == UNCOUNTED && w.counters == ArrayDecodeStats::default() => w.verdict = Verdict::Empty,
         Ok(w) if part == LOST && w.counters.implicit_terminations > 0 && w.leaves > 0 => leaves[2] ^= 1,
+        Ok(w) if part == LOST_START && w.counters.implicit_terminations > 0 && w.leaves > 0 => leaves[5] ^= 1,
         _ => r.alter(part),
+    }
+    if let Some([records, ..]) = filled {
+        starts::misplace(part, bytes, bits, &mut leaves[..records]);
     }
     LEAVES.alter(part, leaves, filled.map(|f| f[0]));
     PATHS.alter(part, paths, filled.map(|f| f[1]));

@@ -3,7 +3,9 @@
 use crate::probes::{Probe, Reader};
 use vrf_proved::fastarray::{ChangedItem, FastArrayDelta, FastArrayRead, Header, RawField};
 use vrf_proved::lent::{FastArray, Movement, Objects, Packed, Read, Refusal, RefusedMerge, Schema, Verdict, Walk};
-use vrf_proved::{ArrayDecodeStats, BitError, DecodeError, Decoded, FRepMovement, FRotator, FVector, FlattenedField, MovementRead};
+use vrf_proved::{
+    ArrayDecodeStats, BitError, DecodeError, Decoded, FRepMovement, FRotator, FVector, FlattenedField, MovementRead, PlacedField,
+};
 
 pub trait Parts {
     /// The names of all parts, each behind `at`.
@@ -104,6 +106,7 @@ structs! {
 // The original's names.
 structs! {
     FlattenedField { path: String, handle: u32, bit_count: u32, raw_bits: Vec<u8> }
+    PlacedField { field: FlattenedField, window_start: u32 }
     Header { array_replication_key: i32, base_replication_key: i32, num_deletes: u32, num_changed: u32 }
     RawField { handle: u32, payload_bit_offset: u32, payload_bit_count: u32 }
     ChangedItem { replication_id: i32, fields: Vec<RawField> }

@@ -1,5 +1,5 @@
-//! array.rs, fastarray.rs, geometry.rs and what they name, unchanged, over the reader that counts padded numbers. oracle/crates/decode is the
-//! same over the reader itself, and says why the `#[path]` stands where it does.
+//! array.rs, fastarray.rs, geometry.rs and what they name, unchanged, over the reader that counts padded numbers and notes starts.
+//! oracle/crates/decode is the same over the reader itself, and says why the `#[path]` stands where it does.
 // The original's text is not ours to mend.
 #![allow(dead_code, clippy::all)]
 
@@ -40,4 +40,4 @@ mod src {
 
 pub use src::decode::movement;
 pub use src::{array, fastarray, types};
-pub use vrf_bitio::{BitReader, counted};
+pub use vrf_bitio::{BitReader, Seen, watched};
