@@ -1,9 +1,9 @@
 -- The contracts determine the answers and the buffers: an answer is read back off what the contract says of it. A refusal leaves every buffer as it was lent.
+use Rattle.std.specs.Prelude.{if◌then◌else◌}
 use mathlib.Core.Path.{◌≡◌, refl, sym, ap, ◌∙◌}
 use mathlib.Core.List.{List}
 use Prim.Native.Nat.{ℕ}
 use lib.Dec.{eqb}
-use Rattle.bits.specs.Choice.{if◌then◌else◌}
 use Rattle.framing.specs.Counters.{Counters}
 use Rattle.framing.specs.Sinks.{Walker, object}
 use Rattle.framing.specs.Verdicts.{verdict_of}

@@ -1,6 +1,5 @@
 -- Adding up the counters of two walks (01, Refusal numbers: 4).
-use Rattle.std.specs.Prelude.{ℕ, ◌^◌, Bool, ◌&&◌, ltb}
-use Rattle.bits.specs.Choice.{if◌then◌else◌}
+use Rattle.std.specs.Prelude.{ℕ, ◌^◌, Bool, ◌&&◌, ltb, if◌then◌else◌}
 use Rattle.framing.specs.Counters.{Counters, sums}
 
 -- the sums; or a refusal's number and the left counters

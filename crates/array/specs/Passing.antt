@@ -1,6 +1,5 @@
 -- One pass of the code over a window, and both passes: what they ask, and what they come to.
-use Rattle.std.specs.Prelude.{ℕ, ◌≤◌, ◌≡◌, Bool, true, false, List, []}
-use Rattle.bits.specs.Choice.{if◌then◌else◌}
+use Rattle.std.specs.Prelude.{ℕ, ◌≤◌, ◌≡◌, Bool, true, false, List, [], if◌then◌else◌}
 use Rattle.bits.specs.Sizes.{longest_window}
 use Rattle.schema.specs.Tables.{Tables}
 use Rattle.schema.specs.Labels.{LabelsLie}

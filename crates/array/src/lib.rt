@@ -7,6 +7,8 @@
 //
 // All numbers are packed. A window is walked twice: once lent nothing, which tells what is needed, and once to write. A refused
 // call writes nothing.
+#![tactic(auto)]
+
 mod passes;
 pub mod said;
 pub mod stats;
@@ -25,7 +27,7 @@ use schema::ABSENT;
 use schema::layout::check_tables;
 
 // What a walk counted.
-#[derive(Drop)]
+#[derive(Clone, Copy)]
 pub struct ArrayDecodeStats {
     // Elements, of all levels.
     pub elements_decoded: u64,
@@ -47,7 +49,7 @@ pub struct ArrayDecodeStats {
 
 // The verdict on a window or, by `stats::verdict`, on a set of counters. Clean counters don't make a window clean: a struct or exact
 // walk of no bits is empty.
-#[derive(Drop)]
+#[derive(Clone, Copy)]
 pub enum Verdict {
     // All of it was read, as one whole array: there is a bit or more, and the five counters behind fields_emitted are 0.
     Clean,
@@ -58,7 +60,7 @@ pub enum Verdict {
 }
 
 // How much of each output a walk fills, or would.
-#[derive(Drop)]
+#[derive(Clone, Copy)]
 pub struct Extent {
     pub leaves: u32,
     pub path_bytes: u32,
@@ -66,7 +68,7 @@ pub struct Extent {
 }
 
 // What a struct or exact walk answers.
-#[derive(Drop)]
+#[derive(Clone, Copy)]
 pub enum StructArray {
     // The last number: the padded numbers among those that were read.
     Decoded(ArrayDecodeStats, Verdict, Extent, u32),
@@ -79,7 +81,7 @@ pub enum StructArray {
 }
 
 // What an object walk answers: how many pairs, and how many padded numbers.
-#[derive(Drop)]
+#[derive(Clone, Copy)]
 pub enum ObjectArray {
     Decoded(ArrayDecodeStats, Verdict, u32, u32),
     // 1: the window is longer than 524,288 bits.
@@ -89,7 +91,7 @@ pub enum ObjectArray {
 }
 
 // What adding two walks' counters answers.
-#[derive(Drop)]
+#[derive(Clone, Copy)]
 pub enum Merged {
     Sum(ArrayDecodeStats),
     // 4: a sum doesn't fit 64 bits. The left counters, as they were.

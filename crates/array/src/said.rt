@@ -6,7 +6,7 @@ ghost use Rattle.array.specs.Refusals.{said, pairs_said_lem, merge_number_lem, s
 use crate::{Merged, ObjectArray, StructArray};
 
 // Of a struct or exact walk: the number, and what the outputs need; of the other refusals the three are 0.
-#[derive(Drop)]
+#[derive(Clone, Copy)]
 pub struct Saying {
     pub number: u32,
     pub leaves: u32,
@@ -15,7 +15,7 @@ pub struct Saying {
 }
 
 // Of an object walk: the number, and the pairs that the output needs.
-#[derive(Drop)]
+#[derive(Clone, Copy)]
 pub struct PairSaying {
     pub number: u32,
     pub pairs: u32,

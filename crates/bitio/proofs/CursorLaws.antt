@@ -1,6 +1,6 @@
 -- The laws of cursors: what is good, what a bad one gets, and the window's fields as fields of the bytes.
-use Rattle.std.proofs.Common.{◌≡◌, ℕ, ◌+◌, ◌<◌, ◌≤◌, Bool, true, false, not, leb, List, sym, ap, ◌∙◌, subst, le-ltb, lt-ltb, le-leb, leb-false, leb-true}
-use borrow.Author.Tests.{lt-leb, not-true, not-false}
+use Rattle.std.proofs.Common.{◌≡◌, ℕ, ◌+◌, ◌<◌, ◌≤◌, Bool, true, false, leb, List, sym, ap, ◌∙◌, subst, le-ltb, lt-ltb, le-leb, leb-false, leb-true}
+use borrow.Author.Tests.{lt-leb}
 use Rattle.bits.specs.Bits.{num, field}
 use Rattle.bits.proofs.ChoiceLaws.{by_cases, and_true}
 use Rattle.bits.proofs.FieldLaws.{field_field}
@@ -32,11 +32,11 @@ module _ (s : List ℕ) (c : Cursor) where
   window_field p n h = field_field (num s) c.start c.len p n h
 
   -- what the code's test of the cursor says
-  pub passed : (b : Bool) → b ≡ good s c → not b ≡ false → good s c ≡ true
-  passed b e h = sym e ∙ not-false b h
+  pub passed : (b : Bool) → b ≡ good s c → b ≡ true → good s c ≡ true
+  passed b e h = sym e ∙ h
 
-  pub failed : (b : Bool) → b ≡ good s c → not b ≡ true → good s c ≡ false
-  failed b e h = sym e ∙ not-true b h
+  pub failed : (b : Bool) → b ≡ good s c → b ≡ false → good s c ≡ false
+  failed b e h = sym e ∙ h
 
   module _ {A : Type 0} (refused : Refusal → A) (inside : ℕ → A) where
     pub at_bad : good s c ≡ false → at_cursor s c refused inside ≡ refused (bad_cursor_lem s c)
@@ -52,11 +52,11 @@ module _ (s : List ℕ) (c : Cursor) where
     at_holds E fails holds = by_cases (good s c) (λ g. subst E (sym (at_good g)) (holds g)) (λ g. subst E (sym (at_bad g)) (fails (bad_cursor_lem s c)))
 
     -- the code's way out for a bad cursor
-    pub bad_way : (b : Bool) (r : Refusal) → b ≡ good s c → not b ≡ true → r ≡ bad_cursor_lem s c → refused r ≡ at_cursor s c refused inside
+    pub bad_way : (b : Bool) (r : Refusal) → b ≡ good s c → b ≡ false → r ≡ bad_cursor_lem s c → refused r ≡ at_cursor s c refused inside
     bad_way b r e h er = ap refused er ∙ sym (at_bad (failed b e h))
 
     -- and the way on for a good one
-    pub good_way : (b : Bool) (x : A) → b ≡ good s c → not b ≡ false → x ≡ inside (window s c) → x ≡ at_cursor s c refused inside
+    pub good_way : (b : Bool) (x : A) → b ≡ good s c → b ≡ true → x ≡ inside (window s c) → x ≡ at_cursor s c refused inside
     good_way b x e h ex = ex ∙ sym (at_good (passed b e h))
 
 module _ {A : Type 0} (len pos n : ℕ) (refused : Refusal → A) (enough : A) where

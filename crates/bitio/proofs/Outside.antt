@@ -1,7 +1,7 @@
 -- Bits outside the window alter nothing: what a call answers depends on the window's number and on how many bytes there are; at a good cursor on
 -- the window alone.
+use Rattle.std.specs.Prelude.{if◌then◌else◌}
 use Rattle.std.proofs.Common.{◌≡◌, ℕ, ◌+◌, ◌-◌, ◌*◌, ◌^◌, ◌<◌, ◌≤◌, min, Bool, true, false, ◌&&◌, ltb, leb, List, length, sym, ap, ◌∙◌, ap₂, arith, ltb-false, le-ltb}
-use Rattle.bits.specs.Choice.{if◌then◌else◌}
 use Rattle.bits.specs.Bits.{num, field}
 use Rattle.bits.specs.Sizes.{longest_window}
 use Rattle.bits.proofs.ChoiceLaws.{by_cases}

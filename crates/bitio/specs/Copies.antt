@@ -1,7 +1,6 @@
 -- `copy_bits_to`, a copy of n bits to a lent buffer d, from its first byte on: 14 for a bad cursor, then 14 if d has fewer bytes than n bits
 -- take, then 7 (01, Refusal numbers).
-use Rattle.std.specs.Prelude.{◌≡◌, ℕ, ◌+◌, List, length, nat_lt}
-use Rattle.bits.specs.Choice.{if◌then◌else◌}
+use Rattle.std.specs.Prelude.{◌≡◌, ℕ, ◌+◌, List, length, nat_lt, if◌then◌else◌}
 use Rattle.bits.specs.Bits.{field}
 use Rattle.bits.specs.Runs.{bytes_of, bytes_for, put}
 use Rattle.bitio.specs.Cursors.{bits_of, window, at_cursor, asking}

@@ -1,6 +1,5 @@
 -- Cursors: when one is good, the window that it stands in, and what every call makes of a bad one (01, Bits and numbers; Refusal numbers).
-use Rattle.std.specs.Prelude.{ℕ, ◌+◌, ◌-◌, ◌*◌, ◌^◌, min, Bool, ◌&&◌, ltb, List, length, ◌==◌, nat_le, nat_lt}
-use Rattle.bits.specs.Choice.{if◌then◌else◌}
+use Rattle.std.specs.Prelude.{ℕ, ◌+◌, ◌-◌, ◌*◌, ◌^◌, min, Bool, ◌&&◌, ltb, List, length, ◌==◌, nat_le, nat_lt, if◌then◌else◌}
 use Rattle.bits.specs.Bits.{num, field}
 use Rattle.bits.specs.Sizes.{longest_window}
 use Rattle.bitio.specs.declared.Cursor.{Cursor}

@@ -1,6 +1,5 @@
 -- Reads whose width depends on what is read: the packed number and the serialized integer (01, Bits and numbers).
-use Rattle.std.specs.Prelude.{ℕ, zero, suc, ◌+◌, ◌*◌, ◌/◌, ◌^◌, List, ◌==◌, nat_le}
-use Rattle.bits.specs.Choice.{if◌then◌else◌}
+use Rattle.std.specs.Prelude.{ℕ, zero, suc, ◌+◌, ◌*◌, ◌/◌, ◌^◌, List, ◌==◌, nat_le, if◌then◌else◌}
 use Rattle.bits.specs.Bits.{field}
 use Rattle.bits.specs.Packed.{packed}
 use Rattle.bits.specs.Padded.{padded}

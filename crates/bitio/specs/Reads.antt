@@ -1,7 +1,6 @@
 -- Reads of a fixed number of bits, the first bit lowest (01, Bits and numbers). Refusals 14 and 7 are those of skipping the bits; `read_bits`,
 -- whose count is the caller's, has 13 between them.
-use Rattle.std.specs.Prelude.{ℕ, ◌+◌, List, ◌==◌, nat_lt}
-use Rattle.bits.specs.Choice.{if◌then◌else◌}
+use Rattle.std.specs.Prelude.{ℕ, ◌+◌, List, ◌==◌, nat_lt, if◌then◌else◌}
 use Rattle.bits.specs.Bits.{field}
 use Rattle.bits.specs.TwosComplement.{twos}
 use Rattle.bitio.specs.Cursors.{window, at_cursor, asking, skipped}

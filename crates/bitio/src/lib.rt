@@ -3,6 +3,8 @@
 // A byte holds eight bits of a window, its lowest first, from the window's start on; a number's lowest bit is read
 // first. Every call takes any bytes, any cursor and any count, and answers with a value or with one of
 // document 01's refusals. A cursor goes in by value; an answer carries the next position.
+#![tactic(auto)]
+
 pub mod said;
 
 ghost use Rattle.std.specs.Prelude.{◌≡◌, ◌+◌, ◌-◌, ◌*◌, ◌<◌, ◌≤◌};
@@ -16,7 +18,7 @@ use bits::sizes::LONGEST_WINDOW;
 
 // ---- a cursor, and what the calls answer
 
-#[derive(Drop)]
+#[derive(Clone, Copy)]
 pub struct Cursor {
     // The window's first bit in the bytes.
     pub start: u64,
@@ -27,7 +29,7 @@ pub struct Cursor {
 }
 
 // Why a call gives no value, with the values of document 01's table.
-#[derive(Drop)]
+#[derive(Clone, Copy)]
 pub enum Refusal {
     // 1: the window is longer than 524,288 bits.
     TooLong,
@@ -45,103 +47,103 @@ pub enum Refusal {
     Past(u64, u64),
 }
 
-#[derive(Drop)]
+#[derive(Clone, Copy)]
 pub enum Opened {
     Reader(Cursor),
     Refused(Refusal),
 }
 
-#[derive(Drop)]
+#[derive(Clone, Copy)]
 pub enum Measured {
     Value(u64),
     Refused(Refusal),
 }
 
-#[derive(Drop)]
+#[derive(Clone, Copy)]
 pub enum Ended {
     Value(bool),
     Refused(Refusal),
 }
 
 // The next position.
-#[derive(Drop)]
+#[derive(Clone, Copy)]
 pub enum Skipped {
     Done(u64),
     Refused(Refusal),
 }
 
 // A cursor at the front of the inner window, and the next position of the outer one.
-#[derive(Drop)]
+#[derive(Clone, Copy)]
 pub enum SubReader {
     Window(Cursor, u64),
     Refused(Refusal),
 }
 
 // What was read, and the next position.
-#[derive(Drop)]
+#[derive(Clone, Copy)]
 pub enum BitRead {
     Value(bool, u64),
     Refused(Refusal),
 }
 
-#[derive(Drop)]
+#[derive(Clone, Copy)]
 pub enum BitsRead {
     Value(u64, u64),
     Refused(Refusal),
 }
 
-#[derive(Drop)]
+#[derive(Clone, Copy)]
 pub enum U8Read {
     Value(u8, u64),
     Refused(Refusal),
 }
 
-#[derive(Drop)]
+#[derive(Clone, Copy)]
 pub enum U16Read {
     Value(u16, u64),
     Refused(Refusal),
 }
 
-#[derive(Drop)]
+#[derive(Clone, Copy)]
 pub enum U32Read {
     Value(u32, u64),
     Refused(Refusal),
 }
 
-#[derive(Drop)]
+#[derive(Clone, Copy)]
 pub enum I32Read {
     Value(i32, u64),
     Refused(Refusal),
 }
 
-#[derive(Drop)]
+#[derive(Clone, Copy)]
 pub enum U64Read {
     Value(u64, u64),
     Refused(Refusal),
 }
 
 // A packed number: its value, the bytes that it took (1 to 5), and whether it is padded: fewer bytes hold the value too.
-#[derive(Drop)]
+#[derive(Clone, Copy)]
 pub struct PackedNumber {
     pub value: u32,
     pub bytes: u32,
     pub padded: bool,
 }
 
-#[derive(Drop)]
+#[derive(Clone, Copy)]
 pub enum PackedRead {
     Value(PackedNumber, u64),
     Refused(Refusal),
 }
 
-#[derive(Drop)]
+#[derive(Clone, Copy)]
 pub enum SerializedRead {
     Value(u32, u64),
     Refused(Refusal),
 }
 
 // The next position.
-#[derive(Drop)]
+#[derive(Clone, Copy)]
 pub enum Copied {
     Done(u64),
     Refused(Refusal),

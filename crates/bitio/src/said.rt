@@ -6,7 +6,7 @@ ghost use Rattle.bitio.specs.Refusals.{saying_of, said, stands_after64};
 use crate::Refusal;
 
 // The number, and the values in the table's order; what it doesn't name is 0.
-#[derive(Drop)]
+#[derive(Clone, Copy)]
 pub struct Saying {
     pub number: u32,
     pub first: u64,

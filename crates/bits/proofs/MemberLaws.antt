@@ -5,6 +5,7 @@ use mathlib.Core.List.{List, [], ◌∷◌, ◌++◌}
 use native.Mathlib.Omega.{arith}
 use lib.ListN.{length}
 use Rattle.bits.specs.Members.{All, Any, first, later, StandsAt, Reorders}
+use Rattle.bits.proofs.Never.{never}
 
 -- What holds of all members of two lists holds of all of both.
 pub all_append : {A : Type 0} (holds : A → Type 0) (a b : List A) → All holds a → All holds b → All holds (a ++ b)
@@ -37,8 +38,70 @@ member_stands (x ∷ l) (suc i) h =
     let s = member_stands l i (omega arith) in
     record { before = x ∷ s.before; after = s.after; whole = ap (λ r. x ∷ r) s.whole; many = ap suc s.many }
 
+-- An empty list has none.
+pub none_stands : {A : Type 0} (a : A) (i : ℕ) → StandsAt a i [] → ⊥
+none_stands {A = A} a i s = go s.before s.whole
+  where
+    go : (before : List A) → [] ≡ before ++ (a ∷ s.after) → ⊥
+    go [] e = let z : ◌≡◌ {A = ℕ} 0 1 = cc in never z
+    go (y ∷ before) e = let z : ◌≡◌ {A = ℕ} 0 1 = cc in never z
+
+-- The first of a list, and one behind it, among those behind it.
+module _ {A : Type 0} (x : A) (l : List A) where
+  pub stands_first : (a : A) → StandsAt a 0 (x ∷ l) → x ≡ a
+  stands_first a s = go s.before s.whole s.many
+    where
+      go : (before : List A) → x ∷ l ≡ before ++ (a ∷ s.after) → length before ≡ 0 → x ≡ a
+      go [] e z = cc
+      go (y ∷ before) e z = absurd (omega arith)
+
+  pub stands_later : (a : A) (i : ℕ) → StandsAt a (suc i) (x ∷ l) → StandsAt a i l
+  stands_later a i s = go s.before s.whole s.many
+    where
+      go : (before : List A) → x ∷ l ≡ before ++ (a ∷ s.after) → length before ≡ suc i → StandsAt a i l
+      go [] e z = absurd (omega arith)
+      go (y ∷ before) e z = record { before = before; after = s.after; whole = cc; many = omega arith }
+
+-- A number of a list is below its length, and is one.
+pub stands_below : {A : Type 0} (l : List A) (a : A) (i : ℕ) → StandsAt a i l → i < length l
+stands_below [] a i s = absurd (none_stands a i s)
+stands_below (x ∷ l) a zero s = omega arith
+stands_below (x ∷ l) a (suc i) s = let z = stands_below l a i (stands_later x l a i s) in omega arith
+
+pub one_stands : {A : Type 0} (l : List A) (a b : A) (i : ℕ) → StandsAt a i l → StandsAt b i l → a ≡ b
+one_stands [] a b i s t = absurd (none_stands a i s)
+one_stands (x ∷ l) a b zero s t = sym (stands_first x l a s) ∙ stands_first x l b t
+one_stands (x ∷ l) a b (suc i) s t = one_stands l a b i (stands_later x l a i s) (stands_later x l b i t)
+
+-- What holds of each member and the next, and what holds of each member and all behind it.
+module _ {A : Type 0} (holds : A → A → Type 0) where
+  abbrev pub EachNext : List A → Type 0
+  EachNext [] = Unit {0}
+  EachNext (x ∷ []) = Unit {0}
+  EachNext (x ∷ y ∷ l) = holds x y × EachNext (y ∷ l)
+
+  abbrev pub EachBehind : List A → Type 0
+  EachBehind [] = Unit {0}
+  EachBehind (x ∷ l) = All (holds x) l × EachBehind l
+
+  pub next_at : (l : List A) → EachNext l → (a b : A) (i : ℕ) → StandsAt a i l → StandsAt b (suc i) l → holds a b
+  next_at [] h a b i s t = absurd (none_stands a i s)
+  next_at (x ∷ []) h a b i s t = absurd (none_stands b i (stands_later x [] b i t))
+  next_at (x ∷ y ∷ l) h a b zero s t =
+      subst (λ c. holds c b) (stands_first x (y ∷ l) a s)
+      (subst (holds x) (stands_first y l b (stands_later x (y ∷ l) b 0 t)) h.0)
+  next_at (x ∷ y ∷ l) h a b (suc i) s t = next_at (y ∷ l) h.1 a b i (stands_later x (y ∷ l) a i s) (stands_later x (y ∷ l) b (suc i) t)
+
+  pub behind_at : (l : List A) → EachBehind l → (a b : A) (i j : ℕ) → i < j → StandsAt a i l → StandsAt b j l → holds a b
+  behind_at [] h a b i j lt s t = absurd (none_stands a i s)
+  behind_at (x ∷ l) h a b i zero lt s t = absurd (omega arith)
+  behind_at (x ∷ l) h a b zero (suc j) lt s t =
+      subst (λ c. holds c b) (stands_first x l a s) (all_at (holds x) l h.0 b j (stands_later x l b j t))
+  behind_at (x ∷ l) h a b (suc i) (suc j) lt s t = behind_at l h.1 a b i j (omega arith) (stands_later x l a i s) (stands_later x l b j t)
+
 -- What holds of one member holds of one of a longer list.
 pub any_before : {A : Type 0} (holds : A → Type 0) (a b : List A) → Any holds a → Any holds (a ++ b)
+any_before {A = A} holds [] b h = elim h [ ]
 any_before holds (x ∷ a) b (first h) = first h
 any_before holds (x ∷ a) b (later h) = later (any_before holds a b h)
 

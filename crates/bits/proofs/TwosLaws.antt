@@ -1,5 +1,6 @@
 -- Signed numbers from unsigned ones: a difference of two unsigned numbers as an `i64`, and the w bits of a number as two's complement.
 -- Assumes nothing.
+use Rattle.std.specs.Prelude.{if◌then◌else◌}
 use mathlib.Core.Path.{◌≡◌, refl, sym, ap, ◌∙◌}
 use mathlib.Core.Bool.{Bool, true, false, cond}
 use Prim.Native.Nat.{ℕ, zero, suc, ◌+◌, ◌-◌, ◌*◌, ◌%◌, ◌^◌, ◌≤◌, ◌<◌}
@@ -12,7 +13,6 @@ use borrow.Author.Tests.{lt-ltb, le-ltb, ltb-true, ltb-false}
 use mir.Val.{SFits, to_z, of_z, hbits}
 use mir.Syntax.{Width, w32, w64}
 use mir.Facts.{to_z-of_z}
-use Rattle.bits.specs.Choice.{if◌then◌else◌}
 use Rattle.bits.specs.TwosComplement.{twos}
 
 pub sub_is : (a b : ℕ) → pos a -ℤ pos b ≡ sub_ℕ a b

@@ -1,5 +1,4 @@
 pub mod Sizes
-pub mod Choice
 pub mod Bits
 pub mod Runs
 pub mod Decimals

@@ -1,7 +1,6 @@
 -- The packed number (01, Bits and numbers): bytes of eight bits. A byte's low bit says whether another follows; its upper seven bits are
 -- value, the lowest group first. There are at most five bytes, and the fifth holds at most 15. A longer form than needed is accepted.
-use Rattle.std.specs.Prelude.{ℕ, zero, suc, ◌+◌, ◌-◌, ◌*◌, ◌/◌, ◌%◌, ◌^◌, leb, eqb}
-use Rattle.bits.specs.Choice.{if◌then◌else◌}
+use Rattle.std.specs.Prelude.{ℕ, zero, suc, ◌+◌, ◌-◌, ◌*◌, ◌/◌, ◌%◌, ◌^◌, List, [], ◌∷◌, leb, eqb, if◌then◌else◌}
 use Rattle.bits.specs.Bits.{field}
 use Rattle.bits.specs.declared.Packed.{Packed}
 use Rattle.bits.specs.declared.Packed.TheVariants.{Whole, Cut, GoesOn, Overflows}
@@ -44,3 +43,8 @@ pub record Number : Type 0 where
   pub start : ℕ
   pub bytes : ℕ
   pub value : ℕ
+
+-- the bits that some numbers take, eight for each byte
+abbrev pub bits_among : List Number → ℕ
+bits_among [] = 0
+bits_among (x ∷ l) = 8 * x.bytes + bits_among l

@@ -1,6 +1,5 @@
 -- Padded numbers (request 01): packed numbers of more bytes than their value needs, as zero in the bytes `01 00`. They are accepted like others.
-use Rattle.std.specs.Prelude.{ℕ, ◌+◌, ◌-◌, ◌*◌, ◌^◌, ◌<◌, ◌≡◌, Bool, ◌&&◌, List, [], ◌∷◌, ltb}
-use Rattle.bits.specs.Choice.{if◌then◌else◌}
+use Rattle.std.specs.Prelude.{ℕ, ◌+◌, ◌-◌, ◌*◌, ◌^◌, ◌<◌, ◌≡◌, Bool, ◌&&◌, List, [], ◌∷◌, ltb, if◌then◌else◌}
 use Rattle.bits.specs.Packed.{packed, Number}
 use Rattle.bits.specs.declared.Packed.{Packed}
 use Rattle.bits.specs.declared.Packed.TheVariants.{Whole, Cut, GoesOn, Overflows}

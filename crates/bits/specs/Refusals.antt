@@ -1,7 +1,6 @@
 -- Refusals as document 01 numbers them, and their order: stated once for all calls.
-use Rattle.std.specs.Prelude.{ℕ, Bool, List, [], ◌∷◌}
+use Rattle.std.specs.Prelude.{ℕ, Bool, List, [], ◌∷◌, if◌then◌else◌}
 use Rattle.std.proofs.Math.Option.{Option, none, some}
-use Rattle.bits.specs.Choice.{if◌then◌else◌}
 
 -- the number, and the values that 01's table names, in its order; a value that it doesn't name is 0
 pub record Numbered : Type 0 where

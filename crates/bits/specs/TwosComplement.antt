@@ -1,7 +1,6 @@
 -- Two's complement.
-use Rattle.std.specs.Prelude.{ℕ, ◌-◌, ◌^◌, ltb, ℤ, pos}
+use Rattle.std.specs.Prelude.{ℕ, ◌-◌, ◌^◌, ltb, ℤ, pos, if◌then◌else◌}
 use Rattle.std.proofs.Math.IntN.{sub_ℕ}
-use Rattle.bits.specs.Choice.{if◌then◌else◌}
 
 -- w bits as an integer: below half of 2 ^ w the number itself, from there on the number less 2 ^ w
 unfoldable pub twos : (w raw : ℕ) → ℤ

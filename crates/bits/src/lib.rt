@@ -5,6 +5,8 @@
 //
 // A position is a bit of the slice: eight to a byte, each byte's lowest first.
 
+#![tactic(auto)]
+
 pub mod copy;
 pub mod decimal;
 pub mod digits;
@@ -15,7 +17,7 @@ pub mod number;
 pub mod sizes;
 
 // What stands where a packed number is due, as the definitions have it; the code has `Found`.
-#[derive(Drop)]
+#[derive(Clone, Copy)]
 pub enum Packed {
     // The number, and how many bytes it takes.
     Whole(u32, u64),
@@ -28,7 +30,7 @@ pub enum Packed {
 }
 
 // The same as the code finds it: with a whole number, whether it is padded.
-#[derive(Drop)]
+#[derive(Clone, Copy)]
 pub enum Found {
     Whole(u32, u64, bool),
     Cut(u64),

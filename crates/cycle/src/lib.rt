@@ -1,5 +1,7 @@
 // The walkers' cycle (array.rs): a level, the fields of an element, and a field call one another. They only match, lend and
 // call; every test on bits and every write is a step of the crate `steps`.
+#![tactic(auto)]
+
 ghost use Rattle.std.specs.Prelude.{◌≡◌, ◌&&◌, ◌-◌, ◌≤◌, eqb, take};
 ghost use Rattle.schema.specs.Tables.{tables};
 ghost use Rattle.framing.specs.Paths.{level_adds, element_adds};
@@ -16,7 +18,7 @@ use steps::tally::Tally;
 use steps::{Head, Kind};
 
 // How an element's fields end: closed, and the bit behind the zero handle; or not.
-#[derive(Drop)]
+#[derive(Clone, Copy)]
 pub enum After {
     Closed(u64),
     Open,

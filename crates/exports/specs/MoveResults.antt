@@ -1,9 +1,8 @@
 -- The answers of the vector, normal, rotation and movement readers as structs for C: the refusal's number and values, or zeros; what was read,
 -- or zeros; where the cursor stands, refused or not.
-use Rattle.std.specs.Prelude.{ℕ, true, false, eqb}
+use Rattle.std.specs.Prelude.{ℕ, true, false, eqb, if◌then◌else◌}
 use Rattle.std.specs.Float.{binary32, binary64}
 use Rattle.std.specs.Float.Ieee.{of_bits}
-use Rattle.bits.specs.Choice.{if◌then◌else◌}
 use Rattle.geometry.specs.Refusals.{numbered, stands_after_lem}
 use Rattle.geometry.specs.declared.Vector.{Vector}
 use Rattle.geometry.specs.declared.Rotation.{Rotation}

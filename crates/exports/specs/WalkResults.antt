@@ -1,9 +1,8 @@
 -- The answers of the walks, the merge, the schema and the fast array as structs for C: the refusal's number, or 0; the values that 01's table
 -- names, which an accepted call has too; then what only an accepted call gives, else 0. The verdict is a number of its own. A refused merge has
 -- the left counters.
-use Rattle.std.specs.Prelude.{ℕ, ◌≡◌, List, eqb, pos}
+use Rattle.std.specs.Prelude.{ℕ, ◌≡◌, List, eqb, pos, if◌then◌else◌}
 use Rattle.std.proofs.Math.Option.{Option, none, some}
-use Rattle.bits.specs.Choice.{if◌then◌else◌}
 use Rattle.bits.specs.Refusals.{Numbered}
 use Rattle.schema.specs.TwelveLevels.{row_numbers, name_bytes, level_count}
 use Rattle.schema.specs.Refusals.{filled_numbered}

@@ -1,9 +1,12 @@
-// The calls of the base for C: one static library, whose header is host/c/vrf.h.
+// The calls of the base for C, as functions of a library; crate exports_c hands each to C in one static library, whose header is
+// host/c/vrf.h.
 //
 // A slice is a pointer and a length, a result a struct by value: the refusal's number first, 0 where the call is accepted,
 // then the values of document 01's table in its order, then what an accepted call gives; what isn't named is 0, but for the
 // position that a refused read leaves. Only `vrf_verdict` and `vrf_byte_angle_steps`, which refuse nothing, give a plain
 // number. Each function takes the answer of one proved call apart; the definition that its contract cites is made of that call's.
+#![tactic(auto)]
+
 mod cursors;
 mod moves;
 mod walks;
@@ -20,7 +23,7 @@ ghost use Rattle.exports.specs.Calls.{vrf_merge_lem, vrf_verdict_lem, FillsForC,
 
 // The seven counters of a walk, in document 01's order.
 #[repr(C)]
-#[derive(Drop)]
+#[derive(Clone, Copy)]
 pub struct VrfCounters {
     pub elements: u64,
     pub fields: u64,
@@ -34,7 +37,7 @@ pub struct VrfCounters {
 // A struct or exact walk: what it fills of each output, or with refusal 3 what it needs. The verdict is 0 clean, 1 partial, 2
 // empty: nothing was sent. Padded: how many of the packed numbers that were read have a shorter form.
 #[repr(C)]
-#[derive(Drop)]
+#[derive(Clone, Copy)]
 pub struct VrfWalk {
     pub refusal: u32,
     pub leaves: u32,
@@ -47,7 +50,7 @@ pub struct VrfWalk {
 
 // An object walk: the same, of pairs. Its verdict is never empty: of no bits it is partial.
 #[repr(C)]
-#[derive(Drop)]
+#[derive(Clone, Copy)]
 pub struct VrfObjects {
     pub refusal: u32,
     pub pairs: u32,
@@ -58,7 +61,7 @@ pub struct VrfObjects {
 
 // Two walks' counters added up, or with refusal 4 the left ones.
 #[repr(C)]
-#[derive(Drop)]
+#[derive(Clone, Copy)]
 pub struct VrfMerge {
     pub refusal: u32,
     pub counters: VrfCounters,
@@ -66,7 +69,7 @@ pub struct VrfMerge {
 
 // The twelve levels: the numbers of the rows, the bytes of the names, the levels.
 #[repr(C)]
-#[derive(Drop)]
+#[derive(Clone, Copy)]
 pub struct VrfSchema {
     pub refusal: u32,
     pub rows: usize,
@@ -77,7 +80,7 @@ pub struct VrfSchema {
 // A fast-array body: what it fills of each output, or with refusal 3 what it needs; its keys, the bits used, and the padded ones among its
 // packed numbers.
 #[repr(C)]
-#[derive(Drop)]
+#[derive(Clone, Copy)]
 pub struct VrfFastArray {
     pub refusal: u32,
     pub deletes: u32,
@@ -91,7 +94,7 @@ pub struct VrfFastArray {
 
 // A cursor: its window's first bit, the next bit of the window, the window's length.
 #[repr(C)]
-#[derive(Drop)]
+#[derive(Clone, Copy)]
 pub struct VrfCursor {
     pub start: u64,
     pub pos: u64,
@@ -100,7 +103,7 @@ pub struct VrfCursor {
 
 // A bit read or a copy, and where the cursor stands after it, refused or not.
 #[repr(C)]
-#[derive(Drop)]
+#[derive(Clone, Copy)]
 pub struct VrfRead {
     pub refusal: u32,
     pub first: u64,
@@ -112,7 +115,7 @@ pub struct VrfRead {
 
 // A packed number, with the bytes that it took, and whether fewer would do; refused, these are 0 and false.
 #[repr(C)]
-#[derive(Drop)]
+#[derive(Clone, Copy)]
 pub struct VrfPacked {
     pub refusal: u32,
     pub first: u64,
@@ -125,7 +128,7 @@ pub struct VrfPacked {
 }
 
 #[repr(C)]
-#[derive(Drop)]
+#[derive(Clone, Copy)]
 pub struct VrfXyz {
     pub x: f64,
     pub y: f64,
@@ -134,7 +137,7 @@ pub struct VrfXyz {
 
 // In degrees.
 #[repr(C)]
-#[derive(Drop)]
+#[derive(Clone, Copy)]
 pub struct VrfAngles {
     pub pitch: f32,
     pub yaw: f32,
@@ -142,7 +145,7 @@ pub struct VrfAngles {
 }
 
 #[repr(C)]
-#[derive(Drop)]
+#[derive(Clone, Copy)]
 pub struct VrfVector {
     pub refusal: u32,
     pub first: u64,
@@ -153,7 +156,7 @@ pub struct VrfVector {
 }
 
 #[repr(C)]
-#[derive(Drop)]
+#[derive(Clone, Copy)]
 pub struct VrfRotation {
     pub refusal: u32,
     pub first: u64,
@@ -165,7 +168,7 @@ pub struct VrfRotation {
 
 // An angular velocity that may be absent.
 #[repr(C)]
-#[derive(Drop)]
+#[derive(Clone, Copy)]
 pub struct VrfSpin {
     pub present: bool,
     pub velocity: VrfXyz,
@@ -173,14 +176,14 @@ pub struct VrfSpin {
 
 // A frame or a handle that may be absent.
 #[repr(C)]
-#[derive(Drop)]
+#[derive(Clone, Copy)]
 pub struct VrfNumber {
     pub present: bool,
     pub value: u32,
 }
 
 #[repr(C)]
-#[derive(Drop)]
+#[derive(Clone, Copy)]
 pub struct VrfMovement {
     pub refusal: u32,
     pub first: u64,
@@ -202,8 +205,7 @@ pub struct VrfMovement {
 
 // A root of 4294967295 means no schema, a declared row that starts there, with length 0, no declared name; a kept tail's leaf
 // has it as its handle.
-#[unsafe(no_mangle)]
-pub extern "C" fn vrf_struct_array<'a>(
+pub fn vrf_struct_array<'a>(
     bytes: &[u8],
     bits: u32,
     rows: &[u32],
@@ -238,8 +240,7 @@ pub extern "C" fn vrf_struct_array<'a>(
     walks::walk_of(answer)
 }
 
-#[unsafe(no_mangle)]
-pub extern "C" fn vrf_struct_array_exact(
+pub fn vrf_struct_array_exact(
     bytes: &[u8],
     bits: u32,
     declared: &[u32],
@@ -264,16 +265,14 @@ pub extern "C" fn vrf_struct_array_exact(
     walks::walk_of(answer)
 }
 
-#[unsafe(no_mangle)]
-pub extern "C" fn vrf_object_array(bytes: &[u8], bits: u32, pairs: &mut [u32]) -> VrfObjects
+pub fn vrf_object_array(bytes: &[u8], bits: u32, pairs: &mut [u32]) -> VrfObjects
     ensures { WalksPairs bytes.now bits pairs.old result pairs.new }
 {
     let answer = array::decode_object_ref_array(bytes, bits, pairs);
     walks::objects_of(answer)
 }
 
-#[unsafe(no_mangle)]
-pub extern "C" fn vrf_merge(left: VrfCounters, right: VrfCounters) -> VrfMerge
+pub fn vrf_merge(left: VrfCounters, right: VrfCounters) -> VrfMerge
     ensures { result ≡ vrf_merge_lem left right }
 {
     let a = walks::stats_of(left);
@@ -284,8 +283,7 @@ pub extern "C" fn vrf_merge(left: VrfCounters, right: VrfCounters) -> VrfMerge
 
 // Of a set of counters, of one walk or of several added up: 0 clean, 1 partial. The rule on no bits is a window's, whose verdict
 // stands in its walk's struct.
-#[unsafe(no_mangle)]
-pub extern "C" fn vrf_verdict(counters: VrfCounters) -> u32
+pub fn vrf_verdict(counters: VrfCounters) -> u32
     ensures { result ≡ vrf_verdict_lem counters }
 {
     let stats = walks::stats_of(counters);
@@ -295,8 +293,7 @@ pub extern "C" fn vrf_verdict(counters: VrfCounters) -> u32
 
 // ---- the schema, and the fast array
 
-#[unsafe(no_mangle)]
-pub extern "C" fn vrf_schema(rows: &mut [u32], names: &mut [u8]) -> VrfSchema
+pub fn vrf_schema(rows: &mut [u32], names: &mut [u8]) -> VrfSchema
     ensures { FillsForC rows.old names.old result rows.new names.new }
 {
     let answer = schema::twelve::fill_schema(rows, names);
@@ -304,8 +301,7 @@ pub extern "C" fn vrf_schema(rows: &mut [u32], names: &mut [u8]) -> VrfSchema
 }
 
 // `checksum`: 0 if no flag stands between an item's id and its fields; any other number if one does.
-#[unsafe(no_mangle)]
-pub extern "C" fn vrf_fast_array(
+pub fn vrf_fast_array(
     payload: &[u8],
     bits: u32,
     checksum: u32,
@@ -324,8 +320,7 @@ pub extern "C" fn vrf_fast_array(
 
 // ---- bit reads
 
-#[unsafe(no_mangle)]
-pub extern "C" fn vrf_read_bits(bytes: &[u8], cursor: VrfCursor, count: u64) -> VrfRead
+pub fn vrf_read_bits(bytes: &[u8], cursor: VrfCursor, count: u64) -> VrfRead
     ensures { result ≡ vrf_read_bits_lem bytes.now cursor count }
 {
     let c = cursors::cursor_of(cursor);
@@ -333,8 +328,7 @@ pub extern "C" fn vrf_read_bits(bytes: &[u8], cursor: VrfCursor, count: u64) -> 
     cursors::bits_of(answer, c.pos)
 }
 
-#[unsafe(no_mangle)]
-pub extern "C" fn vrf_read_packed(bytes: &[u8], cursor: VrfCursor) -> VrfPacked
+pub fn vrf_read_packed(bytes: &[u8], cursor: VrfCursor) -> VrfPacked
     ensures { result ≡ vrf_read_packed_lem bytes.now cursor }
 {
     let c = cursors::cursor_of(cursor);
@@ -342,8 +336,7 @@ pub extern "C" fn vrf_read_packed(bytes: &[u8], cursor: VrfCursor) -> VrfPacked
     cursors::packed_of(answer, c.pos)
 }
 
-#[unsafe(no_mangle)]
-pub extern "C" fn vrf_read_serialized(bytes: &[u8], cursor: VrfCursor, maximum: u32) -> VrfRead
+pub fn vrf_read_serialized(bytes: &[u8], cursor: VrfCursor, maximum: u32) -> VrfRead
     ensures { result ≡ vrf_read_serialized_lem bytes.now cursor maximum }
 {
     let c = cursors::cursor_of(cursor);
@@ -351,13 +344,7 @@ pub extern "C" fn vrf_read_serialized(bytes: &[u8], cursor: VrfCursor, maximum: 
     cursors::serialized_of(answer, c.pos)
 }
 
-#[unsafe(no_mangle)]
-pub extern "C" fn vrf_copy_bits(
-    bytes: &[u8],
-    cursor: VrfCursor,
-    count: u64,
-    target: &mut [u8],
-) -> VrfRead
+pub fn vrf_copy_bits(bytes: &[u8], cursor: VrfCursor, count: u64, target: &mut [u8]) -> VrfRead
     ensures { CopiesForC bytes.now cursor count target.old result target.new }
 {
     let c = cursors::cursor_of(cursor);
@@ -367,8 +354,7 @@ pub extern "C" fn vrf_copy_bits(
 
 // ---- vectors, rotations, movement
 
-#[unsafe(no_mangle)]
-pub extern "C" fn vrf_vector(bytes: &[u8], cursor: VrfCursor, scale: u32) -> VrfVector
+pub fn vrf_vector(bytes: &[u8], cursor: VrfCursor, scale: u32) -> VrfVector
     ensures { result ≡ vrf_vector_lem bytes.now cursor scale }
 {
     let c = cursors::cursor_of(cursor);
@@ -376,8 +362,7 @@ pub extern "C" fn vrf_vector(bytes: &[u8], cursor: VrfCursor, scale: u32) -> Vrf
     moves::vector_of(answer, c.pos)
 }
 
-#[unsafe(no_mangle)]
-pub extern "C" fn vrf_normal(bytes: &[u8], cursor: VrfCursor) -> VrfVector
+pub fn vrf_normal(bytes: &[u8], cursor: VrfCursor) -> VrfVector
     ensures { result ≡ vrf_normal_lem bytes.now cursor }
 {
     let c = cursors::cursor_of(cursor);
@@ -385,8 +370,7 @@ pub extern "C" fn vrf_normal(bytes: &[u8], cursor: VrfCursor) -> VrfVector
     moves::vector_of(answer, c.pos)
 }
 
-#[unsafe(no_mangle)]
-pub extern "C" fn vrf_rotation(bytes: &[u8], cursor: VrfCursor, width: u32) -> VrfRotation
+pub fn vrf_rotation(bytes: &[u8], cursor: VrfCursor, width: u32) -> VrfRotation
     ensures { result ≡ vrf_rotation_lem bytes.now cursor width }
 {
     let c = cursors::cursor_of(cursor);
@@ -395,13 +379,7 @@ pub extern "C" fn vrf_rotation(bytes: &[u8], cursor: VrfCursor, width: u32) -> V
 }
 
 // `rotation`: 0 for 8 bits an axis, any other number for 16. `location`: 0 for the scale 1, 1 for 10, any other number for 100.
-#[unsafe(no_mangle)]
-pub extern "C" fn vrf_movement(
-    bytes: &[u8],
-    count: u64,
-    rotation: u32,
-    location: u32,
-) -> VrfMovement
+pub fn vrf_movement(bytes: &[u8], count: u64, rotation: u32, location: u32) -> VrfMovement
     ensures { result ≡ vrf_movement_lem bytes.now count rotation location }
 {
     let width = moves::rotation_kind(rotation);
@@ -410,8 +388,7 @@ pub extern "C" fn vrf_movement(
     moves::movement_of(answer)
 }
 
-#[unsafe(no_mangle)]
-pub extern "C" fn vrf_byte_angle_steps(k: u32) -> u32
+pub fn vrf_byte_angle_steps(k: u32) -> u32
     ensures { result ≡ byte_angle_steps_lem k }
 {
     geometry::byte_angle_steps(k)

@@ -1,4 +1,5 @@
 -- Bits outside the window alter nothing: the body is found in the window's number and the number of bytes alone.
+use Rattle.std.specs.Prelude.{if◌then◌else◌}
 use Prim.Native.Nat.{ℕ, ◌+◌, ◌<◌}
 use mathlib.Core.Path.{◌≡◌, refl, ap, ap₂}
 use mathlib.Core.List.{List}
@@ -6,7 +7,6 @@ use mathlib.Core.Option.{Option, none}
 use lib.ListN.{length}
 use lib.Dec.{ltb, eqb}
 use borrow.Author.Tests.{ne_eqb}
-use Rattle.bits.specs.Choice.{if◌then◌else◌}
 use Rattle.bits.specs.Bits.{num, field}
 use Rattle.bits.specs.Runs.{bytes_for}
 use Rattle.bits.proofs.FieldLaws.{field_same}

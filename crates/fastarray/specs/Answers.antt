@@ -1,7 +1,6 @@
 -- What `decode_fast_array_delta` answers and what it leaves in the lent buffers, as functions of the call's inputs alone.
-use Rattle.std.specs.Prelude.{ℕ, ◌/◌, ◌≡◌, Bool, ◌&&◌, List, [], length, leb, ltb, eqb, ℤ}
+use Rattle.std.specs.Prelude.{ℕ, ◌/◌, ◌≡◌, Bool, ◌&&◌, List, [], length, leb, ltb, eqb, ℤ, if◌then◌else◌}
 use Rattle.std.proofs.Math.Option.{Option, none, some}
-use Rattle.bits.specs.Choice.{if◌then◌else◌}
 use Rattle.bits.specs.Runs.{bytes_for, filled}
 use Rattle.bits.specs.Sizes.{longest_window}
 use Rattle.fastarray.specs.Body.{window, flag_bits_lem, Item, Body, body_of, fields_of}

@@ -5,9 +5,8 @@
 --     field   = handle + 1 (packed), width (packed), `width` bits of payload
 --
 -- Keys, counts and ids are i32. The window is a number W of len bits.
-use Rattle.std.specs.Prelude.{ℕ, zero, suc, ◌+◌, ◌-◌, ◌*◌, ◌^◌, Bool, ◌&&◌, List, [], ◌∷◌, ◌++◌, leb, ltb, eqb, ℤ}
+use Rattle.std.specs.Prelude.{ℕ, zero, suc, ◌+◌, ◌-◌, ◌*◌, ◌^◌, Bool, ◌&&◌, List, [], ◌∷◌, ◌++◌, leb, ltb, eqb, ℤ, if◌then◌else◌}
 use Rattle.std.proofs.Math.Option.{Option, none, some}
-use Rattle.bits.specs.Choice.{if◌then◌else◌}
 use Rattle.bits.specs.Bits.{num, field}
 use Rattle.bits.specs.Packed.{packed, Number}
 use Rattle.bits.specs.TwosComplement.{twos}

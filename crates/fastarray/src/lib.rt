@@ -6,6 +6,8 @@
 //
 // A body fills its window exactly. It is read twice: once lent nothing, which tells whether it is one and what it needs, and
 // once to write; nothing is written unless everything fits.
+#![tactic(auto)]
+
 mod fields;
 mod header;
 mod items;
@@ -26,14 +28,14 @@ use bits::sizes::LONGEST_WINDOW;
 const HEADER_BITS: u64 = 129;
 
 // Whether a flag bit stands between an item's id and its fields. Both modes can fit the same bits: the caller knows which it is.
-#[derive(Drop)]
+#[derive(Clone, Copy)]
 pub enum ChecksumMode {
     Absent,
     Present,
 }
 
 // The header of a body, and how much it holds.
-#[derive(Drop)]
+#[derive(Clone, Copy)]
 pub struct Delta {
     pub key: i32,
     pub base: i32,
@@ -47,7 +49,7 @@ pub struct Delta {
     pub padded: u32,
 }
 
-#[derive(Drop)]
+#[derive(Clone, Copy)]
 pub enum FastArray {
     Decoded(Delta),
     // 1: the window is longer than 524,288 bits.
@@ -61,14 +63,14 @@ pub enum FastArray {
 // ---- what the parts of a reading say
 
 // A packed number and its bytes.
-#[derive(Drop)]
+#[derive(Clone, Copy)]
 enum Taken {
     Broken,
     Value(u32, u64),
 }
 
 // What stands where a handle number is due.
-#[derive(Drop)]
+#[derive(Clone, Copy)]
 enum FieldHead {
     // A number that can't be read, or a payload that passes the window.
     Broken,
@@ -79,20 +81,20 @@ enum FieldHead {
 }
 
 // The fields so far, the bit behind the item, and the padded numbers so far.
-#[derive(Drop)]
+#[derive(Clone, Copy)]
 enum FieldsRead {
     Broken,
     Read(u64, u64, u64),
 }
 
 // The fields so far, the bit behind the last item, and the padded numbers so far.
-#[derive(Drop)]
+#[derive(Clone, Copy)]
 enum ItemsRead {
     Broken,
     Read(u64, u64, u64),
 }
 
-#[derive(Drop)]
+#[derive(Clone, Copy)]
 enum BodyMeasure {
     NotFastArray,
     Body(Delta),

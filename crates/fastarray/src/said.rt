@@ -6,7 +6,7 @@ ghost use Rattle.fastarray.specs.Refusals.{said, saying_as};
 use crate::FastArray;
 
 // The number, and what the buffers need; of the other refusals the three are 0.
-#[derive(Drop)]
+#[derive(Clone, Copy)]
 pub struct Saying {
     pub number: u32,
     pub deletes: u32,

@@ -1,5 +1,7 @@
 // The numbers of the vector, normal and rotation readers, in IEEE 754's terms (vrf-bitio/src/lib.rs, decode/geometry.rs).
 // The functions here ask for their ranges by a `requires`; the crate geometry calls them with bits that were read.
+#![tactic(auto)]
+
 pub mod byte_angles;
 
 ghost use Rattle.std.specs.Prelude.{◌≡◌, ◌^◌, ◌<◌, ◌≤◌, true, from_bits};

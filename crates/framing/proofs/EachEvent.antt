@@ -52,7 +52,7 @@ pieces k =
       empty = λ h w e. tt;
       ended = λ w path place p e. (tt, tt);
       failed = λ w path place p h. (tt, tt);
-      limited = λ w path place p h. (tt, tt);
+      limited = λ w path place p e. (tt, tt);
       left = λ w path p h. (tt, tt);
       silent = λ w path e. tt;
     }
@@ -76,6 +76,7 @@ object_pieces t lvl =
       longer = λ h w x q r. (tt, (tt, tt));
       unread = λ h w some. (tt, tt);
       passed = λ h w some. (tt, tt);
+      skipped = λ w place p h. (tt, tt);
     }
 
 kind_pieces : (k : Walker) → KindPieces k (whole (tables_of k)) (may k)

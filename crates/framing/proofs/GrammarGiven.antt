@@ -10,7 +10,6 @@ use borrow.Author.Tests.{eq-eqb, ne_eqb}
 use Rattle.schema.specs.Tables.{Tables, child}
 use Rattle.schema.specs.Labels.{at_index}
 use Rattle.schema.specs.declared.Child.{Child}
-use Rattle.schema.specs.declared.Child.TheVariants as Child
 use Rattle.framing.specs.Windows.{Window}
 use Rattle.framing.specs.Events as Ev
 use Rattle.framing.specs.Events.{Leaf, Pair, Event, number, nested, leaves, pairs, Trace}
@@ -99,6 +98,7 @@ nested_given : (deeper : ℕ) (t : Tables) (takes : Bool) (lvl : ℕ) (a : Array
     → leaves (on_child t lvl (λ below path handle w. Ev.array (entered_at path w) ∷ level (struct_sink deeper t takes nested below) w path) path h
     (window_at o p (array_bits (content_bits deeper) a)) c)
     ≡ nested_leaves (λ below longer. struct_leaves deeper t below (o + p) longer a) t lvl path h c
+nested_given deeper t takes lvl a path h o p b inside Child.Leaf k = elim k [ ]
 nested_given deeper t takes lvl a path h o p b inside (Child.Array below) (array some inner) =
     let v = window_at o p (array_bits (content_bits deeper) a) in
     rw (ne_eqb (array_bits (content_bits deeper) a).size 0 (λ z. omega arith))
@@ -208,6 +208,7 @@ nested_count : (deeper : ℕ) (t : Tables) (takes : Bool) (lvl : ℕ) (a : Array
     → entered (on_child t lvl (λ below path handle w. Ev.array (entered_at path w) ∷ level (struct_sink deeper t takes nested below) w path) path h
     (window_at o p (array_bits (content_bits deeper) a)) c)
     ≡ array_count_lem (content_count deeper) a
+nested_count deeper t takes lvl a path h o p b inside Child.Leaf k = elim k [ ]
 nested_count deeper t takes lvl a path h o p b inside (Child.Array below) (array some inner) =
     let v = window_at o p (array_bits (content_bits deeper) a) in
     let z = inside below inner v (whole_span v (array_bits (content_bits deeper) a) b refl) (array_path t lvl path h) in

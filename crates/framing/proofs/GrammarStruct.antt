@@ -11,7 +11,6 @@ use borrow.Author.Tests.{eqb-true, eqb-false, eq-eqb, ne_eqb}
 use Rattle.bits.specs.Bits.{field}
 use Rattle.schema.specs.Tables.{Tables, child}
 use Rattle.schema.specs.declared.Child.{Child}
-use Rattle.schema.specs.declared.Child.TheVariants as Child
 use Rattle.framing.specs.Windows.{Window}
 use Rattle.framing.specs.Events as Ev
 use Rattle.framing.specs.Events.{Event, number, element, truncation, nested, Trace}
@@ -240,7 +239,9 @@ walked_struct (suc deeper) t takes leftover lvl none a ok w sp path =
 
     always : Inside → (i : ℕ) (path : List ℕ) (first : Bool) (h : ℕ) (x : G.Content (suc deeper)) → allowed_in (suc deeper) t.rows takes lvl first h x → (o p : ℕ)
         → Fine ((struct_sink (suc deeper) t takes leftover lvl).field i path first h (window_at o p (content_bits (suc deeper) x)))
-    always inside i path first h (plain b) y o p = plain_fine t lvl _ path h (window_at o p b) (child t.rows lvl h) y.1
+    always inside i path first h (plain b) y o p =
+        plain_fine t lvl (λ below path handle v. Ev.array (entered_at path v) ∷ level (struct_sink deeper t takes nested below) v path) path h
+        (window_at o p b) (child t.rows lvl h) y.1
     always inside i path first h (G.nested z) y o p =
         nested_fine deeper t takes lvl z (λ below u v q place. inside below z u v q place) path h o p y
         (nested_below deeper t.rows takes z (λ l f k x q. allowed_below deeper t.rows takes l f k x q) y)

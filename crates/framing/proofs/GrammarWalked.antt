@@ -16,7 +16,7 @@ use Rattle.bits.specs.Packed.{Number}
 use Rattle.bits.specs.Sizes.{max_elements, max_fields, trailer_bits}
 use Rattle.framing.specs.Windows.{Window, part, got, reading}
 use Rattle.framing.specs.Events.{number, element, Trace}
-use Rattle.framing.specs.Walk.{Sink, number_at, opens, closed, done, prepend, on_field, on_last_field, fields, closing, in_item, behind, on_index, on_last_index, elements, on_count, level}
+use Rattle.framing.specs.Walk.{Sink, number_at, opens, done, prepend, on_field, on_last_field, fields, closing, in_item, behind, on_index, on_last_index, elements, on_count, level}
 use Rattle.framing.specs.Grammar.{Bits, ◌then◌, Num, packed_bits, num_bits, IsNum, Field, Element, Array, field_bits, fields_bits, element_bits, elements_bits, trailing, array_bits}
 use Rattle.framing.specs.GrammarRules.{Each, FieldOk, FieldsOk, ElementOk, ArrayOk}
 use Rattle.framing.proofs.StepLaws.{fields_last, fields_step, fields_present, elements_last, elements_step, level_count_lem, count_allowed, index_allowed}

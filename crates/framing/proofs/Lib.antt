@@ -5,6 +5,7 @@ pub mod WalkVerdicts
 pub mod Demand3
 pub mod CasesProved
 pub mod PaddedCasesProved
+pub mod AccountCasesProved
 pub mod PlacedCasesProved
 pub mod TraceLaws
 pub mod StepLaws
@@ -19,6 +20,11 @@ pub mod Bounded
 pub mod PaddedTaken
 pub mod NumbersTaken
 pub mod Places
+pub mod Divided
+pub mod Accounted
+pub mod LeafOrder
+pub mod TailAtAnEmptyLeaf
+pub mod PayloadBits
 pub mod PairOrder
 pub mod RefusingLaws
 pub mod NumberBits

@@ -7,7 +7,7 @@ use mathlib.Core.List.{List, [], ◌∷◌, ◌++◌}
 use native.Mathlib.Omega.{arith}
 use lib.ListN.{length}
 use lib.Dec.{ltb, eqb}
-use borrow.Author.Tests.{ltb-true, eqb-true, eqb-false}
+use borrow.Author.Tests.{ltb-true, ltb-false, eqb-true, eqb-false}
 use Rattle.bits.specs.Packed.{Number}
 use Rattle.bits.specs.Sizes.{levels_below, max_elements}
 use Rattle.schema.specs.Tables.{Tables, child}
@@ -78,7 +78,7 @@ pub record Pieces (P : Property) : Type 0 where
   pub empty : (h : ℕ) (w : Window) → w.size ≡ 0 → P.Gave h w []  -- an array without payload; in an object walk any field without
   pub ended : (w : Window) (path place : List ℕ) (p : ℕ) → p ≡ w.size → P.Stop w path place p (implicit ∷ [])
   pub failed : (w : Window) (path place : List ℕ) (p : ℕ) → p ≤ w.size → P.Stop w path place p (error ∷ [])
-  pub limited : (w : Window) (path place : List ℕ) (p : ℕ) → p ≤ w.size → P.Stop w path place p (truncation ∷ [])  -- with no tail kept
+  pub limited : (w : Window) (path place : List ℕ) (p : ℕ) → p ≡ w.size → P.Stop w path place p (truncation ∷ [])  -- with nothing left to keep
   pub left : (w : Window) (path : List ℕ) (p : ℕ) → p ≤ w.size → P.Stop w path path p (root (w.size - p) ∷ [])
   pub silent : (w : Window) (path : List ℕ) → w.size ≡ 0 → P.Stop w path path 0 []
 
@@ -97,7 +97,7 @@ pub record StructPieces (t : Tables) (K : Known t) (P : Property) : Type 0 where
       → P.Stop w (array_path t lvl path h) (array_path t lvl path h) 0 a → P.Gave h w (array (entered_at (array_path t lvl path h) w) ∷ a)
   pub left : (w : Window) (path : List ℕ) (p : ℕ) → p ≤ w.size → P.Stop w path path p (nested (w.size - p) ∷ [])
 
--- In object walks: an element is entered; a field is an object's number, another number, none, or behind the first.
+-- In object walks: an element is entered; a field is an object's number, another number, none, or behind the first; a tail is skipped.
 pub record ObjectPieces (P : Property) : Type 0 where
   pub enter : (w : Window) (x : Number) (p q : ℕ) (a : Trace) → Read w x p q → P.Stop w [] [] q a → P.Stop w [] [] p (number x ∷ element [] ∷ a)
   pub guid : (h : ℕ) (w : Window) (x : Number) (i : ℕ) → Read w x 0 w.size
@@ -105,6 +105,7 @@ pub record ObjectPieces (P : Property) : Type 0 where
   pub longer : (h : ℕ) (w : Window) (x : Number) (q : ℕ) → Read w x 0 q → P.Gave h w (number x ∷ error ∷ [])  -- bits are left behind the number
   pub unread : (h : ℕ) (w : Window) → 0 < w.size → P.Gave h w (error ∷ [])
   pub passed : (h : ℕ) (w : Window) → 0 < w.size → P.Gave h w (nested w.size ∷ [])
+  pub skipped : (w : Window) (place : List ℕ) (p : ℕ) → p ≤ w.size → P.Stop w [] place p (truncation ∷ [])
 
 -- ---- struct levels
 
@@ -138,7 +139,7 @@ module _ (t : Tables) (K : Known t) (P : Property) (𝓟 : Pieces P) (𝓢 : Str
           go : (x : Bool) → ltb p w.size ≡ x
               → P.Stop w path place p (truncation ∷ tail (struct_sink_over into t trailer leftover lvl) w place p)
           go true e = rw e (𝓢.kept w p deeper path place fit pos (ltb-true p w.size e) here)
-          go false e = rw e (𝓟.limited w path place p h)
+          go false e = let all = ltb-false p w.size e in rw e (𝓟.limited w path place p (omega arith))
 
       over_holds : P.Stop w path path 0 (level (struct_sink_over into t trailer leftover lvl) w path)
       unfolding in_item
@@ -211,7 +212,7 @@ module _ (P : Property) (𝓟 : Pieces P) (𝓞 : ObjectPieces P) where
             𝓟.field w [] x y h p q r _ says a b within (object_field_holds h i first (part w r y.value));
         ended = λ {p} {place} h k. 𝓟.ended w [] place p (omega arith);
         failed = λ {p} {place} h. 𝓟.failed w [] place p h;
-        limited = λ {p} {place} pos h here. 𝓟.limited w [] place p h;
+        limited = λ {p} {place} pos h here. 𝓞.skipped w place p h;
         left = λ {p} h. 𝓟.left w [] p h;
       })
 

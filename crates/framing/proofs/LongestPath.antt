@@ -71,7 +71,7 @@ pieces =
       empty = λ h w e. tt;
       ended = λ w path place p e. tt;
       failed = λ w path place p h. tt;
-      limited = λ w path place p h. tt;
+      limited = λ w path place p e. tt;
       left = λ w path p h. tt;
       silent = λ w path e. tt;
     }
@@ -95,6 +95,7 @@ object_pieces =
       longer = λ h w x q r. tt;
       unread = λ h w some. tt;
       passed = λ h w some. tt;
+      skipped = λ w place p h. tt;
     }
 
 -- where a walk gives leaves, its labels lie in their pools; so they do where its tables keep their layout

@@ -65,7 +65,7 @@ pieces =
       empty = λ h w e. tt;
       ended = λ w path place p e. tt;
       failed = λ w path place p h. tt;
-      limited = λ w path place p h. tt;
+      limited = λ w path place p e. tt;
       left = λ w path p h. tt;
       silent = λ w path e. tt;
     }
@@ -89,6 +89,7 @@ object_pieces =
       longer = λ h w x q r. (at_read w x 0 q r, tt);
       unread = λ h w some. tt;
       passed = λ h w some. tt;
+      skipped = λ w place p h. tt;
     }
 
 kind_pieces : (k : Walker) → KindPieces k (anywhere (tables_of k)) stand

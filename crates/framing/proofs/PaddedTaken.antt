@@ -51,7 +51,7 @@ pieces =
       empty = λ h w e. takes_none 0 w.size (omega arith);
       ended = λ w path place p e. takes_none p w.size (omega arith);
       failed = λ w path place p h. takes_none p w.size h;
-      limited = λ w path place p h. takes_none p w.size h;
+      limited = λ w path place p e. takes_none p w.size (omega arith);
       left = λ w path p h. takes_none p w.size h;
       silent = λ w path e. takes_none 0 w.size (omega arith);
     }
@@ -75,6 +75,7 @@ object_pieces =
       longer = λ h w x q r. read_takes w x [] 0 q w.size r (takes_none q w.size r.fits);
       unread = λ h w some. takes_none 0 w.size (omega arith);
       passed = λ h w some. takes_none 0 w.size (omega arith);
+      skipped = λ w place p h. takes_none p w.size h;
     }
 
 kind_pieces : (k : Walker) → KindPieces k (anywhere (tables_of k)) takes

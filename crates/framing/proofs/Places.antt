@@ -33,6 +33,7 @@ abbrev EndsAt : ℕ → Range → Type 0
 EndsAt q s = s.start + s.width ≡ q
 
 rises : (p q : ℕ) (l : List Range) → All (Between p q) l → Any (EndsAt q) l → p ≤ q
+rises p q [] h k = elim k [ ]
 rises p q (s ∷ l) h (first e) = let a = h.0.starts in omega arith
 rises p q (s ∷ l) h (later k) = rises p q l h.1 k
 
@@ -265,7 +266,7 @@ pieces =
           record { inside = tt; reached = λ some. absurd (omega arith); put = λ e t b c x y heads whole. record { leaves = tt; arrays = tt } };
       ended = λ w path place p e. ending w path place p _ refl refl refl (omega arith);
       failed = λ w path place p h. ending w path place p _ refl refl refl h;
-      limited = λ w path place p h. ending w path place p _ refl refl refl h;
+      limited = λ w path place p e. ending w path place p _ refl refl refl (omega arith);
       left = λ w path p h. ending w path path p _ refl refl refl h;
       silent = λ w path e. ending w path path 0 _ refl refl refl (omega arith);
     }

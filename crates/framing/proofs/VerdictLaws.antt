@@ -1,11 +1,11 @@
 -- When a verdict is clean, partial or empty: each case of the definition, and what a verdict says of the window.
+use Rattle.std.specs.Prelude.{if◌then◌else◌}
 use mathlib.Core.Path.{◌≡◌, refl, ◌∙◌}
 use mathlib.Core.Bool.{Bool, true, false}
 use Prim.Native.Nat.{ℕ, ◌≤◌}
 use native.Mathlib.Omega.{arith}
 use lib.Dec.{eqb}
 use borrow.Author.Tests.{eqb-true, eqb-false, ne_eqb}
-use Rattle.bits.specs.Choice.{if◌then◌else◌}
 use Rattle.bits.proofs.ChoiceLaws.{by_cases, and_true}
 use Rattle.bits.proofs.Never.{never}
 use Rattle.framing.specs.declared.Walk.TheVariants as how

@@ -67,7 +67,7 @@ module _ (m : Event → ℕ) (stop : ℕ) (M : Weights m stop) where
         empty = λ h w e. omega arith;
         ended = λ w path place p e. let z = M.implicit in omega arith;
         failed = λ w path place p h. let z = M.error in omega arith;
-        limited = λ w path place p h. let z = M.truncation in omega arith;
+        limited = λ w path place p e. let z = M.truncation in omega arith;
         left = λ w path p h. let z = M.root (w.size - p) in omega arith;
         silent = λ w path e. omega arith;
       }
@@ -101,6 +101,7 @@ module _ (m : Event → ℕ) (stop : ℕ) (M : Weights m stop) where
         longer = λ h w x q r. let z = M.number x in let y = M.error in let l = M.light in omega arith;
         unread = λ h w some. let y = M.error in let l = M.light in omega arith;
         passed = λ h w some. let y = M.nested w.size in omega arith;
+        skipped = λ w place p h. let z = M.truncation in omega arith;
       }
 
   kind_pieces : (k : Walker) → KindPieces k (anywhere (tables_of k)) weighs

@@ -1,5 +1,6 @@
 -- The seven counters of a walk, and whether they are clean (01, Walking an array, behind rule 9); beside them, how many numbers were padded.
 use Rattle.std.specs.Prelude.{ℕ, ◌+◌, Bool, [], ◌∷◌, eqb}
+use Rattle.bits.specs.Packed.{bits_among}
 use Rattle.bits.specs.Padded.{padded_among}
 use Rattle.framing.specs.Events.{Event, number, element, array, leaf, pair, truncation, error, implicit, nested, root, Trace, taken}
 
@@ -47,3 +48,8 @@ is_clean c = eqb (faults c) 0
 -- Beside the counters and not among them: how many of the numbers that were taken are padded (request 01). Clean, verdict and sums don't look at it.
 abbrev pub padded_in : Trace → ℕ
 padded_in t = padded_among (taken t)
+
+-- The bits that all numbers that were taken have, at all levels, eight for each byte (request 06): added up from the numbers' own events, and shown in
+-- no answer.
+abbrev pub number_bits : Trace → ℕ
+number_bits t = bits_among (taken t)

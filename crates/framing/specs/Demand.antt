@@ -1,6 +1,5 @@
 -- Demand 3 (docs/RULES.md): what a cut window's walk has to do with the whole window's.
-use Rattle.std.specs.Prelude.{ℕ, ◌+◌, ◌<◌, ◌≡◌, true, List, [], ◌∷◌, ◌++◌, eqb}
-use Rattle.bits.specs.Choice.{if◌then◌else◌}
+use Rattle.std.specs.Prelude.{ℕ, ◌+◌, ◌<◌, ◌≡◌, true, List, [], ◌∷◌, ◌++◌, eqb, if◌then◌else◌}
 use Rattle.bits.specs.Bits.{field}
 use Rattle.bits.specs.Sizes.{trailer_bits}
 use Rattle.framing.specs.Windows.{Window}

@@ -4,7 +4,6 @@ use Rattle.std.specs.Prelude.{ℕ, zero, suc, ◌+◌, ◌-◌, ◌*◌, List, [
 use Rattle.schema.specs.Tables.{Tables, child}
 use Rattle.schema.specs.Labels.{at_index, dot, label_bytes, container_label_lem, leaf_label}
 use Rattle.schema.specs.declared.Child.{Child}
-use Rattle.schema.specs.declared.Child.TheVariants as Child
 use Rattle.framing.specs.Events.{Leaf, Pair}
 use Rattle.framing.specs.Grammar.{Bits, Field, field_bits, Element, element_bits, Array}
 use Rattle.framing.specs.GrammarRules.{Content, plain, nested, content_bits, Reference, no_guid, guid}

@@ -4,7 +4,6 @@ use Rattle.std.specs.Prelude.{ℕ, zero, suc, ◌-◌, ◌^◌, ◌≤◌, ◌<�
 use Rattle.bits.specs.Sizes.{max_elements, max_fields}
 use Rattle.schema.specs.Tables.{child}
 use Rattle.schema.specs.declared.Child.{Child}
-use Rattle.schema.specs.declared.Child.TheVariants as Child
 use Rattle.schema.specs.declared.Child.TheVariants.{Leaf}
 use Rattle.framing.specs.Grammar.{Bits, no_bits_lem, Num, num_bits, IsNum, Field, Element, Array, array_bits}
 

@@ -5,6 +5,9 @@ pub mod Paths
 pub mod Places
 pub mod Walk
 pub mod Sinks
+pub mod Accounts
+pub mod LeafOrder
+pub mod Copies
 pub mod PairsBehind
 pub mod Verdicts
 pub mod Records
@@ -12,6 +15,7 @@ pub mod Refusing
 pub mod Demand
 pub mod Cases
 pub mod PaddedCases
+pub mod AccountCases
 pub mod PlacedCases
 pub mod Grammar
 pub mod GrammarRules

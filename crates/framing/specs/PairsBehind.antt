@@ -1,8 +1,7 @@
 -- The object walk as rule 8 words it: an element's pair is given behind its fields, whether it closes or not. `walk` (specs/Sinks) has the pair at
 -- the field that gives it, so that what a cut window gives is the beginning of what the whole one gives. No answer tells the two apart
 -- (proofs/PairOrder).
-use Rattle.std.specs.Prelude.{ℕ, zero, suc, ◌*◌, ◌≡◌, true, List, [], ◌∷◌, ◌++◌, length, ltb}
-use Rattle.bits.specs.Choice.{if◌then◌else◌}
+use Rattle.std.specs.Prelude.{ℕ, zero, suc, ◌*◌, ◌≡◌, true, List, [], ◌∷◌, ◌++◌, length, ltb, if◌then◌else◌}
 use Rattle.bits.specs.Sizes.{max_elements, max_fields}
 use Rattle.framing.specs.Windows.{Window, window_of, Reading, got, failed, reading}
 use Rattle.framing.specs.Events.{Pair, number, element, array, leaf, pair, truncation, error, implicit, nested, root, leaves, pairs, taken, Trace}

@@ -1,5 +1,5 @@
 -- Small windows as a table: a walk of a window, where each leaf lies, and where each array that was entered.
-use Rattle.std.specs.Prelude.{ℕ, zero, suc, ◌+◌, List, [], ◌∷◌, ◌++◌, map}
+use Rattle.std.specs.Prelude.{ℕ, zero, suc, ◌+◌, List, [], ◌∷◌, ◌++◌, map, get_or}
 use Rattle.bits.specs.Sizes.{max_fields}
 use Rattle.schema.specs.TwelveLevels.{twelve_levels, combat_rounds}
 use Rattle.framing.specs.Events.{Leaf, Entered, raw_handle, leaves, arrays, Trace}
@@ -78,3 +78,7 @@ placed_cases =
     -- a leaf behind a child that ends inside a byte
     placed_row (struct long_names 0) (0x02 ∷ 0x02 ∷ 0x02 ∷ 0x2A ∷ 0x00 ∷ 0x00 ∷ 0x80 ∷ 0x00 ∷ 0x62 ∷ 0x15 ∷ 0x00 ∷ 0x00 ∷ []) 93 (leaf_spot 1 69 8 ∷ []) (array_spot 32 21 ∷ []) ∷
     []
+
+-- the row of the tail in an element: it starts where the last leaf before it does, which is empty
+abbrev pub tail_behind_fields : PlacedCase
+tail_behind_fields = get_or placed_cases 4 (placed_row struct_walk [] 0 [] [])

@@ -1,6 +1,5 @@
 -- When a walk is refused, and what it needs (01, Refusal numbers): stated once for all three walks.
-use Rattle.std.specs.Prelude.{ℕ, Bool, not, ◌&&◌, length, leb, ltb}
-use Rattle.bits.specs.Choice.{if◌then◌else◌}
+use Rattle.std.specs.Prelude.{ℕ, Bool, not, ◌&&◌, length, leb, ltb, if◌then◌else◌}
 use Rattle.bits.specs.Sizes.{longest_window}
 use Rattle.framing.specs.Events.{leaves, Trace}
 use Rattle.framing.specs.Counters.{Counters, counters, padded_in}

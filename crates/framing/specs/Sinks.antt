@@ -1,6 +1,5 @@
 -- The three walks (array.rs; 01, Walking an array, rules 6, 8 and 9).
-use Rattle.std.specs.Prelude.{ℕ, zero, suc, ◌*◌, ◌≡◌, Bool, true, false, ◌&&◌, List, [], ◌∷◌, length, ltb, eqb}
-use Rattle.bits.specs.Choice.{if◌then◌else◌}
+use Rattle.std.specs.Prelude.{ℕ, zero, suc, ◌*◌, ◌≡◌, Bool, true, false, ◌&&◌, List, [], ◌∷◌, length, ltb, eqb, if◌then◌else◌}
 use Rattle.bits.specs.Sizes.{levels_below}
 use Rattle.schema.specs.Tables.{Tables, tables, no_tables, absent, child}
 use Rattle.schema.specs.declared.Child.{Child}

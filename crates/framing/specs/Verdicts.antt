@@ -1,6 +1,5 @@
 -- The verdict on a window that was walked, and on a set of counters (01, Walking an array, behind rule 9; request 05).
-use Rattle.std.specs.Prelude.{ℕ, eqb}
-use Rattle.bits.specs.Choice.{if◌then◌else◌}
+use Rattle.std.specs.Prelude.{ℕ, eqb, if◌then◌else◌}
 use Rattle.framing.specs.Counters.{Counters, is_clean}
 use Rattle.framing.specs.Sinks.{Walker, silent}
 

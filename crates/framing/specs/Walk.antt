@@ -1,7 +1,6 @@
 -- Walking an array level (array.rs; 01, Walking an array). The framing is stated once, for struct, exact and object walks: they differ in their
 -- Sink. The rules are numbered as in 01.
-use Rattle.std.specs.Prelude.{ℕ, zero, suc, ◌+◌, ◌-◌, ◌*◌, Bool, true, ◌&&◌, List, [], ◌∷◌, ◌++◌, leb, ltb, eqb}
-use Rattle.bits.specs.Choice.{if◌then◌else◌}
+use Rattle.std.specs.Prelude.{ℕ, zero, suc, ◌+◌, ◌-◌, ◌*◌, Bool, true, ◌&&◌, List, [], ◌∷◌, ◌++◌, leb, ltb, eqb, if◌then◌else◌}
 use Rattle.bits.specs.Bits.{field}
 use Rattle.bits.specs.Packed.{Number}
 use Rattle.bits.specs.Sizes.{max_elements, max_fields, trailer_bits}

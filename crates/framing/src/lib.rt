@@ -2,8 +2,10 @@
 //
 // A window is a number with a length, a walk is a list of events, and every answer is read off that list.
 
+#![tactic(auto)]
+
 // The walks: of an array of structs, of one without schema and trailer, of an array of object references.
-#[derive(Drop)]
+#[derive(Clone, Copy)]
 pub enum Walk {
     Struct,
     Exact,

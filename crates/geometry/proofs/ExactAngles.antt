@@ -1,4 +1,5 @@
 -- An accepted rotation's angles are exact: each is a number of 8 or 16 bits times a step that binary32 holds (floats, Rounding).
+use Rattle.std.specs.Prelude.{if◌then◌else◌}
 use Prim.Native.Nat.{ℕ, ◌^◌, ◌<◌}
 use mathlib.Core.Path.{◌≡◌, refl, sym, ap, ◌∙◌, subst}
 use mathlib.Core.Bool.{Bool, true, false, ◌||◌}
@@ -6,7 +7,6 @@ use mathlib.Core.List.{List}
 use native.Mathlib.Omega.{arith}
 use lib.Dec.{eqb}
 use borrow.Author.Tests.{eqb-true}
-use Rattle.bits.specs.Choice.{if◌then◌else◌}
 use Rattle.floats.specs.Numbers.{angle, Angle}
 use Rattle.floats.proofs.Rounding.{byte_exact, short_exact}
 use Rattle.bitio.specs.Cursors.{good, bad_cursor_lem, at_cursor}

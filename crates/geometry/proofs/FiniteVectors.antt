@@ -1,4 +1,5 @@
 -- An accepted vector's components are finite, as `checked` asks it of all three; a normal's are, as a quotient of two small integers is.
+use Rattle.std.specs.Prelude.{if◌then◌else◌}
 use Prim.Native.Nat.{ℕ, ◌/◌, ◌%◌}
 use mathlib.Core.Path.{◌≡◌, refl, subst}
 use mathlib.Core.Bool.{Bool, true, false, ◌&&◌}
@@ -7,7 +8,6 @@ use native.Mathlib.Omega.{arith}
 use lib.Dec.{eqb}
 use lib.Ieee.{Float, binary32, binary64, of_bits}
 use lib.Ieee.Scale.{finite}
-use Rattle.bits.specs.Choice.{if◌then◌else◌}
 use Rattle.bits.specs.TwosComplement.{twos}
 use Rattle.floats.specs.Numbers.{quotient, normal_axis_lem}
 use Rattle.floats.proofs.Finite.{normal_finite}

@@ -1,12 +1,12 @@
 -- Bits outside the window alter nothing: two sets of bytes whose windows have the same bits give the same answers, if there are as many or if the
 -- cursor is good in both. Every part is a read at some position of the one window.
+use Rattle.std.specs.Prelude.{if◌then◌else◌}
 use Prim.Native.Nat.{ℕ, ◌*◌, ◌≤◌}
 use mathlib.Core.Path.{◌≡◌, refl, ap, ◌∙◌}
 use mathlib.Core.Bool.{Bool, true, false}
 use mathlib.Core.List.{List}
 use lib.ListN.{length}
 use lib.Dec.{ltb}
-use Rattle.bits.specs.Choice.{if◌then◌else◌}
 use Rattle.bits.specs.Sizes.{longest_window}
 use Rattle.bitio.specs.Cursors.{bits_of, good, window, at_cursor, opened}
 use Rattle.bitio.proofs.CursorLaws.{good_true, good_le}

@@ -1,4 +1,5 @@
 -- The laws of parts: what three of them give, by how far the reads came, and how large the numbers are.
+use Rattle.std.specs.Prelude.{if◌then◌else◌}
 use Prim.Native.Nat.{ℕ, zero, suc, ◌+◌, ◌*◌, ◌/◌, ◌%◌, ◌^◌, ◌≤◌, ◌<◌}
 use mathlib.Core.Path.{◌≡◌, refl, sym, ap, ◌∙◌, subst}
 use mathlib.Core.Bool.{Bool, true, false}
@@ -8,7 +9,6 @@ use native.Mathlib.Omega.{arith}
 use lib.Dec.{leb, ltb, eqb}
 use lib.Pow.{pow_pos, shl_exact}
 use borrow.Author.Tests.{leb-false, le-leb, lt-leb}
-use Rattle.bits.specs.Choice.{if◌then◌else◌}
 use Rattle.bits.specs.Bits.{field}
 use Rattle.bits.proofs.FieldLaws.{field_lt}
 use Rattle.bitio.specs.Cursors.{good, window, bad_cursor_lem, at_cursor, asking, position_of}

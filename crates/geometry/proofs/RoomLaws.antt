@@ -1,4 +1,5 @@
 -- The laws of room that is tested once: bits that are there are fields of the bytes, and a part that stands in them is what its own read gives.
+use Rattle.std.specs.Prelude.{if◌then◌else◌}
 use Prim.Native.Nat.{ℕ, zero, suc, ◌+◌, ◌-◌, ◌*◌, ◌/◌, ◌%◌, ◌^◌, ◌≤◌, ◌<◌}
 use mathlib.Core.Path.{◌≡◌, refl, sym, ap, ap₂, ◌∙◌, subst}
 use mathlib.Core.Bool.{Bool, true, false}
@@ -8,7 +9,6 @@ use native.Mathlib.Omega.{arith}
 use lib.Dec.{ltb, eqb}
 use lib.Pow.{pow_pos, pow_mono}
 use borrow.Author.Tests.{le-leb, le-ltb, ne_eqb}
-use Rattle.bits.specs.Choice.{if◌then◌else◌}
 use Rattle.bits.specs.Bits.{num, field}
 use Rattle.bits.proofs.FieldLaws.{field_lt, field_low, field_high, field_field, field_empty, placed}
 use Rattle.bitio.specs.Cursors.{bits_of, good, window, bad_cursor_lem, at_cursor, asking, skipped, remaining_of}

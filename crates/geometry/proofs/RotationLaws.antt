@@ -1,4 +1,5 @@
 -- The laws of rotations.
+use Rattle.std.specs.Prelude.{if◌then◌else◌}
 use Prim.Native.Nat.{ℕ, ◌+◌}
 use mathlib.Core.Path.{◌≡◌, sym, ap, ◌∙◌}
 use mathlib.Core.Bool.{true, false, ◌||◌}
@@ -6,7 +7,6 @@ use mathlib.Core.List.{List}
 use lib.Dec.{eqb}
 use lib.Ieee.{Float}
 use borrow.Author.Tests.{eq-eqb, ne_eqb}
-use Rattle.bits.specs.Choice.{if◌then◌else◌}
 use Rattle.floats.specs.Numbers.{angle}
 use Rattle.bits.proofs.ChoiceLaws.{by_cases}
 use Rattle.bitio.specs.Cursors.{good, bad_cursor_lem, at_cursor, asking}

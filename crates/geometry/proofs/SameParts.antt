@@ -1,5 +1,6 @@
 -- Two lists of bytes give the same parts, one behind the other, wherever single reads are the same in both: a read that succeeds ends in the
 -- window, and the next one stands there.
+use Rattle.std.specs.Prelude.{if◌then◌else◌}
 use Prim.Native.Nat.{ℕ, ◌*◌, ◌/◌, ◌%◌, ◌≤◌}
 use mathlib.Core.Path.{◌≡◌, refl, sym, ap, ◌∙◌}
 use mathlib.Core.Bool.{Bool, true, false, ◌||◌, ◌&&◌}
@@ -7,7 +8,6 @@ use mathlib.Core.List.{List}
 use lib.Dec.{leb, eqb}
 use lib.Ieee.{Float, binary32, binary64, of_bits}
 use lib.Ieee.Scale.{finite}
-use Rattle.bits.specs.Choice.{if◌then◌else◌}
 use Rattle.bits.specs.Bits.{field}
 use Rattle.bits.specs.TwosComplement.{twos}
 use Rattle.floats.specs.Numbers.{quotient, angle}

@@ -1,4 +1,5 @@
 -- The laws of vectors and normals: what each way through the reads gives.
+use Rattle.std.specs.Prelude.{if◌then◌else◌}
 use Prim.Native.Nat.{ℕ, ◌/◌, ◌%◌, ◌^◌, ◌≤◌, ◌<◌}
 use mathlib.Core.Path.{◌≡◌, sym, ap, ◌∙◌}
 use mathlib.Core.Bool.{Bool, true, false}
@@ -8,7 +9,6 @@ use lib.Dec.{eqb}
 use lib.Ieee.{Float, binary32, binary64, of_bits}
 use lib.Ieee.Scale.{finite}
 use borrow.Author.Tests.{eq-eqb, ne_eqb}
-use Rattle.bits.specs.Choice.{if◌then◌else◌}
 use Rattle.bits.specs.TwosComplement.{twos}
 use Rattle.bits.proofs.TwosLaws.{twos_bound}
 use Rattle.floats.specs.Numbers.{quotient, normal_axis_lem}

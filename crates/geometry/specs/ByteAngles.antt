@@ -1,6 +1,5 @@
 -- A byte's angle as a whole number, for whoever keeps rotations so.
-use Rattle.std.specs.Prelude.{ℕ, ltb}
-use Rattle.bits.specs.Choice.{if◌then◌else◌}
+use Rattle.std.specs.Prelude.{ℕ, ltb, if◌then◌else◌}
 use Rattle.floats.specs.ByteAngles.{thirty_seconds}
 
 -- the answer for a number above 255; no byte has it, since 255 has 11475

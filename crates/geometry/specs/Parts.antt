@@ -1,6 +1,5 @@
 -- Parts of one kind, one after another: what is read three times for a vector, a normal or a rotation (01, Bits and numbers).
-use Rattle.std.specs.Prelude.{ℕ, ◌+◌, ◌*◌, ◌/◌, ◌%◌, ◌^◌, ◌<◌, true, false, List, leb}
-use Rattle.bits.specs.Choice.{if◌then◌else◌}
+use Rattle.std.specs.Prelude.{ℕ, ◌+◌, ◌*◌, ◌/◌, ◌%◌, ◌^◌, ◌<◌, true, false, List, leb, if◌then◌else◌}
 use Rattle.bits.specs.Bits.{field}
 use Rattle.bitio.specs.Reads.{read_bit_lem, read_bits_lem, widest_read}
 use Rattle.bitio.specs.Numbers.{read_serialized_int_lem}

@@ -1,6 +1,5 @@
 -- Rotations (01, Bits and numbers).
-use Rattle.std.specs.Prelude.{ℕ, ◌||◌, List, eqb, Float}
-use Rattle.bits.specs.Choice.{if◌then◌else◌}
+use Rattle.std.specs.Prelude.{ℕ, ◌||◌, List, eqb, Float, if◌then◌else◌}
 use Rattle.floats.specs.Numbers.{angle}
 use Rattle.bitio.specs.Cursors.{at_cursor}
 use Rattle.bitio.specs.declared.Cursor.{Cursor}

@@ -1,9 +1,8 @@
 -- Quantized vectors and fixed normals (01, Bits and numbers).
-use Rattle.std.specs.Prelude.{ℕ, ◌/◌, ◌%◌, ◌&&◌, List, eqb, Float}
+use Rattle.std.specs.Prelude.{ℕ, ◌/◌, ◌%◌, ◌&&◌, List, eqb, Float, if◌then◌else◌}
 use Rattle.std.specs.Float.{binary32, binary64}
 use Rattle.std.specs.Float.Ieee.{of_bits}
 use Rattle.std.specs.Float.Ieee.Scale.{finite}
-use Rattle.bits.specs.Choice.{if◌then◌else◌}
 use Rattle.bits.specs.TwosComplement.{twos}
 use Rattle.floats.specs.Numbers.{quotient, normal_axis_lem}
 use Rattle.bitio.specs.Cursors.{at_cursor}

@@ -11,6 +11,8 @@
 //
 // Every call takes any bytes, any cursor and any number, and answers with a value or with one of document 01's refusals. A
 // cursor goes in by value; an answer carries the next position.
+#![tactic(auto)]
+
 mod movements;
 mod parts;
 mod rotations;
@@ -27,7 +29,7 @@ use bitio::{Cursor, Measured, Opened};
 
 // ---- values
 
-#[derive(Drop)]
+#[derive(Clone, Copy)]
 pub struct Vector {
     pub x: f64,
     pub y: f64,
@@ -35,7 +37,7 @@ pub struct Vector {
 }
 
 // In degrees.
-#[derive(Drop)]
+#[derive(Clone, Copy)]
 pub struct Rotation {
     pub pitch: f32,
     pub yaw: f32,
@@ -43,20 +45,20 @@ pub struct Rotation {
 }
 
 // An angular velocity: absent is never a zero.
-#[derive(Drop)]
+#[derive(Clone, Copy)]
 pub enum Spin {
     Absent,
     Present(Vector),
 }
 
 // A server's frame or a physics handle: absent is never a zero.
-#[derive(Drop)]
+#[derive(Clone, Copy)]
 pub enum OptionalNumber {
     Absent,
     Present(u32),
 }
 
-#[derive(Drop)]
+#[derive(Clone, Copy)]
 pub struct Movement {
     pub location: Vector,
     pub rotation: Rotation,
@@ -74,14 +76,14 @@ pub struct Movement {
 pub const NOT_A_BYTE: u32 = 4294967295;
 
 // How a movement's rotation is sent: 8 or 16 bits an axis.
-#[derive(Drop)]
+#[derive(Clone, Copy)]
 pub enum RotatorQuantization {
     ByteComponents,
     ShortComponents,
 }
 
 // How a movement's location is sent: the scale 1, 10 or 100.
-#[derive(Drop)]
+#[derive(Clone, Copy)]
 pub enum VectorQuantization {
     RoundWholeNumber,
     RoundOneDecimal,
@@ -91,7 +93,7 @@ pub enum VectorQuantization {
 // ---- answers
 
 // Why a call gives no value, with the values of document 01's table.
-#[derive(Drop)]
+#[derive(Clone, Copy)]
 pub enum Refusal {
     // A part can't be read (1, 7, 8, 9, 14).
     Unread(bitio::Refusal),
@@ -104,20 +106,20 @@ pub enum Refusal {
 }
 
 // What was read, and the next position.
-#[derive(Drop)]
+#[derive(Clone, Copy)]
 pub enum VectorRead {
     Value(Vector, u64),
     Refused(Refusal),
 }
 
-#[derive(Drop)]
+#[derive(Clone, Copy)]
 pub enum RotationRead {
     Value(Rotation, u64),
     Refused(Refusal),
 }
 
 // The bits used stand in the place of the next position: a movement starts at bit 0.
-#[derive(Drop)]
+#[derive(Clone, Copy)]
 pub enum MovementRead {
     Value(Movement, u64),
     Refused(Refusal),

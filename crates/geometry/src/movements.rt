@@ -11,7 +11,7 @@ use crate::{
 use bitio::{BitRead, Cursor, PackedRead, Skipped};
 
 // The four bits that a record starts with.
-#[derive(Drop)]
+#[derive(Clone, Copy)]
 pub struct Flags {
     pub sleep: bool,
     pub physics: bool,
@@ -20,7 +20,7 @@ pub struct Flags {
 }
 
 // What every movement has.
-#[derive(Drop)]
+#[derive(Clone, Copy)]
 pub struct Pose {
     pub location: Vector,
     pub rotation: Rotation,
@@ -28,7 +28,7 @@ pub struct Pose {
 }
 
 // What the flags announce.
-#[derive(Drop)]
+#[derive(Clone, Copy)]
 pub struct Extras {
     pub angular: Spin,
     pub frame: OptionalNumber,
@@ -37,32 +37,32 @@ pub struct Extras {
     pub padded: u32,
 }
 
-#[derive(Drop)]
+#[derive(Clone, Copy)]
 pub enum FlagsRead {
     Value(Flags, u64),
     Refused(Refusal),
 }
 
-#[derive(Drop)]
+#[derive(Clone, Copy)]
 pub enum PoseRead {
     Value(Pose, u64),
     Refused(Refusal),
 }
 
-#[derive(Drop)]
+#[derive(Clone, Copy)]
 pub enum SpinRead {
     Value(Spin, u64),
     Refused(Refusal),
 }
 
 // The number, the next position, and whether the number is padded.
-#[derive(Drop)]
+#[derive(Clone, Copy)]
 pub enum OptionalNumberRead {
     Value(OptionalNumber, u64, bool),
     Refused(Refusal),
 }
 
-#[derive(Drop)]
+#[derive(Clone, Copy)]
 pub enum ExtrasRead {
     Value(Extras, u64),
     Refused(Refusal),

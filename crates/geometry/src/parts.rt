@@ -8,7 +8,7 @@ ghost use Rattle.bitio.specs.Numbers.{read_serialized_int_lem};
 
 use bitio::{BitRead, BitsRead, Cursor, Measured, SerializedRead, Skipped};
 
-#[derive(Drop)]
+#[derive(Clone, Copy)]
 pub enum Part {
     // So many bits.
     Bits(u64),
@@ -19,7 +19,7 @@ pub enum Part {
 }
 
 // The three numbers, and the next position.
-#[derive(Drop)]
+#[derive(Clone, Copy)]
 pub enum Three {
     Value(u64, u64, u64, u64),
     Refused(bitio::Refusal),

@@ -1,21 +1,21 @@
 -- What the answer of `fits` says, and what the stores of a record that fits leave: its numbers, each at its place.
 use mathlib.Core.Path.{◌≡◌, sym, ap, ◌∙◌}
-use mathlib.Core.Bool.{Bool, true, false, not}
+use mathlib.Core.Bool.{Bool, true, false}
 use mathlib.Core.List.{List}
 use Prim.Native.Nat.{ℕ, ◌+◌, ◌≤◌, ◌<◌}
 use native.Mathlib.Omega.{arith}
 use lib.Dec.{leb}
 use lib.ListN.{length, set}
-use borrow.Author.Tests.{leb-true, leb-false, not-true, not-false}
+use borrow.Author.Tests.{leb-true, leb-false}
 use Rattle.bits.specs.Runs.{store}
 use Rattle.bits.proofs.RunLaws.{put_six, put_two, store_fits}
 use Rattle.framing.specs.Records.{leaf_words, leaf_numbers, pair_words, pair_numbers}
 
-pub fitting : (a b : ℕ) (r : Bool) → r ≡ leb a b → not r ≡ false → a ≤ b
-fitting a b r e h = leb-true a b (sym e ∙ not-false r h)
+pub fitting : (a b : ℕ) (r : Bool) → r ≡ leb a b → r ≡ true → a ≤ b
+fitting a b r e h = leb-true a b (sym e ∙ h)
 
-pub past : (a b : ℕ) (r : Bool) → r ≡ leb a b → not r ≡ true → b < a
-past a b r e h = leb-false a b (sym e ∙ not-true r h)
+pub past : (a b : ℕ) (r : Bool) → r ≡ leb a b → r ≡ false → b < a
+past a b r e h = leb-false a b (sym e ∙ h)
 
 -- ---- stores
 

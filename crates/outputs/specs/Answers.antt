@@ -1,7 +1,6 @@
 -- What a public walk answers and what it leaves in the lent buffers, as functions of the call's inputs alone
 -- (01, Refusal numbers; Tables and outputs).
-use Rattle.std.specs.Prelude.{ℕ, ◌≡◌, Bool, true, List, length, leb}
-use Rattle.bits.specs.Choice.{if◌then◌else◌}
+use Rattle.std.specs.Prelude.{ℕ, ◌≡◌, Bool, true, List, length, leb, if◌then◌else◌}
 use Rattle.bits.specs.Runs.{filled}
 use Rattle.schema.specs.Layout.{laid_out}
 use Rattle.framing.specs.Events.{Leaf, leaves, pairs, Trace}

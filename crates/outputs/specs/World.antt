@@ -1,8 +1,7 @@
 -- What a walk's events do to the counters, the count of padded numbers and the lent buffers.
 -- The code is proved equal to `apply (wrapping m) events world`, m being 2 ^ 32, one more than the largest u32; the meaning is
 -- `apply plain events world`; proofs/NoWrap shows that the two coincide.
-use Rattle.std.specs.Prelude.{ℕ, ◌+◌, ◌%◌, List, [], ◌∷◌, ◌++◌, length}
-use Rattle.bits.specs.Choice.{if◌then◌else◌}
+use Rattle.std.specs.Prelude.{ℕ, ◌+◌, ◌%◌, List, [], ◌∷◌, ◌++◌, length, if◌then◌else◌}
 use Rattle.bits.specs.Runs.{store}
 use Rattle.bits.specs.Padded.{is_padded}
 use Rattle.framing.specs.Events.{Leaf, Pair, Event, number, element, array, leaf, pair, truncation, error, implicit, nested, root, leaves, Trace}

@@ -2,10 +2,12 @@
 //
 // The world is the counters, the positions and the lent contents; `apply` plays a list of events into it. The public
 // answers and each buffer's final contents are functions of a call's inputs alone.
+#![tactic(auto)]
+
 pub mod records;
 
 // A leaf, as it stands among the lent numbers.
-#[derive(Drop)]
+#[derive(Clone, Copy)]
 pub struct LeafRecord {
     // Where the path starts in the path bytes, and how many bytes it has.
     pub path_start: u32,
@@ -20,7 +22,7 @@ pub struct LeafRecord {
 }
 
 // A pair, likewise.
-#[derive(Drop)]
+#[derive(Clone, Copy)]
 pub struct PairRecord {
     pub index: u32,
     pub guid: u32,

@@ -2,6 +2,8 @@
 // test program in C or Rust that holds them to the original (host/compare).
 //
 // Each function makes one call of bitio and takes its answer apart; its contract cites that call's definition.
+#![tactic(auto)]
+
 mod answers;
 
 ghost use Rattle.std.specs.Prelude.{◌≡◌};
@@ -11,7 +13,7 @@ ghost use Rattle.probes.specs.Answers.{cursor_of_lem, reader_given_lem, opened_g
 
 // A cursor: its window's first bit, the next bit of the window, the window's length.
 #[repr(C)]
-#[derive(Drop)]
+#[derive(Clone, Copy)]
 pub struct VrfProbeCursor {
     pub start: u64,
     pub pos: u64,
@@ -21,7 +23,7 @@ pub struct VrfProbeCursor {
 // What a call gives: the refusal's number, 0 where there is none, and its values; the value read or told, as its type has it; where the
 // cursor stands, refused or not; the reader that `new`, `open` and `sub_reader` make. The rest is 0 and false.
 #[repr(C)]
-#[derive(Drop)]
+#[derive(Clone, Copy)]
 pub struct VrfProbe {
     pub refusal: u32,
     pub first: u64,

@@ -1,10 +1,10 @@
 -- What an accepted walk's answer tells, and that the number of a refused one isn't 0: both are read off the order of refusals.
+use Rattle.std.specs.Prelude.{if◌then◌else◌}
 use mathlib.Core.Path.{◌≡◌}
 use mathlib.Core.Bool.{Bool, true, false, not}
 use Prim.Native.Nat.{ℕ}
 use native.Mathlib.Omega.{arith}
 use lib.Dec.{ltb}
-use Rattle.bits.specs.Choice.{if◌then◌else◌}
 use Rattle.bits.specs.Sizes.{longest_window}
 use Rattle.bits.proofs.Never.{never}
 use Rattle.framing.specs.Events.{Trace}

@@ -1,6 +1,6 @@
 -- What clean means at the public walks. An accepted answer tells its walk's counters and needs, and its buffers begin with the walk's leaves or pairs
 -- (Ran); of the walk it was shown that it is clean exactly on the bits of an array of the grammar, and gives that array's leaves, pairs and elements
--- (framing/proofs/CleanMeans). The theorem on a call is `clean-` and the call's name, with `-` for `_`.
+-- (framing/proofs/CleanMeans). The theorem on a call is `clean_` and the call's name.
 use Prim.Native.Nat.{ℕ, ◌+◌}
 use mathlib.Core.Path.{◌≡◌, refl, sym, ap, ap₂, ◌∙◌, subst}
 use mathlib.Core.List.{List}

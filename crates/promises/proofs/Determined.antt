@@ -1,5 +1,5 @@
 -- Two answers that meet a call's contract are the same, with the same contents of every lent buffer. There is one file for each crate with public
--- calls; the theorem on a call is `one-` and the call's name, with `-` for `_`. What stands behind `Determines` is the one definition that the
+-- calls; the theorem on a call is `one_` and the call's name. What stands behind `Determines` is the one definition that the
 -- contract cites, over the same parameters.
 use mathlib.Core.Path.{◌≡◌, sym, ◌∙◌}
 use Rattle.promises.specs.Determining.{Determines, DeterminesAll}

@@ -1,6 +1,6 @@
 -- The numbers of an accepted answer are sound: a vector that isn't finite is refused, a normal's axis is a quotient of two small integers, and an
 -- angle is a few steps that binary32 holds. The struct for C has the same numbers, and a refused one another number than 0. The theorem on a call
--- is `finite-` and the call's name, with `-` for `_`.
+-- is `finite_` and the call's name.
 use Prim.Native.Nat.{ℕ}
 use mathlib.Core.Path.{◌≡◌, refl, sym, ap, ◌∙◌, subst}
 use mathlib.Core.Bool.{true}

@@ -1,5 +1,5 @@
 -- A refusal leaves every lent buffer as it was lent: the contract says the buffers by the same choice as the answer. The theorem on a call is
--- `kept-` and the call's name, with `-` for `_`. The calls for C say 0 where they refuse nothing.
+-- `kept_` and the call's name. The calls for C say 0 where they refuse nothing.
 use Prim.Native.Nat.{ℕ, ◌+◌, ◌<◌}
 use mathlib.Core.Path.{◌≡◌, refl, sym, ap, ◌∙◌}
 use mathlib.Core.Bool.{Bool, true, false}

@@ -35,6 +35,9 @@ pub mod Verdicts
 pub mod Clean
 pub mod Paths
 pub mod Places
+pub mod OrderedLeaves
+pub mod CopiedLeaves
+pub mod Accounts
 pub mod Stays
 pub mod PairsBehind
 pub mod TotalLaws

@@ -1,5 +1,5 @@
 -- However many bytes follow, and whatever they hold, a call for C answers the same and leaves the same buffers: as the call below it. The theorem
--- on a call is `longer-` and the call's name, with `-` for `_`.
+-- on a call is `longer_` and the call's name.
 use Prim.Native.Nat.{ℕ}
 use mathlib.Core.Path.{◌≡◌, refl, sym, ap, ◌∙◌}
 use mathlib.Core.List.{List}

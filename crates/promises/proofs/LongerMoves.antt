@@ -1,6 +1,6 @@
 -- However many bytes follow, and whatever they hold, a reader of bits that both lists hold is opened alike, and vectors, normals, rotations and
 -- movements in the window are the same: each of their parts is read in the window, where the one before it ended. The theorem on a call is
--- `longer-` and the call's name, with `-` for `_`.
+-- `longer_` and the call's name.
 use Prim.Native.Nat.{ℕ}
 use mathlib.Core.Path.{◌≡◌}
 use mathlib.Core.List.{List}

@@ -1,5 +1,5 @@
 -- However many bytes follow, and whatever they hold, a call at a cursor that is good in both lists answers the same: it looks at the window alone.
--- The theorem on a call is `longer-` and the call's name, with `-` for `_`.
+-- The theorem on a call is `longer_` and the call's name.
 use Prim.Native.Nat.{ℕ}
 use mathlib.Core.Path.{◌≡◌, sym, ap, ◌∙◌}
 use mathlib.Core.List.{List}

@@ -1,7 +1,7 @@
 -- However many bytes follow, and whatever they hold, a walk answers the same and leaves the same buffers: it looks at the window alone, and where
 -- both lists hold fewer bits, at none. A fast-array body has as many bytes as its bits take; two that both have, or both haven't, answer the same.
--- It holds because the walk's trace, or the body, is the same, and the contract determines the rest. The theorem on a call is `longer-` and the
--- call's name, with `-` for `_`.
+-- It holds because the walk's trace, or the body, is the same, and the contract determines the rest. The theorem on a call is `longer_` and the
+-- call's name.
 use Prim.Native.Nat.{ℕ, ◌/◌}
 use mathlib.Core.Path.{◌≡◌, sym, ap, ap₂, ◌∙◌}
 use mathlib.Core.Bool.{true}

@@ -1,5 +1,5 @@
--- Bits outside its window alter no answer of a call for C and no buffer: as of the call below it. The theorem on a call is `outside-` and the call's
--- name, with `-` for `_`.
+-- Bits outside its window alter no answer of a call for C and no buffer: as of the call below it. The theorem on a call is `outside_` and the call's
+-- name.
 use Prim.Native.Nat.{ℕ}
 use mathlib.Core.Path.{◌≡◌, refl, sym, ap, ◌∙◌}
 use mathlib.Core.List.{List}

@@ -1,6 +1,5 @@
 -- Bits outside its window alter no answer of a call at a cursor, and no buffer: two lists of as many bytes that agree on the window's bits give the
--- same, since the definitions see the bytes only as the window's number and its length. The theorem on a call is `outside-` and the call's name,
--- with `-` for `_`.
+-- same, since the definitions see the bytes only as the window's number and its length. The theorem on a call is `outside_` and the call's name.
 use Prim.Native.Nat.{ℕ, ◌-◌, ◌*◌, ◌^◌, min}
 use mathlib.Core.Path.{◌≡◌, sym, ap, ◌∙◌}
 use mathlib.Core.List.{List}

@@ -1,6 +1,6 @@
 -- A packed number that is read is called padded exactly if a shorter form of it exists: an accepted answer is made of a number that stands whole in the
 -- window, and of such a number the definition of padded means this (framing/proofs/PaddedForms). The struct for C has the same parts, and a refused one
--- another number than 0. The theorem on a call is `padded-` and the call's name, with `-` for `_`.
+-- another number than 0. The theorem on a call is `padded_` and the call's name.
 use Prim.Native.Nat.{ℕ}
 use mathlib.Core.Path.{◌≡◌, refl, sym, ap, ◌∙◌, subst}
 use mathlib.Core.List.{List}

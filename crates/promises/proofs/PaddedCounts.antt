@@ -1,6 +1,6 @@
 -- An accepted answer counts the padded ones among the numbers that its walk took, or that its body holds, since the contract says so (Ran). Each of
 -- these has five bytes at most and, if it is padded, takes 16 bits (framing/proofs/PaddedTaken, fastarray/proofs/PaddedNumbers); and of five bytes
--- padded means that a shorter form exists (framing/proofs/PaddedForms). The theorem on a call is `padded-` and the call's name, with `-` for `_`.
+-- padded means that a shorter form exists (framing/proofs/PaddedForms). The theorem on a call is `padded_` and the call's name.
 use Prim.Native.Nat.{ℕ, ◌≤◌}
 use mathlib.Core.Path.{◌≡◌, refl, sym, subst}
 use mathlib.Core.Bool.{true}

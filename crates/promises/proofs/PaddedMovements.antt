@@ -1,5 +1,5 @@
 -- A movement counts the padded ones of frame and handle: each is the answer of a read of a packed number, which tells the truth (Padded), or is
--- absent, and the count is made of what they told. The theorem on a call is `padded-` and the call's name, with `-` for `_`.
+-- absent, and the count is made of what they told. The theorem on a call is `padded_` and the call's name.
 use Prim.Native.Nat.{ℕ}
 use mathlib.Core.Path.{◌≡◌, refl, sym, subst}
 use mathlib.Core.Bool.{Bool, true, false}

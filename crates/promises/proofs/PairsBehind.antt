@@ -1,13 +1,12 @@
 -- Rule 8 gives an element's pair behind its fields. What an object walk answers and writes is what the walk in that order gives: an answer shows a
--- trace's counters and pairs, and these are the same (framing/proofs/PairOrder). The theorem on a call is `behind-` and the call's name, with `-`
--- for `_`.
+-- trace's counters and pairs, and these are the same (framing/proofs/PairOrder). The theorem on a call is `behind_` and the call's name.
+use Rattle.std.specs.Prelude.{if◌then◌else◌}
 use Prim.Native.Nat.{ℕ}
 use mathlib.Core.Path.{◌≡◌, sym, ap, ◌∙◌}
 use mathlib.Core.Bool.{true, not}
 use mathlib.Core.List.{List}
 use lib.ListN.{length}
 use lib.Dec.{leb, ltb}
-use Rattle.bits.specs.Choice.{if◌then◌else◌}
 use Rattle.bits.specs.Sizes.{longest_window}
 use Rattle.bits.specs.Padded.{padded_among}
 use Rattle.framing.specs.Events.{Trace}

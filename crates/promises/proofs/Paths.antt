@@ -1,12 +1,12 @@
 -- Request 10. No path that a walk works with has more than 852 bytes (framing/proofs/LongestPath): a walk over broken tables is refused before it
 -- makes one. So no refusal for a path is needed, and 852 bytes for each leaf are room for all paths.
+use Rattle.std.specs.Prelude.{if◌then◌else◌}
 use mathlib.Core.Path.{◌≡◌, refl, sym, subst}
 use mathlib.Core.Bool.{Bool, true, false, not}
 use mathlib.Core.List.{List}
 use Prim.Native.Nat.{ℕ, ◌*◌, ◌≤◌}
 use native.Mathlib.Omega.{arith}
 use lib.Dec.{ltb}
-use Rattle.bits.specs.Choice.{if◌then◌else◌}
 use Rattle.bits.specs.Sizes.{longest_window, longest_path}
 use Rattle.schema.specs.Tables.{Tables, absent}
 use Rattle.schema.specs.Layout.{laid_out}

@@ -1,6 +1,6 @@
 -- An accepted answer's buffers begin with the records, path bytes and payload bytes of its walk's leaves (Ran), so record i is that of leaf i
--- (framing/proofs/RecordLaws); and every leaf of a walk lies where it is said to (framing/proofs/Places). The theorem on a call is `placed-` and the
--- call's name, with `-` for `_`.
+-- (framing/proofs/RecordLaws); and every leaf of a walk lies where it is said to (framing/proofs/Places). The theorem on a call is `placed_` and the
+-- call's name.
 use Prim.Native.Nat.{ℕ, ◌<◌}
 use mathlib.Core.Path.{◌≡◌, refl, sym, ap, ◌∙◌}
 use mathlib.Core.List.{List, ◌∷◌, ◌++◌}
@@ -92,13 +92,13 @@ ran_found {k = k} {x = x} leafy run =
       placed = placed;
     }
 
-decodes_placed : (k : Call) → Leafy k.how → (b : Lent) (r : StructArray) (x : Lent) → Decodes k b r x → PlacedLeaves k r x
+pub decodes_placed : (k : Call) → Leafy k.how → (b : Lent) (r : StructArray) (x : Lent) → Decodes k b r x → PlacedLeaves k r x
 decodes_placed k leafy b (structs.Decoded st v e p) x f = ran_found leafy (ran_decodes k b st v e p x f)
 decodes_placed k leafy b structs.TooLong x f = tt
 decodes_placed k leafy b structs.BrokenTables x f = tt
 decodes_placed k leafy b (structs.Short e) x f = tt
 
-walks_placed : (k : Call) → Leafy k.how → (b : Lent) (r : VrfWalk) (x : Lent) → Walks k b r x → PlacedLeavesInC k r x
+pub walks_placed : (k : Call) → Leafy k.how → (b : Lent) (r : VrfWalk) (x : Lent) → Walks k b r x → PlacedLeavesInC k r x
 walks_placed k leafy b r x f z = ran_found leafy (ran_walks k b r x f z)
 
 -- THE STRUCT WALK: record i of an accepted answer is that of the walk's leaf i, and its last number is the bit of the window behind the leaf's width

@@ -1,5 +1,5 @@
 -- Demand 3 of accepted answers and of lent buffers. It holds because an accepted answer tells its walk's counters and needs (Ran), its buffers
--- begin with the walk's leaves or pairs, and demand 3 holds of the walks. The theorem on a call is `prefix-` and the call's name, with `-` for `_`.
+-- begin with the walk's leaves or pairs, and demand 3 holds of the walks. The theorem on a call is `prefix_` and the call's name.
 use mathlib.Core.Path.{◌≡◌, refl, sym, ap, ◌∙◌, subst}
 use mathlib.Core.Bool.{true}
 use mathlib.Core.List.{List, [], ◌∷◌, ◌++◌}

@@ -1,11 +1,11 @@
 -- Each call for C is refused exactly when, and in the order that, document 01 says, with its numbers and values: as the call below it. The theorem
--- on a call is `refused-` and the call's name, with `-` for `_`.
+-- on a call is `refused_` and the call's name.
+use Rattle.std.specs.Prelude.{if◌then◌else◌}
 use Prim.Native.Nat.{ℕ}
 use mathlib.Core.Path.{◌≡◌, refl, sym, ap, ◌∙◌}
 use mathlib.Core.Bool.{Bool, true, false}
 use mathlib.Core.List.{List, [], ◌∷◌}
 use mathlib.Core.Option.{Option, none, some}
-use Rattle.bits.specs.Choice.{if◌then◌else◌}
 use Rattle.bits.specs.Refusals.{Numbered, Rule, first_of}
 use Rattle.bitio.specs.Copies.{copy_answer}
 use Rattle.bitio.specs.Numbers.{read_int_packed_lem, read_serialized_int_lem}

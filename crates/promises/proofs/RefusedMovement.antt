@@ -1,5 +1,6 @@
 -- A movement is refused exactly when, and in the order that, document 01 says: 1, 14, then as its parts, in their order. For it is opened as a
 -- reader is and then reads its parts, each of which adds its own rules behind those before it.
+use Rattle.std.specs.Prelude.{if◌then◌else◌}
 use Prim.Native.Nat.{ℕ, suc, ◌+◌, ◌*◌, ◌%◌, ◌≤◌}
 use mathlib.Core.Path.{◌≡◌, refl, sym, ap, ◌∙◌, subst}
 use mathlib.Core.Bool.{Bool, true, false}
@@ -7,7 +8,6 @@ use mathlib.Core.List.{List, [], ◌∷◌, ◌++◌, map}
 use native.Mathlib.Omega.{arith}
 use lib.Dec.{leb, ltb, eqb}
 use borrow.Author.Tests.{ltb-false}
-use Rattle.bits.specs.Choice.{if◌then◌else◌}
 use Rattle.bits.specs.Packed.{most_bytes, packed}
 use Rattle.bits.specs.Refusals.{Rule, first_of}
 use Rattle.bits.specs.declared.Packed.{Packed}

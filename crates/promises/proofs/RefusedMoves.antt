@@ -1,6 +1,6 @@
 -- Vectors, normals, rotations and movements are refused exactly when, and in the order that, document 01 says. Each is a read of parts, one behind
 -- the other, and a part is bits that are asked for; so the rules of the whole are those of its parts in order. The theorem on a call is
--- `refused-` and the call's name, with `-` for `_`.
+-- `refused_` and the call's name.
 use Prim.Native.Nat.{ℕ, ◌+◌, ◌*◌, ◌/◌, ◌%◌, ◌≤◌}
 use mathlib.Core.Path.{◌≡◌, refl, sym, ap, ◌∙◌}
 use mathlib.Core.Bool.{Bool, true, false, not, ◌&&◌, ◌||◌}

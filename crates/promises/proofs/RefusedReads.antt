@@ -1,5 +1,5 @@
 -- Each call of the bit reader is refused exactly when, and in the order that, document 01 says: its definition tests the cursor, the number asked
--- for and the bits left in that order. The theorem on a call is `refused-` and the call's name, with `-` for `_`.
+-- for and the bits left in that order. The theorem on a call is `refused_` and the call's name.
 use Prim.Native.Nat.{ℕ, ◌+◌, ◌^◌}
 use mathlib.Core.Path.{◌≡◌, refl, ap, ◌∙◌}
 use mathlib.Core.List.{List}

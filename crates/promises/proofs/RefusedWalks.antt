@@ -1,5 +1,5 @@
 -- Each walk, a merge, the tables, the schema and the fast array are refused exactly when, and in the order that, document 01 says: their
--- definitions decide by the same tests in the same order. The theorem on a call is `refused-` and the call's name, with `-` for `_`.
+-- definitions decide by the same tests in the same order. The theorem on a call is `refused_` and the call's name.
 use Prim.Native.Nat.{ℕ, ◌/◌}
 use mathlib.Core.Path.{◌≡◌, refl, ap, ◌∙◌}
 use mathlib.Core.Bool.{Bool, false}

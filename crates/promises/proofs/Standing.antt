@@ -1,5 +1,6 @@
 -- A read seen from outside: it is refused, or stands at a bit. `first_or` says it by rules, and composes: reading on behind a part puts the rules
 -- of what follows behind the part's.
+use Rattle.std.specs.Prelude.{if◌then◌else◌}
 use Prim.Native.Nat.{ℕ, ◌+◌, ◌≤◌}
 use mathlib.Core.Path.{◌≡◌, refl, sym, ap, ◌∙◌}
 use mathlib.Core.Bool.{Bool, true, false}
@@ -7,7 +8,6 @@ use mathlib.Core.List.{List, [], ◌∷◌, ◌++◌}
 use mathlib.Core.Option.{Option, none, some}
 use lib.Dec.{ltb}
 use borrow.Author.Tests.{ltb-false}
-use Rattle.bits.specs.Choice.{if◌then◌else◌}
 use Rattle.bits.specs.Refusals.{Rule, first_of}
 use Rattle.bits.proofs.Never.{never}
 use Rattle.bitio.specs.Cursors.{asking}

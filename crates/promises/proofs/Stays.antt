@@ -1,12 +1,12 @@
 -- A refused single read leaves the cursor where it stood: it is refused for its cursor, for what is asked, or at its one part, which begins there. The
--- theorem on a call is `stays-` and the call's name, with `-` for `_`.
+-- theorem on a call is `stays_` and the call's name.
+use Rattle.std.specs.Prelude.{if◌then◌else◌}
 use Prim.Native.Nat.{ℕ, ◌^◌, ◌<◌}
 use mathlib.Core.Path.{◌≡◌, refl, sym, ap, ◌∙◌, subst}
 use mathlib.Core.Bool.{Bool, true, false}
 use mathlib.Core.List.{List, [], ◌∷◌}
 use mathlib.Core.Option.{Option, some}
 use native.Mathlib.Nat.{mod-eq_of_lt}
-use Rattle.bits.specs.Choice.{if◌then◌else◌}
 use Rattle.bits.specs.Refusals.{Rule, first_of}
 use Rattle.bitio.specs.Cursors.{skipped, skipped_all, sub_reader_lem}
 use Rattle.bitio.specs.Copies.{copy_answer, copy_target, CopiesBits}

@@ -1,11 +1,11 @@
 -- Request 13, of any merge whose answers are bounded sums. A plan then comes to the bounded sums over its sets, or is refused: sums over a list are those
 -- of every order of it, and no part of a sum is larger than it, so that a merge on the way is refused only where the total is too large.
+use Rattle.std.specs.Prelude.{if◌then◌else◌}
 use mathlib.Core.Path.{◌≡◌, refl, sym, ap, ap₂, ◌∙◌, subst}
 use mathlib.Core.Bool.{true, false}
 use mathlib.Core.List.{List, [], ◌∷◌, ◌++◌, append_assoc, append-nil}
 use mathlib.Core.Option.{Option, none, some}
 use Prim.Native.Nat.{ℕ}
-use Rattle.bits.specs.Choice.{if◌then◌else◌}
 use Rattle.bits.specs.Members.{Reorders}
 use Rattle.bits.proofs.ChoiceLaws.{by_cases}
 use Rattle.bits.proofs.Never.{never}

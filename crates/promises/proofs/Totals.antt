@@ -1,5 +1,5 @@
 -- The laws of request 13, of `merge_from` and of `vrf_merge`: both give the bounded sum of two sets, which is what the laws ask of a merge
--- (TotalLaws, CleanTotals). The theorem on a call is the law's word and the call's name, with `-` for `_`.
+-- (TotalLaws, CleanTotals). The theorem on a call is the law's word and the call's name, with `_` between them.
 use mathlib.Core.Path.{◌≡◌, refl, sym, ap, ◌∙◌}
 use mathlib.Core.Option.{Option, none, some}
 use Rattle.bits.proofs.ChoiceLaws.{by_cases}

@@ -1,6 +1,6 @@
 -- What the verdicts say of windows and of sets of counters. The verdict on a window follows its definition, and the counters beside it are the
 -- walk's own, so that partial means that something other than elements and fields was counted (framing/proofs/WalkVerdicts). The theorem on a call
--- is `judged-` and the call's name, with `-` for `_`.
+-- is `judged_` and the call's name.
 use mathlib.Core.Path.{◌≡◌, refl, sym, ap, ◌∙◌, subst}
 use mathlib.Core.List.{List}
 use Prim.Native.Nat.{ℕ}

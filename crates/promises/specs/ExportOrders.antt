@@ -1,7 +1,6 @@
 -- What a struct for C says of a refusal, and the rules of the calls below it with 01's numbers and values.
-use Rattle.std.specs.Prelude.{ℕ, List, map, eqb}
+use Rattle.std.specs.Prelude.{ℕ, List, map, eqb, if◌then◌else◌}
 use Rattle.std.proofs.Math.Option.{Option, none, some}
-use Rattle.bits.specs.Choice.{if◌then◌else◌}
 use Rattle.bits.specs.Refusals.{Numbered, refusal, Rule, when}
 use Rattle.array.specs.Merges.{Sums, summed, overflowing}
 use Rattle.exports.specs.declared.VrfPacked.{VrfPacked}

@@ -11,6 +11,7 @@ pub mod Verdicts
 pub mod Clean
 pub mod Paths
 pub mod Places
+pub mod Accounts
 pub mod Stays
 pub mod Finite
 pub mod PairsBehind

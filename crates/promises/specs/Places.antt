@@ -1,6 +1,6 @@
 -- What is promised of where leaves lie (request 02), of an accepted struct or exact walk and the buffers that it leaves: record i is that of leaf i of
 -- the walk, and tells the bit of the window at which its payload starts. Where these bits lie is as framing/specs/Places says; that the window holds
--- the payload there is request 06's. `inside` says a part of it by the buffers' own numbers.
+-- the payload there is said in specs/Accounts (the theorems copied_). `inside` says a part of it by the buffers' own numbers.
 use Rattle.std.specs.Prelude.{ℕ, ◌+◌, ◌≤◌, ◌<◌, ◌≡◌, List, length, take, drop}
 use Rattle.bits.specs.Members.{StandsAt}
 use Rattle.framing.specs.Windows.{window_of}

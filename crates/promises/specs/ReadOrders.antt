@@ -1,8 +1,7 @@
 -- The order of the refusals of the bit reader's calls (01, Refusal numbers), where bitio/specs/Order has none: the first whose condition holds is
 -- given, and none if none holds. And the refusal that an answer is, if it is one.
-use Rattle.std.specs.Prelude.{ℕ, zero, suc, ◌+◌, ◌*◌, ◌/◌, ◌%◌, ◌^◌, ◌&&◌, List, [], ◌∷◌, leb, ltb, eqb}
+use Rattle.std.specs.Prelude.{ℕ, zero, suc, ◌+◌, ◌*◌, ◌/◌, ◌%◌, ◌^◌, ◌&&◌, List, [], ◌∷◌, leb, ltb, eqb, if◌then◌else◌}
 use Rattle.std.proofs.Math.Option.{Option, none, some}
-use Rattle.bits.specs.Choice.{if◌then◌else◌}
 use Rattle.bits.specs.Bits.{field}
 use Rattle.bits.specs.Packed.{most_bytes, fifth_most}
 use Rattle.bits.specs.Refusals.{Rule, when}

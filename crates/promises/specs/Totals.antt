@@ -1,9 +1,8 @@
 -- Request 13: what a total of many sets of counters doesn't depend on, which is the order of its merges and how they are bracketed. `adds a b r` is a
 -- merge's contract: r may be answered for a on the left and b on the right. The laws hold of any such answers. The counters that a refused merge gives
 -- back are left aside.
-use Rattle.std.specs.Prelude.{◌≡◌, true, false, List, [], ◌∷◌, ◌++◌, eqb}
+use Rattle.std.specs.Prelude.{◌≡◌, true, false, List, [], ◌∷◌, ◌++◌, eqb, if◌then◌else◌}
 use Rattle.std.proofs.Math.Option.{Option, none, some}
-use Rattle.bits.specs.Choice.{if◌then◌else◌}
 use Rattle.bits.specs.Members.{All, Reorders}
 use Rattle.framing.specs.Counters.{Counters, counted, sums, is_clean}
 use Rattle.framing.specs.Verdicts as F

@@ -3,3 +3,5 @@
 // Each contract determines its call, refusals come exactly when and in the order that 01 says, bits outside a window alter nothing,
 // a cut window's answer is the front of the whole one's, and the fourteen proved cases hold. A theorem here cites contracts and laws
 // of the crates below; it proves nothing of their code anew.
+
+#![tactic(auto)]

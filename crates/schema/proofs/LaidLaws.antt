@@ -1,4 +1,5 @@
 -- What tables that keep the layout promise: sizes, and that names lie in their pools.
+use Rattle.std.specs.Prelude.{if◌then◌else◌}
 use mathlib.Core.Path.{◌≡◌, refl, subst}
 use mathlib.Core.Bool.{Bool, true, false}
 use Prim.Native.Nat.{ℕ, ◌+◌, ◌*◌, ◌/◌, ◌%◌, ◌≤◌, ◌<◌}
@@ -7,13 +8,11 @@ use lib.Dec.{leb, ltb, eqb}
 use lib.ListN.{length, get_or, drop, length-drop}
 use lib.Seq.{length-take-le}
 use borrow.Author.Tests.{ltb-true, leb-true, eqb-true}
-use Rattle.bits.specs.Choice.{if◌then◌else◌}
 use Rattle.bits.specs.Sizes.{max_levels, max_rows, max_handles, max_name, max_pool}
 use Rattle.schema.specs.Tables.{Tables, absent, name_kind, cell, row_matches_lem, row_count, row_of, name_at, schema_name, declared_name_lem}
 use Rattle.schema.specs.Layout.{all_from, name_fits_lem, kind_fits_lem, row_fits, declared_fits, schema_sized, declared_sized, root_fits_lem, schema_laid, declared_laid, laid_out}
 use Rattle.schema.specs.Labels.{by_schema_lem, by_declaration_lem, container_label_lem, leaf_label, label_bytes, label_length_lem, label_part_lem, NameLies, LabelLies, LabelsLie}
 use Rattle.schema.specs.declared.Row.{Row}
-use Rattle.schema.specs.declared.Row.TheVariants as Row
 use Rattle.schema.specs.declared.Name.{Name}
 use Rattle.schema.specs.declared.Name.TheVariants.{At, Unnamed}
 use Rattle.schema.specs.declared.Label.{Label}

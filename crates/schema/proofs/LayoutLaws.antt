@@ -1,28 +1,28 @@
 -- The laws of the layout's tests: a conjunction by its first part that fails, and a test of all numbers from the last to the first.
 use mathlib.Core.Path.{◌≡◌, refl, sym, ap, ◌∙◌}
-use mathlib.Core.Bool.{Bool, true, false, not, ◌&&◌}
+use mathlib.Core.Bool.{Bool, true, false, ◌&&◌}
 use Prim.Native.Nat.{ℕ, zero, suc, ◌+◌, ◌-◌, ◌≤◌, ◌<◌}
 use native.Mathlib.Omega.{arith}
 use lib.Dec.{eqb}
-use borrow.Author.Tests.{not-true, not-false, eqb-true, eqb-false}
+use borrow.Author.Tests.{eqb-true, eqb-false}
 use Rattle.bits.proofs.ChoiceLaws.{and_true}
 use Rattle.schema.specs.Layout.{all_from}
 
 -- x answers the first part, and y the second
-pub refused : (a b x : Bool) → x ≡ a → not x ≡ true → false ≡ (a && b)
-refused a b x e h = let f : a ≡ false = sym e ∙ not-true x h in rw f
+pub refused : (a b x : Bool) → x ≡ a → x ≡ false → false ≡ (a && b)
+refused a b x e h = let f : a ≡ false = sym e ∙ h in rw f
 
-pub passed : (a b x y : Bool) → x ≡ a → not x ≡ false → y ≡ b → y ≡ (a && b)
-passed a b x y e h q = let f : a ≡ true = sym e ∙ not-false x h in rw f q
+pub passed : (a b x y : Bool) → x ≡ a → x ≡ true → y ≡ b → y ≡ (a && b)
+passed a b x y e h q = let f : a ≡ true = sym e ∙ h in rw f q
 
 -- the same of three parts
-pub refused_first : (a b c x : Bool) → x ≡ a → not x ≡ true → false ≡ (a && b && c)
-refused_first a b c x e h = let f : a ≡ false = sym e ∙ not-true x h in rw f
+pub refused_first : (a b c x : Bool) → x ≡ a → x ≡ false → false ≡ (a && b && c)
+refused_first a b c x e h = let f : a ≡ false = sym e ∙ h in rw f
 
-pub refused_second : (a b c x y : Bool) → x ≡ a → not x ≡ false → y ≡ b → not y ≡ true → false ≡ (a && b && c)
+pub refused_second : (a b c x y : Bool) → x ≡ a → x ≡ true → y ≡ b → y ≡ false → false ≡ (a && b && c)
 refused_second a b c x y e h f k = refused (a && b) c y (passed a b x y e h f) k
 
-pub passed_both : (a b c x y z : Bool) → x ≡ a → not x ≡ false → y ≡ b → not y ≡ false → z ≡ c → z ≡ (a && b && c)
+pub passed_both : (a b c x y z : Bool) → x ≡ a → x ≡ true → y ≡ b → y ≡ true → z ≡ c → z ≡ (a && b && c)
 passed_both a b c x y z e h f k g = passed (a && b) c y z (passed a b x y e h f) k g
 
 -- and back: the parts of what holds
@@ -68,10 +68,10 @@ module _ (test : ℕ → Bool) (n : ℕ) where
       let f : i - 1 + 1 ≡ i = omega arith in
       ap (λ (m : ℕ). all_from m test (i - 1)) e ∙ ap (λ (j : ℕ). test (i - 1) && all_from (n - i) test j) f
 
-  pub all_no : (i : ℕ) (x : Bool) → 0 < i → i ≤ n → x ≡ test (i - 1) → not x ≡ true → false ≡ all_from (n - (i - 1)) test (i - 1)
+  pub all_no : (i : ℕ) (x : Bool) → 0 < i → i ≤ n → x ≡ test (i - 1) → x ≡ false → false ≡ all_from (n - (i - 1)) test (i - 1)
   all_no i x h k e q = refused (test (i - 1)) (all_from (n - i) test i) x e q ∙ sym (opened i h k)
 
-  pub all_yes : (i : ℕ) (x y : Bool) → 0 < i → i ≤ n → x ≡ test (i - 1) → not x ≡ false → y ≡ all_from (n - i) test i
+  pub all_yes : (i : ℕ) (x y : Bool) → 0 < i → i ≤ n → x ≡ test (i - 1) → x ≡ true → y ≡ all_from (n - i) test i
       → y ≡ all_from (n - (i - 1)) test (i - 1)
   all_yes i x y h k e q r = passed (test (i - 1)) (all_from (n - i) test i) x y e q r ∙ sym (opened i h k)
 

@@ -1,4 +1,5 @@
 -- The laws of the look-ups: one step, what is not there, and where a row that was found lies.
+use Rattle.std.specs.Prelude.{if◌then◌else◌}
 use mathlib.Core.Path.{◌≡◌, refl, sym, ap, ◌∙◌}
 use mathlib.Core.Bool.{Bool, true, false, ◌&&◌}
 use mathlib.Core.List.{List}
@@ -9,10 +10,8 @@ use lib.Dec.{leb, eqb}
 use lib.ListN.{length}
 use borrow.Author.Tests.{eq-eqb, ne_eqb, leb-true, leb-false}
 use Rattle.bits.proofs.ChoiceLaws.{and_false}
-use Rattle.bits.specs.Choice.{if◌then◌else◌}
 use Rattle.schema.specs.Tables.{cell, row_matches_lem, first_row_lem, row_in, row_of, row_count}
 use Rattle.schema.specs.declared.Row.{Row}
-use Rattle.schema.specs.declared.Row.TheVariants as Row
 
 module _ (rows : List ℕ) (level kind handle : ℕ) where
   pub hit : (n i : ℕ) → i < n → row_matches_lem rows level kind handle i ≡ true → first_row_lem (n - i) rows level kind handle i ≡ Row.At i

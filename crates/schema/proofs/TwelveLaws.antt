@@ -1,4 +1,5 @@
 -- The twelve levels: what filling gives, that the table is laid out, and that it says what schema.rs says.
+use Rattle.std.specs.Prelude.{if◌then◌else◌}
 use mathlib.Core.Path.{◌≡◌, refl, sym, ap, ap₂, ◌∙◌}
 use mathlib.Core.Bool.{Bool, true, false}
 use mathlib.Core.List.{List, [], ◌∷◌, map}
@@ -7,7 +8,6 @@ use native.Mathlib.Omega.{arith}
 use lib.Dec.{ltb, eqb}
 use lib.ListN.{length}
 use borrow.Author.Tests.{le-leb, lt-leb, lt-ltb, eqb-true}
-use Rattle.bits.specs.Choice.{if◌then◌else◌}
 use Rattle.bits.specs.Runs.{put}
 use Rattle.schema.specs.Tables.{absent, cell, row_matches_lem, array_kind, name_kind, child_at, name_at, first_row_lem, row_of, row_count, child, schema_name}
 use Rattle.schema.specs.Layout.{all_from, name_fits_lem, kind_fits_lem, row_fits, declared_fits, schema_sized, declared_sized, root_fits_lem, schema_laid, declared_laid, laid_out}
@@ -15,7 +15,6 @@ use Rattle.schema.specs.Labels.{by_schema_lem, container_label_lem, label_bytes,
 use Rattle.schema.specs.SchemaFile.{Stated, stated, about, of_stated, is_stated, child_stated, label_stated}
 use Rattle.schema.specs.TwelveLevels.{twelve_levels, level_count, schema_rows, schema_names, ascii, row_numbers, name_bytes, enough, fill_answer, filled_rows, filled_names}
 use Rattle.schema.specs.declared.Row.{Row}
-use Rattle.schema.specs.declared.Row.TheVariants as Row
 use Rattle.schema.specs.declared.Child.TheVariants.{Leaf}
 use Rattle.schema.proofs.RowLaws.{skip_front, none_left}
 use Rattle.schema.proofs.LayoutLaws.{and_left, and_right, and_three, all_at}

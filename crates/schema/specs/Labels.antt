@@ -1,6 +1,5 @@
 -- Labels and paths (01, Walking an array). A path joins `[index]` and `.label`.
-use Rattle.std.specs.Prelude.{ℕ, ◌+◌, ◌≤◌, List, [], ◌∷◌, ◌++◌, length, take, drop, leb}
-use Rattle.bits.specs.Choice.{if◌then◌else◌}
+use Rattle.std.specs.Prelude.{ℕ, ◌+◌, ◌≤◌, List, [], ◌∷◌, ◌++◌, length, take, drop, leb, if◌then◌else◌}
 use Rattle.bits.specs.Sizes.{max_name}
 unfoldable pub use Rattle.bits.specs.Decimals.{decimal}
 use Rattle.schema.specs.Tables.{Tables, look_ups, schema_name, declared_name_lem}

@@ -1,6 +1,5 @@
 -- The layout of the tables (01, Sizes; Tables and outputs). A table that breaks it gives refusal 2.
-use Rattle.std.specs.Prelude.{ℕ, zero, suc, ◌+◌, ◌*◌, ◌/◌, ◌%◌, Bool, true, false, ◌&&◌, List, length, get_or, leb, ltb, eqb}
-use Rattle.bits.specs.Choice.{if◌then◌else◌}
+use Rattle.std.specs.Prelude.{ℕ, zero, suc, ◌+◌, ◌*◌, ◌/◌, ◌%◌, Bool, true, false, ◌&&◌, List, length, get_or, leb, ltb, eqb, if◌then◌else◌}
 use Rattle.bits.specs.Sizes.{max_levels, max_rows, max_handles, max_name, max_pool}
 use Rattle.schema.specs.Tables.{Tables, absent, row_size, array_kind, name_kind, cell, row_count}
 

@@ -1,7 +1,6 @@
 -- What schema.rs states: for each level the handles that are arrays, with the level of their elements, and the names of handles.
-use Rattle.std.specs.Prelude.{ℕ, Bool, true, false, ◌&&◌, List, [], ◌∷◌, eqb}
+use Rattle.std.specs.Prelude.{ℕ, Bool, true, false, ◌&&◌, List, [], ◌∷◌, eqb, if◌then◌else◌}
 use Prim.Native.String.{String}
-use Rattle.bits.specs.Choice.{if◌then◌else◌}
 use Rattle.schema.specs.Labels.{unnamed}
 use Rattle.schema.specs.TwelveLevels.{ascii, leaves_level, combat_rounds, ability_casts, ability_effects, life_change_damage, life_change_section, life_change_by_section, dealt_interaction, received_interaction, participant, character_report, affected_target}
 use Rattle.schema.specs.declared.Child.{Child}

@@ -1,7 +1,6 @@
 -- The span of a level's rows: from the first row of the level to the row after its last. Levels that no schema has, from `max_levels` on, share
 -- one. A look-up in the span finds what one in the whole table finds (proofs/SpanLaws).
-use Rattle.std.specs.Prelude.{ℕ, zero, suc, ◌+◌, ◌*◌, min, List, set, get_or, replicate, eqb}
-use Rattle.bits.specs.Choice.{if◌then◌else◌}
+use Rattle.std.specs.Prelude.{ℕ, zero, suc, ◌+◌, ◌*◌, min, List, set, get_or, replicate, eqb, if◌then◌else◌}
 use Rattle.bits.specs.Sizes.{max_levels}
 use Rattle.schema.specs.Tables.{cell, array_kind, name_kind, child_at, name_at, row_count, row_in, child, schema_name}
 use Rattle.schema.specs.declared.Entry.{Entry}

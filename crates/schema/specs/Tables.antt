@@ -1,8 +1,6 @@
 -- Schema and declared tables, and what they say of a handle (01, Tables and outputs; schema.rs).
-use Rattle.std.specs.Prelude.{ℕ, zero, suc, ◌+◌, ◌-◌, ◌*◌, ◌/◌, min, Bool, ◌&&◌, List, [], length, get_or, ltb, eqb}
-use Rattle.bits.specs.Choice.{if◌then◌else◌}
+use Rattle.std.specs.Prelude.{ℕ, zero, suc, ◌+◌, ◌-◌, ◌*◌, ◌/◌, min, Bool, ◌&&◌, List, [], length, get_or, ltb, eqb, if◌then◌else◌}
 use Rattle.schema.specs.declared.Row.{Row}
-use Rattle.schema.specs.declared.Row.TheVariants as Row
 use Rattle.schema.specs.declared.Child.{Child}
 use Rattle.schema.specs.declared.Child.TheVariants.{Array, Leaf}
 use Rattle.schema.specs.declared.Name.{Name}

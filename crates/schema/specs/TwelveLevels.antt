@@ -1,9 +1,8 @@
 -- The twelve levels of schema.rs as one table, and those of them that schema.rs makes public, by number.
-use Rattle.std.specs.Prelude.{ℕ, ◌≡◌, List, [], ◌∷◌, Bool, ◌&&◌, length, leb}
+use Rattle.std.specs.Prelude.{ℕ, ◌≡◌, List, [], ◌∷◌, Bool, ◌&&◌, length, leb, if◌then◌else◌}
 use Prim.Native.Char.{code}
 use Prim.Native.String.{String}
 use Prim.Native.String as S
-use Rattle.bits.specs.Choice.{if◌then◌else◌}
 use Rattle.bits.specs.Runs.{put}
 use Rattle.schema.specs.Tables.{Tables, tables}
 use Rattle.schema.specs.declared.Filled.{Filled}

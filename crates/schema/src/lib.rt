@@ -4,6 +4,8 @@
 // whose elements have level a; kind 1 that its name stands at a in the name pool, b bytes long. A declared row is a handle's start and length in the
 // declared name pool. Every public call takes any tables.
 
+#![tactic(auto)]
+
 pub mod labels;
 pub mod layout;
 pub mod lookup;
@@ -23,28 +25,28 @@ pub const NAME_KIND: u32 = 1;
 pub const ABSENT: u32 = 4294967295;
 
 // The first row that matches.
-#[derive(Drop)]
+#[derive(Clone, Copy)]
 pub enum Row {
     At(usize),
     Missing,
 }
 
 // Whether a handle is an array, and the level of its elements.
-#[derive(Drop)]
+#[derive(Clone, Copy)]
 pub enum Child {
     Array(u32),
     Leaf,
 }
 
 // Where a name stands in its pool: start, length.
-#[derive(Drop)]
+#[derive(Clone, Copy)]
 pub enum Name {
     At(u32, u32),
     Unnamed,
 }
 
 // A label: a name of the declared pool, a name of the schema's pool, or `_h` and the handle.
-#[derive(Drop)]
+#[derive(Clone, Copy)]
 pub enum Label {
     Declared(u32, u32),
     Named(u32, u32),
@@ -52,14 +54,14 @@ pub enum Label {
 }
 
 // What the schema says of a handle of a level.
-#[derive(Drop)]
+#[derive(Clone, Copy)]
 pub struct Entry {
     pub child: Child,
     pub name: Name,
 }
 
 // What came of filling two lent buffers with the twelve levels.
-#[derive(Drop)]
+#[derive(Clone, Copy)]
 pub enum Filled {
     Done,
     // One is too short: the u32 that the rows need, and the bytes that the names need.

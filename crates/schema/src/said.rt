@@ -5,7 +5,7 @@ ghost use Rattle.schema.specs.Refusals.{said, tables_number_lem};
 use crate::Filled;
 
 // The number, and what the buffers need: u32 of rows, bytes of names.
-#[derive(Drop)]
+#[derive(Clone, Copy)]
 pub struct Saying {
     pub number: u32,
     pub rows: usize,

@@ -1,6 +1,6 @@
 -- What the code's tests behind a terminator make of the level's last events.
+use Rattle.std.specs.Prelude.{if◌then◌else◌}
 use Rattle.std.proofs.Common.{◌≡◌, ℕ, ◌+◌, ◌-◌, ◌≤◌, Bool, true, false, ◌&&◌, eqb, List, [], ◌∷◌, sym, refl, ap, ◌∙◌, arith, eq-eqb, ne_eqb}
-use Rattle.bits.specs.Choice.{if◌then◌else◌}
 use Rattle.bits.specs.Sizes.{trailer_bits}
 use Rattle.bits.specs.Packed.{Number}
 use Rattle.bits.specs.Padded.{padded_among}

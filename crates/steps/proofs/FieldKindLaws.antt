@@ -1,7 +1,7 @@
 -- The sink of a walk: its ways out are those of its kind of walk, and what it makes of a field goes by what the field is.
+use Rattle.std.specs.Prelude.{if◌then◌else◌}
 use Rattle.std.proofs.Common.{◌≡◌, ℕ, zero, suc, ◌-◌, ◌<◌, Bool, true, false, eqb, List, [], ◌∷◌, sym, refl, ap, ◌∙◌, arith, ne_eqb}
 use Rattle.bits.proofs.Never.{never}
-use Rattle.bits.specs.Choice.{if◌then◌else◌}
 use Rattle.schema.specs.Tables.{Tables, tables, look_ups, child}
 use Rattle.schema.specs.Labels.{label_bytes, container_label_lem, leaf_label, LabelLies, dot}
 use Rattle.schema.specs.declared.Child.{Child}

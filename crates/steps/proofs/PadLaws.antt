@@ -1,8 +1,8 @@
 -- The padded numbers that a head takes: what the number that the code got at a bit makes of them, that a window's are those of its bytes, and that
 -- they are those of the definition's numbers.
+use Rattle.std.specs.Prelude.{if◌then◌else◌}
 use Rattle.std.proofs.Common.{◌≡◌, ℕ, suc, ◌+◌, ◌-◌, ◌*◌, ◌/◌, ◌%◌, ◌<◌, ◌≤◌, Bool, true, false, eqb, ltb, leb, List, [], ◌∷◌, sym, refl, ap, ◌∙◌, ap₂, add-zero, add_assoc, arith, eq-eqb, ne_eqb, le-leb}
 use borrow.Author.Tests.{lt-leb}
-use Rattle.bits.specs.Choice.{if◌then◌else◌}
 use Rattle.bits.specs.Bits.{num, field}
 use Rattle.bits.specs.Packed.{Number}
 use Rattle.bits.specs.Padded.{padded, once, padded_among}

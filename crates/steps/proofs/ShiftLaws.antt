@@ -1,7 +1,7 @@
 -- A window that starts b bits into the bytes: what stands at its bit p is what stands at bit b + p of the bytes.
+use Rattle.std.specs.Prelude.{if◌then◌else◌}
 use Rattle.std.proofs.Common.{◌≡◌, ℕ, zero, suc, ◌+◌, ◌-◌, ◌*◌, ◌/◌, ◌%◌, ◌≤◌, Bool, true, false, ◌&&◌, eqb, ltb, leb, List, [], ◌∷◌, take, drop, sym, refl, ap, ◌∙◌, ap₂, add-zero, add_assoc, arith, ltb-false, ltb-true, le-ltb, lt-ltb, le-leb, leb-false, leb-true}
 use borrow.Author.Tests.{lt-leb}
-use Rattle.bits.specs.Choice.{if◌then◌else◌}
 use Rattle.bits.specs.Sizes.{trailer_bits, max_elements}
 use Rattle.bits.specs.Bits.{num, field, Bytes}
 use Rattle.bits.proofs.FieldLaws.{field_field, field_part}

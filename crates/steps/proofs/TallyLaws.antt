@@ -1,7 +1,7 @@
 -- The tally: adding to one of its numbers changes that number and no other, so each count is the event that the slot stands for.
+use Rattle.std.specs.Prelude.{if◌then◌else◌}
 use Rattle.std.proofs.Common.{◌≡◌, ℕ, zero, suc, ◌+◌, ◌%◌, ◌^◌, ◌<◌, Bool, true, false, eqb, List, [], ◌∷◌, ◌++◌, length, set, sym, refl, ap, ◌∙◌, zero-add, arith, length-set, get_or-set_other, get_or-set_same, eqb-true}
 use borrow.Author.Tests.{eqb-false}
-use Rattle.bits.specs.Choice.{if◌then◌else◌}
 use Rattle.bits.specs.Runs.{store}
 use Rattle.bits.specs.Packed.{Number}
 use Rattle.bits.specs.Padded.{is_padded, padded_among}

@@ -1,8 +1,8 @@
 -- What a head makes of a walk: the laws that the cycle's loops cite. A position `at` is a bit of the bytes; the window starts at bit b of them.
+use Rattle.std.specs.Prelude.{if◌then◌else◌}
 use Rattle.std.proofs.Common.{◌≡◌, ℕ, zero, suc, ◌+◌, ◌-◌, ◌*◌, ◌<◌, ◌≤◌, Bool, true, false, ◌&&◌, eqb, ltb, leb, List, [], ◌∷◌, ◌++◌, sym, refl, ap, ◌∙◌, subst, ap₂, add-zero, zero-add, arith, le-ltb, ne_eqb}
 use borrow.Author.Tests.{lt-leb}
 use Rattle.bits.proofs.Never.{never}
-use Rattle.bits.specs.Choice.{if◌then◌else◌}
 use Rattle.bits.specs.Packed.{Number}
 use Rattle.bits.specs.Padded.{padded_among}
 use Rattle.bits.specs.Sizes.{max_elements, max_fields}

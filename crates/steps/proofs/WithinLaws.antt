@@ -1,7 +1,7 @@
 -- Where heads lie: no position passes the window, and what goes on lies behind.
+use Rattle.std.specs.Prelude.{if◌then◌else◌}
 use Rattle.std.proofs.Common.{◌≡◌, ℕ, zero, suc, ◌+◌, ◌*◌, ◌<◌, ◌≤◌, Bool, true, false, eqb, ltb, leb, List, sym, refl, ap, ◌∙◌, arith, ltb-false, leb-false}
 use borrow.Author.Tests.{eqb-false}
-use Rattle.bits.specs.Choice.{if◌then◌else◌}
 use Rattle.bits.specs.Packed.{Number}
 use Rattle.bits.proofs.Never.{never}
 use Rattle.bits.specs.Sizes.{max_elements}

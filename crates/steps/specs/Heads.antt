@@ -1,6 +1,5 @@
 -- What stands at a position of a window, as the code says it.
-use Rattle.std.specs.Prelude.{ℕ, zero, suc, ◌+◌, ◌*◌, leb, ◌==◌, nat_eq, nat_le, nat_lt}
-use Rattle.bits.specs.Choice.{if◌then◌else◌}
+use Rattle.std.specs.Prelude.{ℕ, zero, suc, ◌+◌, ◌*◌, leb, ◌==◌, nat_eq, nat_le, nat_lt, if◌then◌else◌}
 use Rattle.bits.specs.Sizes.{max_elements}
 use Rattle.bits.specs.Padded.{padded, once}
 use Rattle.framing.specs.Windows.{Window, Reading, got, failed, reading}

@@ -1,6 +1,5 @@
 -- What a field is (01, Walking an array, rules 6 and 8).
-use Rattle.std.specs.Prelude.{ℕ, ◌==◌, nat_eq}
-use Rattle.bits.specs.Choice.{if◌then◌else◌}
+use Rattle.std.specs.Prelude.{ℕ, ◌==◌, nat_eq, if◌then◌else◌}
 use Rattle.schema.specs.Tables.{Tables, child}
 use Rattle.schema.specs.Labels.{container_label_lem, leaf_label, LabelLies}
 use Rattle.schema.specs.declared.Child.{Child}

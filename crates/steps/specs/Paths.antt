@@ -1,6 +1,5 @@
 -- What stands behind a leaf's path, and what the working path is after it grew.
-use Rattle.std.specs.Prelude.{◌≡◌, ℕ, ◌+◌, ◌≤◌, List, [], ◌∷◌, length, take}
-use Rattle.bits.specs.Choice.{if◌then◌else◌}
+use Rattle.std.specs.Prelude.{◌≡◌, ℕ, ◌+◌, ◌≤◌, List, [], ◌∷◌, length, take, if◌then◌else◌}
 use Rattle.bits.specs.Sizes.{longest_index, longest_label, longest_path}
 use Rattle.schema.specs.Tables.{Tables, tables}
 use Rattle.schema.specs.Labels.{label_bytes, label_length_lem, LabelLies, raw_label, at_index}

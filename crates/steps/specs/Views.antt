@@ -1,6 +1,5 @@
 -- Where the code stands in a walk: positions are bits of the bytes, and a window is the bits from `from` to before `end`.
-use Rattle.std.specs.Prelude.{ℕ, ◌+◌, ◌-◌, ◌≤◌, Bool, List, []}
-use Rattle.bits.specs.Choice.{if◌then◌else◌}
+use Rattle.std.specs.Prelude.{ℕ, ◌+◌, ◌-◌, ◌≤◌, Bool, List, [], if◌then◌else◌}
 use Rattle.bits.specs.Bits.{num, field}
 use Rattle.schema.specs.Tables.{Tables}
 use Rattle.framing.specs.Windows.{Window}

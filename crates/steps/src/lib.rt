@@ -5,6 +5,8 @@
 // counters and the places of the next writes are lent as one array, the tally; a run that does not fit its output is not
 // written, and its place is counted all the same, so that a walk lent empty outputs measures. `records` takes leaves, in an
 // object walk pairs.
+#![tactic(auto)]
+
 pub mod exits;
 pub mod heads;
 pub mod kinds;
@@ -18,14 +20,14 @@ pub mod walks;
 use schema::Label;
 
 // A packed number, the bit behind it, and whether it is padded.
-#[derive(Drop)]
+#[derive(Clone, Copy)]
 pub enum NumberRead {
     Value(u32, u64, bool),
     Failed,
 }
 
 // What stands where a level, an element or a field is due.
-#[derive(Drop)]
+#[derive(Clone, Copy)]
 pub enum Head {
     // The window's end.
     Ended,
@@ -40,14 +42,14 @@ pub enum Head {
 }
 
 // What stands behind the dot of a leaf's path.
-#[derive(Drop)]
+#[derive(Clone, Copy)]
 pub enum Tag {
     Label(Label),
     Raw,
 }
 
 // What a field is.
-#[derive(Drop)]
+#[derive(Clone, Copy)]
 pub enum Kind {
     // A field of the object walk.
     Object,
