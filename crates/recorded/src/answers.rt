@@ -7,12 +7,13 @@ ghost use Rattle.recorded.specs.Says.{Says};
 use crate::{fields, say};
 use bitio::Refusal;
 use bitio::said::{Saying, said, stands_after};
+use std::io;
 use words::wide;
 
 // Document 01's number for outputs that are too short: what a call has to answer that is lent less than the recorded one fills.
 pub const SHORT: u64 = 3;
 
-#[derive(Drop)]
+#[derive(Clone, Copy)]
 pub struct Answer {
     pub number: u64,
     pub first: u64,
@@ -22,18 +23,18 @@ pub struct Answer {
 }
 
 // A recorded answer, and the place after it.
-#[derive(Drop)]
+#[derive(Clone, Copy)]
 pub struct Expected {
     pub answer: Answer,
     pub next: usize,
 }
 
 // Why a case can't be replayed.
-#[derive(Drop)]
+#[derive(Clone, Copy)]
 pub enum Fault {
     None,
-    // A read of the file fails; errno says why.
-    Unread,
+    // A read of the file fails, and why.
+    Unread(io::Error),
     // The file's length is not what was read.
     Changed,
     // The file ends inside the case.
@@ -49,7 +50,7 @@ pub enum Fault {
     List,
 }
 
-#[derive(Drop)]
+#[derive(Clone, Copy)]
 pub enum Outcome {
     Same,
     // The line that says so is printed.
@@ -127,18 +128,18 @@ pub fn same(a: Answer, b: Answer) -> bool {
 }
 
 // The outcome of a case whose last part is the recorded answer.
-pub fn judge(s: &[u8], expected: Expected, got: Answer) -> Outcome {
+pub fn judge(out: &impl Print, s: &[u8], expected: Expected, got: Answer) -> io::Result<Outcome> {
     if expected.next != s.len() {
-        return Outcome::Damaged(Fault::Layout);
+        return Ok(Outcome::Damaged(Fault::Layout));
     }
     let answer = expected.answer;
     if same(answer, got) {
-        return Outcome::Same;
+        return Ok(Outcome::Same);
     }
-    say::case(s);
-    say::answer(answer);
-    say::text(b", got ");
-    say::answer(got);
-    say::text(b"\n");
-    Outcome::Differs
+    say::case(out, s)?;
+    say::answer(out, answer)?;
+    say::text(out, b", got ")?;
+    say::answer(out, got)?;
+    say::text(out, b"\n")?;
+    Ok(Outcome::Differs)
 }

@@ -3,6 +3,7 @@ use crate::answers::{Answer, Expected, Fault, Outcome};
 use crate::windows::{Placed, Window};
 use crate::{answers, fields, patterns, say, windows};
 use bitio::Copied;
+use std::io;
 
 fn answer(bytes: &[u8], w: Window, count: u64, target: &mut [u8]) -> Answer {
     let placed = windows::place(bytes, w);
@@ -18,25 +19,32 @@ fn answer(bytes: &[u8], w: Window, count: u64, target: &mut [u8]) -> Answer {
     }
 }
 
-fn judge(s: &[u8], expected: Expected, after: &[u8], got: Answer, target: &[u8]) -> Outcome {
+fn judge(
+    out: &impl Print,
+    s: &[u8],
+    expected: Expected,
+    after: &[u8],
+    got: Answer,
+    target: &[u8],
+) -> io::Result<Outcome> {
     let recorded = expected.answer;
     if answers::same(recorded, got) && fields::equal(after, target) {
-        return Outcome::Same;
+        return Ok(Outcome::Same);
     }
-    say::case(s);
-    say::answer(recorded);
-    say::text(b" target ");
-    say::hex(after);
-    say::text(b", got ");
-    say::answer(got);
-    say::text(b" target ");
-    say::hex(target);
-    say::text(b"\n");
-    Outcome::Differs
+    say::case(out, s)?;
+    say::answer(out, recorded)?;
+    say::text(out, b" target ")?;
+    say::hex(out, after)?;
+    say::text(out, b", got ")?;
+    say::answer(out, got)?;
+    say::text(out, b" target ")?;
+    say::hex(out, target)?;
+    say::text(out, b"\n")?;
+    Ok(Outcome::Differs)
 }
 
 // The case, with the front of `space` as the target.
-pub fn replay(s: &[u8], at: usize, space: &mut [u8]) -> Outcome {
+pub fn replay(out: &impl Print, s: &[u8], at: usize, space: &mut [u8]) -> io::Result<Outcome> {
     let count = fields::number(s, at);
     let room = fields::number(s, count.next);
     let w = windows::of_case(s, room.next);
@@ -45,16 +53,16 @@ pub fn replay(s: &[u8], at: usize, space: &mut [u8]) -> Outcome {
     let after = fields::rest(s, expected.next);
     let n = after.len();
     if s.len() < expected.next {
-        return Outcome::Damaged(Fault::Layout);
+        return Ok(Outcome::Damaged(Fault::Layout));
     }
     if n as u64 != room.value {
-        return Outcome::Damaged(Fault::Layout);
+        return Ok(Outcome::Damaged(Fault::Layout));
     }
     if space.len() < n {
-        return Outcome::Damaged(Fault::Number);
+        return Ok(Outcome::Damaged(Fault::Number));
     }
     let target = &mut space[0..n];
     patterns::fill_bytes(target);
     let got = answer(bytes, w, count.value, target);
-    judge(s, expected, after, got, target)
+    judge(out, s, expected, after, got, target)
 }

@@ -5,13 +5,13 @@
 pub use words::equal;
 
 // A number, and the place after it.
-#[derive(Drop)]
+#[derive(Clone, Copy)]
 pub struct Field {
     pub value: u64,
     pub next: usize,
 }
 
-#[derive(Drop)]
+#[derive(Clone, Copy)]
 pub struct ShortField {
     pub value: u32,
     pub next: usize,

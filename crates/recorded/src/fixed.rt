@@ -3,6 +3,7 @@ use crate::answers::{Answer, Outcome};
 use crate::windows::{Placed, Window};
 use crate::{answers, fields, windows};
 use bitio::BitsRead;
+use std::io;
 
 fn answer(bytes: &[u8], w: Window, count: u64) -> Answer {
     let placed = windows::place(bytes, w);
@@ -18,10 +19,10 @@ fn answer(bytes: &[u8], w: Window, count: u64) -> Answer {
     }
 }
 
-pub fn replay(s: &[u8], at: usize) -> Outcome {
+pub fn replay(out: &impl Print, s: &[u8], at: usize) -> io::Result<Outcome> {
     let count = fields::number(s, at);
     let w = windows::of_case(s, count.next);
     let bytes = fields::run(s, w.run);
     let got = answer(bytes, w, count.value);
-    answers::judge(s, w.expected, got)
+    answers::judge(out, s, w.expected, got)
 }

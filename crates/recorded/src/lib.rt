@@ -1,6 +1,7 @@
 // Recorded cases: what stands in one, our answer beside the recorded one, what a call is lent and leaves there, what is printed
 // of a difference, and the kinds that call the bit reader. The program `replay` has the file's format, the other kinds and the
 // loop over the cases.
+#![tactic(auto)]
 
 pub mod answers;
 pub mod copied;

@@ -45,11 +45,9 @@ pub fn unpack(list: &[u8], room: &mut [u32]) -> usize
     ensures { result ≤ length room.old }
 {
     let n = least(list.len() / 4, room.len());
-    let mut i = 0;
-    while i < n {
+    for i in 0..n {
         let value = bits::load::load32(list, 4 * i);
         room[i] = value as u32;
-        i += 1;
     }
     n
 }
@@ -60,13 +58,11 @@ pub fn same_words(list: &[u8], words: &[u32]) -> bool {
     if n != words.len() {
         return false;
     }
-    let mut i = 0;
-    while i < n {
+    for i in 0..n {
         let word = bits::load::load32(list, 4 * i);
         if wide(words[i]) != word {
             return false;
         }
-        i += 1;
     }
     true
 }

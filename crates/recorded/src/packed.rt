@@ -3,6 +3,7 @@ use crate::answers::{Answer, Outcome};
 use crate::windows::{Placed, Window};
 use crate::{answers, fields, windows};
 use bitio::PackedRead;
+use std::io;
 use words::wide;
 
 fn answer(bytes: &[u8], w: Window) -> Answer {
@@ -24,9 +25,9 @@ fn answer(bytes: &[u8], w: Window) -> Answer {
     }
 }
 
-pub fn replay(s: &[u8], at: usize) -> Outcome {
+pub fn replay(out: &impl Print, s: &[u8], at: usize) -> io::Result<Outcome> {
     let w = windows::of_case(s, at);
     let bytes = fields::run(s, w.run);
     let got = answer(bytes, w);
-    answers::judge(s, w.expected, got)
+    answers::judge(out, s, w.expected, got)
 }

@@ -6,42 +6,24 @@ const WORD: u32 = 0xeeee_eeee;
 const BYTE: u8 = 0xee;
 
 pub fn fill_words(words: &mut [u32]) {
-    let mut i = 0;
-    while i < words.len() {
-        words[i] = WORD;
-        i += 1;
+    for word in words.iter_mut() {
+        *word = WORD;
     }
 }
 
 pub fn fill_bytes(bytes: &mut [u8]) {
-    let mut i = 0;
-    while i < bytes.len() {
-        bytes[i] = BYTE;
-        i += 1;
+    for byte in bytes.iter_mut() {
+        *byte = BYTE;
     }
 }
 
 // Whether only the pattern stands from `at` on.
 fn untouched_words(words: &[u32], at: usize) -> bool {
-    let mut i = at;
-    while i < words.len() {
-        if words[i] != WORD {
-            return false;
-        }
-        i += 1;
-    }
-    true
+    words.iter().skip(at).all(|word| *word == WORD)
 }
 
 fn untouched_bytes(bytes: &[u8]) -> bool {
-    let mut i = 0;
-    while i < bytes.len() {
-        if bytes[i] != BYTE {
-            return false;
-        }
-        i += 1;
-    }
-    true
+    bytes.iter().all(|byte| *byte == BYTE)
 }
 
 // Whether the words start with those of the list, and go on with the pattern.

@@ -4,7 +4,7 @@
 // counts numbers or bytes, not records. Trial 0 lends what the call needs, trial 1 seven more of each, so that a whole record
 // would fit behind, and the trials 2, 3 and 4 one less than it needs of the first, the second and the third output.
 
-#[derive(Drop)]
+#[derive(Clone, Copy)]
 pub struct Room {
     pub first: usize,
     pub second: usize,

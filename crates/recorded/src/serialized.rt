@@ -3,6 +3,7 @@ use crate::answers::{Answer, Fault, Outcome};
 use crate::windows::{Placed, Window};
 use crate::{answers, fields, windows};
 use bitio::SerializedRead;
+use std::io;
 
 fn answer(bytes: &[u8], w: Window, maximum: u32) -> Answer {
     let placed = windows::place(bytes, w);
@@ -21,15 +22,15 @@ fn answer(bytes: &[u8], w: Window, maximum: u32) -> Answer {
     }
 }
 
-pub fn replay(s: &[u8], at: usize) -> Outcome {
+pub fn replay(out: &impl Print, s: &[u8], at: usize) -> io::Result<Outcome> {
     let field = fields::number(s, at);
     let w = windows::of_case(s, field.next);
     let bytes = fields::run(s, w.run);
     let large = field.value;
     if 0xffff_ffff < large {
-        return Outcome::Damaged(Fault::Number);
+        return Ok(Outcome::Damaged(Fault::Number));
     }
     let maximum = large as u32;
     let got = answer(bytes, w, maximum);
-    answers::judge(s, w.expected, got)
+    answers::judge(out, s, w.expected, got)
 }

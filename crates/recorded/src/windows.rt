@@ -3,7 +3,7 @@ use crate::answers::{Answer, Expected};
 use crate::{answers, fields};
 use bitio::{Cursor, Opened, Skipped};
 
-#[derive(Drop)]
+#[derive(Clone, Copy)]
 pub struct Window {
     pub skip: u64,
     pub bits: u64,
@@ -13,7 +13,7 @@ pub struct Window {
 }
 
 // A cursor where a read is to begin, or the answer of the call that refused it.
-#[derive(Drop)]
+#[derive(Clone, Copy)]
 pub enum Placed {
     Ready(Cursor),
     Refused(Answer),

@@ -7,10 +7,11 @@ use fastarray::{ChecksumMode, FastArray};
 use recorded::answers::{Answer, Fault, Outcome, SHORT, outcome_of};
 use recorded::rooms::Room;
 use recorded::{answers, fields, lists, patterns, rooms, say};
+use std::io;
 use words::wide;
 
 // The call's inputs, without its buffers.
-#[derive(Drop)]
+#[derive(Clone, Copy)]
 struct Call {
     bits: u32,
     mode: ChecksumMode,
@@ -19,14 +20,14 @@ struct Call {
 }
 
 // What a call says: its answer, and how many padded numbers were read.
-#[derive(Drop)]
+#[derive(Clone, Copy)]
 struct Told {
     answer: Answer,
     padded: u64,
 }
 
 // What is recorded of a body: what it says, and where its lists stand. One that is refused has none.
-#[derive(Drop)]
+#[derive(Clone, Copy)]
 struct Recorded {
     told: Told,
     keys: usize,
@@ -150,42 +151,50 @@ fn same_told(a: Told, b: Told) -> bool {
 
 // ---- a difference
 
-fn say_told(t: Told) {
+fn say_told(out: &impl Print, t: Told) -> io::Result<()> {
     let a = t.answer;
-    say::text(b"number ");
-    say::number(a.number);
-    say::text(b", ");
-    say::number(a.first);
-    say::text(b" deletes, ");
-    say::number(a.second);
-    say::text(b" items, ");
-    say::number(a.third);
-    say::text(b" fields, ");
-    say::number(a.cursor);
-    say::text(b" bits used, ");
-    say::number(t.padded);
-    say::text(b" padded numbers");
+    say::text(out, b"number ")?;
+    say::number(out, a.number)?;
+    say::text(out, b", ")?;
+    say::number(out, a.first)?;
+    say::text(out, b" deletes, ")?;
+    say::number(out, a.second)?;
+    say::text(out, b" items, ")?;
+    say::number(out, a.third)?;
+    say::text(out, b" fields, ")?;
+    say::number(out, a.cursor)?;
+    say::text(out, b" bits used, ")?;
+    say::number(out, t.padded)?;
+    say::text(out, b" padded numbers")
 }
 
-fn differs(s: &[u8], expected: Told, got: Told, room: Room, why: &[u8]) -> bool {
-    say::case(s);
-    say_told(expected);
-    say::text(b", got ");
-    say_told(got);
-    say::text(why);
-    say::text(b", lent ");
-    say::number(room.first as u64);
-    say::text(b" ids, ");
-    say::number(room.second as u64);
-    say::text(b" and ");
-    say::number(room.third as u64);
-    say::text(b" numbers\n");
-    false
+fn differs(
+    out: &impl Print,
+    s: &[u8],
+    expected: Told,
+    got: Told,
+    room: Room,
+    why: &[u8],
+) -> io::Result<bool> {
+    say::case(out, s)?;
+    say_told(out, expected)?;
+    say::text(out, b", got ")?;
+    say_told(out, got)?;
+    say::text(out, why)?;
+    say::text(out, b", lent ")?;
+    say::number(out, room.first as u64)?;
+    say::text(out, b" ids, ")?;
+    say::number(out, room.second as u64)?;
+    say::text(out, b" and ")?;
+    say::number(out, room.third as u64)?;
+    say::text(out, b" numbers\n")?;
+    Ok(false)
 }
 
 // Whether a call says and leaves what is recorded or, where a buffer is short, the refusal for its needs and nothing; the
 // line that says otherwise is printed.
 fn judge(
+    out: &impl Print,
     s: &[u8],
     want: Recorded,
     short: bool,
@@ -193,7 +202,7 @@ fn judge(
     deleted: &[i32],
     items: &[u32],
     records: &[u32],
-) -> bool {
+) -> io::Result<bool> {
     let expected = expected_of(want.told, short);
     let got = told_by(r);
     let room = rooms::room_of(deleted.len(), items.len(), records.len());
@@ -202,27 +211,28 @@ fn judge(
     let item_list = fields::part(s, want.items, want.fields);
     let field_list = fields::part(s, want.fields, want.end);
     if !same_told(expected, got) {
-        return differs(s, expected, got, room, b"");
+        return differs(out, s, expected, got, room, b"");
     }
     if !same_keys(keys, r) {
-        return differs(s, expected, got, room, b", and other keys");
+        return differs(out, s, expected, got, room, b", and other keys");
     }
     if !ids::holds(deleted, fields::unless(short, id_list)) {
-        return differs(s, expected, got, room, b", and other deleted ids");
+        return differs(out, s, expected, got, room, b", and other deleted ids");
     }
     if !patterns::holds_words(items, fields::unless(short, item_list)) {
-        return differs(s, expected, got, room, b", and other items");
+        return differs(out, s, expected, got, room, b", and other items");
     }
     if !patterns::holds_words(records, fields::unless(short, field_list)) {
-        return differs(s, expected, got, room, b", and other fields");
+        return differs(out, s, expected, got, room, b", and other fields");
     }
-    true
+    Ok(true)
 }
 
 // ---- the trials
 
 // The same of the call that is lent these buffers.
 fn gives(
+    out: &impl Print,
     s: &[u8],
     call: Call,
     want: Recorded,
@@ -230,7 +240,7 @@ fn gives(
     deleted: &mut [i32],
     items: &mut [u32],
     records: &mut [u32],
-) -> bool {
+) -> io::Result<bool> {
     ids::fill(deleted);
     patterns::fill_words(items);
     patterns::fill_words(records);
@@ -238,11 +248,12 @@ fn gives(
     let bits = call.bits;
     let mode = call.mode;
     let r = fastarray::decode_fast_array_delta(bytes, bits, mode, deleted, items, records);
-    judge(s, want, short, r, deleted, items, records)
+    judge(out, s, want, short, r, deleted, items, records)
 }
 
 // The same, lent so much of these.
 fn gives_in(
+    out: &impl Print,
     s: &[u8],
     call: Call,
     want: Recorded,
@@ -251,18 +262,28 @@ fn gives_in(
     deleted: &mut [i32],
     items: &mut [u32],
     records: &mut [u32],
-) -> bool {
+) -> io::Result<bool> {
     let d = lists::least(room.first, deleted.len());
     let i = lists::least(room.second, items.len());
     let f = lists::least(room.third, records.len());
     let few_deleted = &mut deleted[..d];
     let few_items = &mut items[..i];
     let few_records = &mut records[..f];
-    gives(s, call, want, short, few_deleted, few_items, few_records)
+    gives(
+        out,
+        s,
+        call,
+        want,
+        short,
+        few_deleted,
+        few_items,
+        few_records,
+    )
 }
 
 // The same of the trial with this number, if there is one.
 fn passes(
+    out: &impl Print,
     s: &[u8],
     call: Call,
     want: Recorded,
@@ -271,17 +292,18 @@ fn passes(
     deleted: &mut [i32],
     items: &mut [u32],
     records: &mut [u32],
-) -> bool {
+) -> io::Result<bool> {
     if !rooms::is_tried(needs, trial) {
-        return true;
+        return Ok(true);
     }
     let room = rooms::lent(needs, trial);
     let short = rooms::is_short(trial);
-    gives_in(s, call, want, short, room, deleted, items, records)
+    gives_in(out, s, call, want, short, room, deleted, items, records)
 }
 
 // The same of all trials, up to the first that fails.
 fn is_same(
+    out: &impl Print,
     s: &[u8],
     call: Call,
     want: Recorded,
@@ -289,47 +311,49 @@ fn is_same(
     deleted: &mut [i32],
     items: &mut [u32],
     records: &mut [u32],
-) -> bool {
-    let mut trial: usize = 0;
-    while trial < rooms::TRIALS {
-        if !passes(s, call, want, needs, trial, deleted, items, records) {
-            return false;
+) -> io::Result<bool> {
+    for trial in 0..rooms::TRIALS {
+        if !passes(out, s, call, want, needs, trial, deleted, items, records)? {
+            return Ok(false);
         }
-        trial += 1;
     }
-    true
+    Ok(true)
 }
 
 // The same of a body whose lists are larger than these: it is lent nothing.
 fn is_same_unlent(
+    out: &impl Print,
     s: &[u8],
     call: Call,
     want: Recorded,
     deleted: &mut [i32],
     items: &mut [u32],
     records: &mut [u32],
-) -> bool {
+) -> io::Result<bool> {
     let nothing = rooms::room_of(0, 0, 0);
-    gives_in(s, call, want, true, nothing, deleted, items, records)
+    gives_in(out, s, call, want, true, nothing, deleted, items, records)
 }
 
 // The case, with the fronts of these as buffers.
 fn replay_in(
+    out: &impl Print,
     s: &[u8],
     call: Call,
     want: Recorded,
     deleted: &mut [i32],
     items: &mut [u32],
     records: &mut [u32],
-) -> Outcome {
+) -> io::Result<Outcome> {
     let id_list = fields::part(s, want.deleted, want.items);
     let item_list = fields::part(s, want.items, want.fields);
     let field_list = fields::part(s, want.fields, want.end);
     let needs = rooms::room_of(id_list.len() / 4, item_list.len() / 4, field_list.len() / 4);
     if rooms::has_room(needs, deleted.len(), items.len(), records.len()) {
-        return outcome_of(is_same(s, call, want, needs, deleted, items, records));
+        let same = is_same(out, s, call, want, needs, deleted, items, records)?;
+        return Ok(outcome_of(same));
     }
-    outcome_of(is_same_unlent(s, call, want, deleted, items, records))
+    let same = is_same_unlent(out, s, call, want, deleted, items, records)?;
+    Ok(outcome_of(same))
 }
 
 // The mode that a flag of 0 or 1 says.
@@ -342,16 +366,16 @@ fn mode_of(flag: u64) -> ChecksumMode {
 }
 
 // The case, with the front of `records` for the fields.
-pub fn replay(s: &[u8], at: usize, records: &mut [u32]) -> Outcome {
+pub fn replay(out: &impl Print, s: &[u8], at: usize, records: &mut [u32]) -> io::Result<Outcome> {
     let flag = fields::number(s, at);
     let bit_count = fields::short_number(s, flag.next);
     let bytes = bit_count.next;
     let want = recorded_body(s, fields::after_run(s, bytes));
     if want.end != s.len() {
-        return Outcome::Damaged(Fault::Layout);
+        return Ok(Outcome::Damaged(Fault::Layout));
     }
     if 1 < flag.value {
-        return Outcome::Damaged(Fault::Number);
+        return Ok(Outcome::Damaged(Fault::Number));
     }
     let call = Call {
         bits: bit_count.value,
@@ -360,5 +384,5 @@ pub fn replay(s: &[u8], at: usize, records: &mut [u32]) -> Outcome {
     };
     let mut deleted = id_room();
     let mut items = item_room();
-    replay_in(s, call, want, &mut deleted, &mut items, records)
+    replay_in(out, s, call, want, &mut deleted, &mut items, records)
 }

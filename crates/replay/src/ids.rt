@@ -20,10 +20,8 @@ pub fn signed_at(s: &[u8], at: usize) -> i64 {
 }
 
 pub fn fill(ids: &mut [i32]) {
-    let mut i = 0;
-    while i < ids.len() {
-        ids[i] = PATTERN;
-        i += 1;
+    for id in ids.iter_mut() {
+        *id = PATTERN;
     }
 }
 
@@ -33,27 +31,18 @@ fn same(list: &[u8], ids: &[i32]) -> bool {
     if n != ids.len() {
         return false;
     }
-    let mut i = 0;
-    while i < n {
+    for i in 0..n {
         let id = ids[i];
         if widened_id(id) != signed_at(list, 4 * i) {
             return false;
         }
-        i += 1;
     }
     true
 }
 
 // Whether only the pattern stands from `at` on.
 fn untouched(ids: &[i32], at: usize) -> bool {
-    let mut i = at;
-    while i < ids.len() {
-        if ids[i] != PATTERN {
-            return false;
-        }
-        i += 1;
-    }
-    true
+    ids.iter().skip(at).all(|id| *id == PATTERN)
 }
 
 fn front(ids: &[i32], n: usize) -> &[i32] {

@@ -52,6 +52,8 @@
 //
 // A further kind is a row above, a file with `replay(s, at, ..)` for its fields at byte `at` of the case s, lent what outputs it
 // has, and a line in `replay_case`.
+#![tactic(auto)]
+
 mod fast;
 mod geometric;
 mod ids;
@@ -72,10 +74,15 @@ use outputs::records::LEAF_WORDS;
 use recorded::answers::{Fault, Outcome};
 use recorded::{copied, fields, fixed, lists, packed, say, serialized};
 use source::{Started, Taken};
+use std::env::Env;
+use std::io;
+use std::io::{Read, Seek};
+use std::rt::Files;
 use walked::trials;
+use words::input;
 
 // How far the replay has come.
-#[derive(Drop)]
+#[derive(Clone, Copy)]
 struct Progress {
     // The bytes of the file that were read.
     read: u64,
@@ -87,7 +94,7 @@ struct Progress {
 }
 
 // What comes of the next case.
-#[derive(Drop)]
+#[derive(Clone, Copy)]
 enum Step {
     // Its bytes in the file, with its size.
     Same(u64),
@@ -122,27 +129,33 @@ fn payload_room() -> [u8; 65543]
 }
 
 // One case, without its size.
-fn replay_case(s: &[u8], numbers: &mut [u32], paths: &mut [u8], payloads: &mut [u8]) -> Outcome {
+fn replay_case(
+    out: &impl Print,
+    s: &[u8],
+    numbers: &mut [u32],
+    paths: &mut [u8],
+    payloads: &mut [u8],
+) -> io::Result<Outcome> {
     let at = fields::after_id(s);
     if s.len() < at {
-        return Outcome::Damaged(Fault::Layout);
+        return Ok(Outcome::Damaged(Fault::Layout));
     }
     let kind = fields::kind(s);
     match kind {
-        b'P' => packed::replay(s, at),
-        b'I' => serialized::replay(s, at),
-        b'G' => fixed::replay(s, at),
-        b'C' => copied::replay(s, at, paths),
-        b'L' => tables::replay(s, at),
-        b'V' => vector::replay(s, at),
-        b'N' => normal::replay(s, at),
-        b'R' => rotation::replay(s, at),
-        b'M' => movement::replay(s, at),
-        b'F' => fast::replay(s, at, numbers),
-        b'S' => trials::replay(Walk::Struct, s, at, numbers, paths, payloads),
-        b'X' => trials::replay(Walk::Exact, s, at, numbers, paths, payloads),
-        b'O' => trials::replay(Walk::Object, s, at, numbers, paths, payloads),
-        _ => Outcome::Damaged(Fault::Kind),
+        b'P' => packed::replay(out, s, at),
+        b'I' => serialized::replay(out, s, at),
+        b'G' => fixed::replay(out, s, at),
+        b'C' => copied::replay(out, s, at, paths),
+        b'L' => tables::replay(out, s, at),
+        b'V' => vector::replay(out, s, at),
+        b'N' => normal::replay(out, s, at),
+        b'R' => rotation::replay(out, s, at),
+        b'M' => movement::replay(out, s, at),
+        b'F' => fast::replay(out, s, at, numbers),
+        b'S' => trials::replay(out, Walk::Struct, s, at, numbers, paths, payloads),
+        b'X' => trials::replay(out, Walk::Exact, s, at, numbers, paths, payloads),
+        b'O' => trials::replay(out, Walk::Object, s, at, numbers, paths, payloads),
+        _ => Ok(Outcome::Damaged(Fault::Kind)),
     }
 }
 
@@ -157,22 +170,23 @@ fn after_case(outcome: Outcome, size: usize) -> Step {
 
 // The next case, behind so many bytes of the file.
 fn next_case(
-    fd: i32,
+    out: &impl Print,
+    file: &mut (impl Read + Seek),
     read: u64,
     space: &mut [u8],
     numbers: &mut [u32],
     paths: &mut [u8],
     payloads: &mut [u8],
-) -> Step {
-    let taken = source::take(fd, read, space);
+) -> io::Result<Step> {
+    let taken = source::take(file, read, space);
     match taken {
         Taken::Case(n) => {
             let end = lists::least(n, space.len());
-            let outcome = replay_case(&space[0..end], numbers, paths, payloads);
-            after_case(outcome, end)
+            let outcome = replay_case(out, &space[0..end], numbers, paths, payloads)?;
+            Ok(after_case(outcome, end))
         }
-        Taken::End => Step::End,
-        Taken::Faulty(fault) => Step::Stop(fault),
+        Taken::End => Ok(Step::End),
+        Taken::Faulty(fault) => Ok(Step::Stop(fault)),
     }
 }
 
@@ -216,78 +230,98 @@ fn after_step(before: Progress, next: Step) -> Progress {
 // All cases behind the magic. Nothing says that a file ends, so the loop counts its turns down, from a number that no run uses
 // up.
 fn replay_all(
-    fd: i32,
+    out: &impl Print,
+    file: &mut (impl Read + Seek),
     space: &mut [u8],
     numbers: &mut [u32],
     paths: &mut [u8],
     payloads: &mut [u8],
-) -> Progress {
+) -> io::Result<Progress> {
     let mut so_far = reached(8, 0, 0);
-    let mut turns = u64::MAX;
-    while 0 < turns {
-        turns -= 1;
-        let next = next_case(fd, so_far.read, space, numbers, paths, payloads);
+    for _ in 0..u64::MAX {
+        let next = next_case(out, file, so_far.read, space, numbers, paths, payloads)?;
         so_far = after_step(so_far, next);
         if !so_far.goes_on {
-            return so_far;
+            return Ok(so_far);
         }
     }
-    stopped(so_far, Fault::Changed)
+    Ok(stopped(so_far, Fault::Changed))
 }
 
 // The count, or why there is none.
-fn report(p: Progress) {
+fn report(out: &impl Print, err: &impl Print, p: Progress) -> io::Result<()> {
     let fault = p.fault;
     match fault {
         Fault::None => {
-            say::number(p.cases);
-            say::text(b" cases, ");
-            say::number(p.differ);
-            say::text(b" differ\n");
+            say::number(out, p.cases)?;
+            say::text(out, b" cases, ")?;
+            say::number(out, p.differ)?;
+            say::text(out, b" differ\n")
         }
         _ => {
             let number = std::num::wrapping_add_u64(p.cases, 1);
-            say::fault(fault, number);
+            say::fault(err, fault, number);
+            Ok(())
         }
     }
 }
 
-fn replay_file(fd: i32) {
+fn replay_file(
+    out: &impl Print,
+    err: &impl Print,
+    file: &mut (impl Read + Seek),
+) -> io::Result<()> {
     let mut space = source::room();
     let mut numbers = number_room();
     let mut paths = path_room();
     let mut payloads = payload_room();
-    let p = replay_all(fd, &mut space, &mut numbers, &mut paths, &mut payloads);
-    report(p);
+    let p = replay_all(
+        out,
+        file,
+        &mut space,
+        &mut numbers,
+        &mut paths,
+        &mut payloads,
+    )?;
+    report(out, err, p)
 }
 
-fn run(fd: i32) {
-    let started = source::start(fd);
+fn run(out: &impl Print, err: &impl Print, file: &mut (impl Read + Seek)) -> io::Result<()> {
+    let started = source::start(file);
     match started {
-        Started::Cases => {
-            replay_file(fd);
-        }
+        Started::Cases => replay_file(out, err, file),
         Started::NoCases => {
-            say::failed(b"not a file of cases: its first bytes are not VRFCASE4");
+            say::failed(
+                err,
+                b"not a file of cases: its first bytes are not VRFCASE4",
+            );
+            Ok(())
         }
-        Started::Unread => {
-            say::unread();
+        Started::Unread(why) => {
+            say::unread(err, why);
+            Ok(())
         }
     }
 }
 
-fn main() {
-    let mut path = io::buffer();
-    let n = os::arg(1, &mut path);
-    if os::errno() != 0 {
-        words::error::text(b"usage: replay FILE\n");
-        return;
+// The file of that name.
+fn run_named<R: Files>(rt: &R, out: &impl Print, err: &impl Print, path: &[u8]) -> io::Result<()> {
+    match input::open(rt, err, path) {
+        Some(mut file) => run(out, err, &mut file),
+        None => Ok(()),
     }
-    let fd = os::open_read(&path[..n]);
-    if fd < 0 {
-        os::fail(&path[..n]);
-        return;
+}
+
+fn main(rt: HostRuntime) {
+    let out = rt.stdout();
+    let err = rt.stderr();
+    let mut path = [0u8; 4096];
+    match rt.arg(1, &mut path) {
+        Ok(n) => {
+            if let Err(why) = run_named(&rt, &out, &err, &path[..n]) {
+                words::end_output(&err, why);
+            }
+        }
+        Err(_) => words::error::text(&err, b"usage: replay FILE\n"),
     }
-    run(fd);
-    libc::close(fd);
 }

@@ -5,11 +5,12 @@ use geometry::{
 };
 use recorded::answers::{Answer, Expected, Fault, Outcome};
 use recorded::{answers, fields, say};
+use std::io;
 
 // An answer with its record: sleep, physics, the patterns of the location, the rotation and the linear velocity, then
 // whether there is an angular velocity and its patterns, a frame and its number, a handle and its number, and how many of these
 // two are padded.
-#[derive(Drop)]
+#[derive(Clone, Copy)]
 struct Found {
     answer: Answer,
     record: [u64; 20],
@@ -105,59 +106,48 @@ fn read(bytes: &[u8], bits: u64, wide: bool, scale: VectorQuantization) -> Found
 fn recorded(s: &[u8], at: usize) -> [u64; 20] {
     let mut record = [0u64; 20];
     let mut here = at;
-    let mut i = 0;
-    while i < 20 {
+    for number in record.iter_mut() {
         let field = fields::number(s, here);
-        record[i] = field.value;
+        *number = field.value;
         here = field.next;
-        i += 1;
     }
     record
 }
 
 fn same_record(a: [u64; 20], b: [u64; 20]) -> bool {
-    let mut i = 0;
-    while i < 20 {
-        if a[i] != b[i] {
-            return false;
-        }
-        i += 1;
-    }
-    true
+    a == b
 }
 
-fn say_found(f: Found) {
-    say::answer(f.answer);
-    say::text(b" record");
-    let record = f.record;
-    let mut i = 0;
-    while i < 20 {
-        say::text(b" ");
-        say::pattern(record[i]);
-        i += 1;
+fn say_found(out: &impl Print, f: Found) -> io::Result<()> {
+    say::answer(out, f.answer)?;
+    say::text(out, b" record")?;
+    for number in f.record {
+        say::text(out, b" ")?;
+        say::pattern(out, number)?;
     }
+    Ok(())
 }
 
-fn judge(s: &[u8], expected: Expected, got: Found) -> Outcome {
+fn judge(out: &impl Print, s: &[u8], expected: Expected, got: Found) -> io::Result<Outcome> {
     let rest = fields::rest(s, expected.next);
     if rest.len() != 160 {
-        return Outcome::Damaged(Fault::Layout);
+        return Ok(Outcome::Damaged(Fault::Layout));
     }
     let answer = expected.answer;
     let record = recorded(s, expected.next);
     let found = got.record;
     if answers::same(answer, got.answer) && same_record(record, found) {
-        return Outcome::Same;
+        return Ok(Outcome::Same);
     }
-    say::case(s);
-    say_found(made(answer, record));
-    say::text(b", got ");
-    say_found(got);
-    say::text(b"\n");
-    Outcome::Differs
+    say::case(out, s)?;
+    say_found(out, made(answer, record))?;
+    say::text(out, b", got ")?;
+    say_found(out, got)?;
+    say::text(out, b"\n")?;
+    Ok(Outcome::Differs)
 }
 
-pub fn replay(s: &[u8], at: usize) -> Outcome {
+pub fn replay(out: &impl Print, s: &[u8], at: usize) -> io::Result<Outcome> {
     let scale = fields::number(s, at);
     let width = fields::number(s, scale.next);
     let bits = fields::number(s, width.next);
@@ -166,11 +156,12 @@ pub fn replay(s: &[u8], at: usize) -> Outcome {
     let expected = answers::recorded(s, end);
     let wide = width.value == 16;
     if !wide && width.value != 8 {
-        return Outcome::Damaged(Fault::Number);
+        return Ok(Outcome::Damaged(Fault::Number));
     }
     let by = scale.value;
     match by {
         1 => judge(
+            out,
             s,
             expected,
             read(
@@ -181,11 +172,13 @@ pub fn replay(s: &[u8], at: usize) -> Outcome {
             ),
         ),
         10 => judge(
+            out,
             s,
             expected,
             read(bytes, bits.value, wide, VectorQuantization::RoundOneDecimal),
         ),
         100 => judge(
+            out,
             s,
             expected,
             read(
@@ -195,6 +188,6 @@ pub fn replay(s: &[u8], at: usize) -> Outcome {
                 VectorQuantization::RoundTwoDecimals,
             ),
         ),
-        _ => Outcome::Damaged(Fault::Number),
+        _ => Ok(Outcome::Damaged(Fault::Number)),
     }
 }

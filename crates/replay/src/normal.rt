@@ -3,6 +3,7 @@ use crate::geometric;
 use recorded::answers::{Answer, Outcome};
 use recorded::windows::{Placed, Window};
 use recorded::{answers, fields, windows};
+use std::io;
 
 fn answer(bytes: &[u8], w: Window) -> Answer {
     let placed = windows::place(bytes, w);
@@ -15,9 +16,9 @@ fn answer(bytes: &[u8], w: Window) -> Answer {
     }
 }
 
-pub fn replay(s: &[u8], at: usize) -> Outcome {
+pub fn replay(out: &impl Print, s: &[u8], at: usize) -> io::Result<Outcome> {
     let w = windows::of_case(s, at);
     let bytes = fields::run(s, w.run);
     let got = answer(bytes, w);
-    answers::judge(s, w.expected, got)
+    answers::judge(out, s, w.expected, got)
 }

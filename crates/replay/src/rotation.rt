@@ -4,6 +4,7 @@ use geometry::{Rotation, RotationRead};
 use recorded::answers::{Answer, Fault, Outcome};
 use recorded::windows::{Placed, Window};
 use recorded::{answers, fields, windows};
+use std::io;
 
 fn accepted(v: Rotation, next: u64) -> Answer {
     let pitch = geometric::single_bits(v.pitch);
@@ -26,15 +27,15 @@ fn answer(bytes: &[u8], w: Window, width: u32) -> Answer {
     }
 }
 
-pub fn replay(s: &[u8], at: usize) -> Outcome {
+pub fn replay(out: &impl Print, s: &[u8], at: usize) -> io::Result<Outcome> {
     let field = fields::number(s, at);
     let w = windows::of_case(s, field.next);
     let bytes = fields::run(s, w.run);
     let large = field.value;
     if 0xffff_ffff < large {
-        return Outcome::Damaged(Fault::Number);
+        return Ok(Outcome::Damaged(Fault::Number));
     }
     let width = large as u32;
     let got = answer(bytes, w, width);
-    answers::judge(s, w.expected, got)
+    answers::judge(out, s, w.expected, got)
 }

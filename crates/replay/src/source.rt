@@ -3,20 +3,22 @@ ghost use Rattle.std.specs.Prelude.{◌≡◌, length};
 
 use recorded::answers::Fault;
 use recorded::fields;
+use std::io;
+use std::io::{Read, Seek};
 use words::input;
 use words::input::{Input, Reached};
 
-#[derive(Drop)]
+#[derive(Clone, Copy)]
 pub enum Started {
     Cases,
     // The first bytes are not the magic.
     NoCases,
-    // A read failed; errno says why.
-    Unread,
+    // A read failed, and why.
+    Unread(io::Error),
 }
 
 // What stands behind the cases that were read.
-#[derive(Drop)]
+#[derive(Clone, Copy)]
 pub enum Taken {
     // A case of so many bytes.
     Case(usize),
@@ -39,56 +41,56 @@ fn is_magic(head: &[u8]) -> Started {
     Started::NoCases
 }
 
-pub fn start(fd: i32) -> Started {
+pub fn start(file: &mut impl Read) -> Started {
     let mut head = [0u8; 8];
-    let filled = input::fill(fd, &mut head);
+    let filled = input::fill(file, &mut head);
     match filled {
         Reached::Full => is_magic(&head),
         Reached::Ended(_) => Started::NoCases,
-        Reached::Failed => Started::Unread,
+        Reached::Failed(why) => Started::Unread(why),
     }
 }
 
 // The file ended behind so many bytes, where a case could have begun.
-fn end(fd: i32, read: u64) -> Taken {
-    let whole = input::at_end(fd, read as usize);
+fn end(file: &mut impl Seek, read: u64) -> Taken {
+    let whole = input::at_end(file, read as usize);
     match whole {
         Input::Whole(_) => Taken::End,
         Input::Longer => Taken::Faulty(Fault::Changed),
         Input::Changed => Taken::Faulty(Fault::Changed),
-        Input::Failed => Taken::Faulty(Fault::Unread),
+        Input::Failed(why) => Taken::Faulty(Fault::Unread(why)),
     }
 }
 
 // A case of so many bytes, to the front of the space.
-fn take_case(fd: i32, n: usize, space: &mut [u8]) -> Taken {
+fn take_case(file: &mut impl Read, n: usize, space: &mut [u8]) -> Taken {
     if space.len() < n {
         return Taken::Faulty(Fault::Large);
     }
     let part = &mut space[0..n];
-    let filled = input::fill(fd, part);
+    let filled = input::fill(file, part);
     match filled {
         Reached::Full => Taken::Case(n),
         Reached::Ended(_) => Taken::Faulty(Fault::Cut),
-        Reached::Failed => Taken::Faulty(Fault::Unread),
+        Reached::Failed(why) => Taken::Faulty(Fault::Unread(why)),
     }
 }
 
 // The next case, behind so many bytes of the file, to the front of the space.
-pub fn take(fd: i32, read: u64, space: &mut [u8]) -> Taken {
+pub fn take(file: &mut (impl Read + Seek), read: u64, space: &mut [u8]) -> Taken {
     let mut head = [0u8; 4];
-    let filled = input::fill(fd, &mut head);
+    let filled = input::fill(file, &mut head);
     match filled {
         Reached::Full => {
             let n = bits::load::load32(&head, 0) as usize;
-            take_case(fd, n, space)
+            take_case(file, n, space)
         }
         Reached::Ended(n) => {
             if n == 0 {
-                return end(fd, read);
+                return end(file, read);
             }
             Taken::Faulty(Fault::Cut)
         }
-        Reached::Failed => Taken::Faulty(Fault::Unread),
+        Reached::Failed(why) => Taken::Faulty(Fault::Unread(why)),
     }
 }

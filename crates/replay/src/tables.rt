@@ -1,6 +1,7 @@
 // Kind L: schema and declared tables, accepted or refused 2.
 use recorded::answers::{Fault, Outcome};
 use recorded::{fields, lists, say};
+use std::io;
 
 // Our answer: 0 for accepted tables, or the refusal's number.
 fn answer(
@@ -30,28 +31,28 @@ fn answer(
     words::wide(schema::said::tables_number(accepted))
 }
 
-fn say_answer(number: u64) {
+fn say_answer(out: &impl Print, number: u64) -> io::Result<()> {
     if number == 0 {
-        say::text(b"accepted");
+        say::text(out, b"accepted")
     } else {
-        say::text(b"refusal ");
-        say::number(number);
+        say::text(out, b"refusal ")?;
+        say::number(out, number)
     }
 }
 
-fn judge(s: &[u8], expected: u64, got: u64) -> Outcome {
+fn judge(out: &impl Print, s: &[u8], expected: u64, got: u64) -> io::Result<Outcome> {
     if expected == got {
-        return Outcome::Same;
+        return Ok(Outcome::Same);
     }
-    say::case(s);
-    say_answer(expected);
-    say::text(b", got ");
-    say_answer(got);
-    say::text(b"\n");
-    Outcome::Differs
+    say::case(out, s)?;
+    say_answer(out, expected)?;
+    say::text(out, b", got ")?;
+    say_answer(out, got)?;
+    say::text(out, b"\n")?;
+    Ok(Outcome::Differs)
 }
 
-pub fn replay(s: &[u8], at: usize) -> Outcome {
+pub fn replay(out: &impl Print, s: &[u8], at: usize) -> io::Result<Outcome> {
     let level_count = fields::number(s, at);
     let root_level = fields::number(s, level_count.next);
     let rows = fields::run(s, root_level.next);
@@ -64,25 +65,25 @@ pub fn replay(s: &[u8], at: usize) -> Outcome {
     let end = fields::after_run(s, declared_names_at);
     let expected = fields::number(s, end);
     if expected.next != s.len() {
-        return Outcome::Damaged(Fault::Layout);
+        return Ok(Outcome::Damaged(Fault::Layout));
     }
     let fault = lists::tables_fault(rows, declared);
     match fault {
         Fault::None => {}
         _ => {
-            return Outcome::Damaged(fault);
+            return Ok(Outcome::Damaged(fault));
         }
     }
     let large_levels = level_count.value;
     let large_root = root_level.value;
     if 0xffff_ffff < large_levels {
-        return Outcome::Damaged(Fault::Number);
+        return Ok(Outcome::Damaged(Fault::Number));
     }
     if 0xffff_ffff < large_root {
-        return Outcome::Damaged(Fault::Number);
+        return Ok(Outcome::Damaged(Fault::Number));
     }
     let levels = large_levels as u32;
     let root = large_root as u32;
     let got = answer(rows, levels, root, names, declared, declared_names);
-    judge(s, expected.value, got)
+    judge(out, s, expected.value, got)
 }

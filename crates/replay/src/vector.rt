@@ -3,6 +3,7 @@ use crate::geometric;
 use recorded::answers::{Answer, Fault, Outcome};
 use recorded::windows::{Placed, Window};
 use recorded::{answers, fields, windows};
+use std::io;
 
 fn answer(bytes: &[u8], w: Window, scale: u32) -> Answer {
     let placed = windows::place(bytes, w);
@@ -15,15 +16,15 @@ fn answer(bytes: &[u8], w: Window, scale: u32) -> Answer {
     }
 }
 
-pub fn replay(s: &[u8], at: usize) -> Outcome {
+pub fn replay(out: &impl Print, s: &[u8], at: usize) -> io::Result<Outcome> {
     let field = fields::number(s, at);
     let w = windows::of_case(s, field.next);
     let bytes = fields::run(s, w.run);
     let large = field.value;
     if 0xffff_ffff < large {
-        return Outcome::Damaged(Fault::Number);
+        return Ok(Outcome::Damaged(Fault::Number));
     }
     let scale = large as u32;
     let got = answer(bytes, w, scale);
-    answers::judge(s, w.expected, got)
+    answers::judge(out, s, w.expected, got)
 }

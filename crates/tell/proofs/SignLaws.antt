@@ -12,7 +12,7 @@ use mir.Facts.{to_z-of_z}
 use Rattle.bits.proofs.TwosLaws.{sub_is, sub_fits}
 
 pub widened : (x : ℤ) → SFits w32 x → to_z w64 (of_z w64 (to_z w32 (of_z w32 x))) ≡ x
-widened x f = rw (to_z-of_z f) (to_z-of_z (record { sfits = omega (arith, f.sfits) }))
+widened x f = rw (to_z-of_z {w = w32} f) (to_z-of_z {w = w64} (record { sfits = omega (arith, f.sfits) }))
 
 pub negated : (x : ℤ) → SFits w32 x → SFits w64 (pos 0 -ℤ x)
 negated (pos n) f = rw (sub_is 0 n) (sub_fits 0 n (omega arith) (omega (arith, f.sfits)))

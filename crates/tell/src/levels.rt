@@ -2,6 +2,7 @@
 use crate::say;
 use schema::twelve::LEVELS;
 use schema::{Child, ROW_SIZE};
+use std::io;
 
 // A level's name as KIND has it, with blanks behind it. The order is that of the numbers in schema::twelve.
 fn name_of(level: u32) -> [u8; 24] {
@@ -24,12 +25,10 @@ fn name_of(level: u32) -> [u8; 24] {
 
 // The text before the first blank.
 fn trimmed(s: &[u8]) -> &[u8] {
-    let mut n = 0;
-    while n < s.len() {
+    for n in 0..s.len() {
         if s[n] == 32 {
             return say::front(s, n);
         }
-        n += 1;
     }
     s
 }
@@ -41,76 +40,78 @@ fn is_called(level: u32, word: &[u8]) -> bool {
 
 // The level of that name, or the number of levels.
 pub fn level_of(word: &[u8]) -> u32 {
-    let mut level = 0;
-    while level < LEVELS {
+    for level in 0..LEVELS {
         if is_called(level, word) {
             return level;
         }
-        level += 1;
     }
     LEVELS
 }
 
-fn say_level(level: u32) {
+fn say_level(out: &impl Print, level: u32) -> io::Result<()> {
     let name = name_of(level);
-    say::text(b"level ");
-    say::number(say::wide(level));
-    say::text(b" ");
-    say::text(trimmed(&name));
+    say::text(out, b"level ")?;
+    say::number(out, say::wide(level))?;
+    say::text(out, b" ")?;
+    say::text(out, trimmed(&name))
 }
 
 // A handle that has a name: its number, its name, and what it holds.
-fn say_handle(rows: &[u32], names: &[u8], level: u32, handle: u32) {
+fn say_handle(
+    out: &impl Print,
+    rows: &[u32],
+    names: &[u8],
+    level: u32,
+    handle: u32,
+) -> io::Result<()> {
     let label = schema::labels::container_label(rows, level, handle);
-    say::text(b"    handle ");
-    say::number(say::wide(handle));
-    say::text(b" ");
-    say::text(schema::labels::label_part(names, names, label));
+    say::text(out, b"    handle ")?;
+    say::number(out, say::wide(handle))?;
+    say::text(out, b" ")?;
+    say::text(out, schema::labels::label_part(names, names, label))?;
     let child = schema::lookup::child_of(rows, level, handle);
     match child {
         Child::Array(below) => {
-            say::text(b": an array of ");
-            say_level(below);
+            say::text(out, b": an array of ")?;
+            say_level(out, below)?;
         }
         Child::Leaf => {}
     }
-    say::text(b"\n");
+    say::text(out, b"\n")
 }
 
 // The row if it names a handle of the level. Each array of the twelve levels has a name, so none is left out.
-fn say_row(rows: &[u32], names: &[u8], level: u32, at: usize) {
+fn say_row(out: &impl Print, rows: &[u32], names: &[u8], level: u32, at: usize) -> io::Result<()> {
     if rows.len() < at {
-        return;
+        return Ok(());
     }
     let row = &rows[at..];
     if say::nth(row, 0) != level {
-        return;
+        return Ok(());
     }
     if say::nth(row, 1) != schema::NAME_KIND {
-        return;
+        return Ok(());
     }
-    say_handle(rows, names, level, say::nth(row, 2));
+    say_handle(out, rows, names, level, say::nth(row, 2))
 }
 
-fn say_rows(rows: &[u32], names: &[u8], level: u32) {
+fn say_rows(out: &impl Print, rows: &[u32], names: &[u8], level: u32) -> io::Result<()> {
     let n = rows.len() / ROW_SIZE;
-    let mut i = 0;
-    while i < n {
-        say_row(rows, names, level, ROW_SIZE * i);
-        i += 1;
+    for i in 0..n {
+        say_row(out, rows, names, level, ROW_SIZE * i)?;
     }
+    Ok(())
 }
 
 // The twelve levels: what each is called as KIND, and the handles that have a name.
-pub fn list() {
+pub fn list(out: &impl Print) -> io::Result<()> {
     let mut rows = [0u32; schema::twelve::ROW_NUMBERS];
     let mut names = [0u8; schema::twelve::NAME_BYTES];
     schema::twelve::fill_schema(&mut rows, &mut names);
-    let mut level = 0;
-    while level < LEVELS {
-        say_level(level);
-        say::text(b"\n");
-        say_rows(&rows, &names, level);
-        level += 1;
+    for level in 0..LEVELS {
+        say_level(out, level)?;
+        say::text(out, b"\n")?;
+        say_rows(out, &rows, &names, level)?;
     }
+    Ok(())
 }

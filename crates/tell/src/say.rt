@@ -1,6 +1,7 @@
 // What is printed: words, numbers and columns.
 ghost use Rattle.std.specs.Prelude.{◌≡◌};
 
+use std::io;
 pub use words::{equal, hex, least, number, pattern, text, wide};
 
 // The widest column.
@@ -19,63 +20,59 @@ pub fn front(s: &[u8], n: usize) -> &[u8] {
 }
 
 // So many blanks, at most a column of them.
-pub fn blanks(n: usize) {
+pub fn blanks(out: &impl Print, n: usize) -> io::Result<()> {
     let column = [32u8; COLUMN];
-    text(front(&column, n));
+    text(out, front(&column, n))
 }
 
 // The text, and blanks behind it up to the width.
-pub fn left(s: &[u8], width: usize) {
-    text(s);
+pub fn left(out: &impl Print, s: &[u8], width: usize) -> io::Result<()> {
+    text(out, s)?;
     if s.len() < width {
-        blanks(width - s.len());
+        blanks(out, width - s.len())?;
     }
+    Ok(())
 }
 
 // The number, and blanks before it up to the width.
-pub fn right(x: u64, width: usize) {
-    let mut digits = [0u8; 20];
-    let n = io::decimal(x, &mut digits);
-    if n < width {
-        blanks(width - n);
+pub fn right(out: &impl Print, x: u64, width: usize) -> io::Result<()> {
+    let mut buffer = itoa::Buffer::new();
+    let digits = buffer.format(x).as_bytes();
+    if digits.len() < width {
+        blanks(out, width - digits.len())?;
     }
-    text(&digits[..n]);
+    text(out, digits)
 }
 
 // A line with a name, and a number behind it.
-pub fn named(name: &[u8], x: u64) {
-    left(name, 24);
-    number(x);
-    text(b"\n");
+pub fn named(out: &impl Print, name: &[u8], x: u64) -> io::Result<()> {
+    left(out, name, 24)?;
+    number(out, x)?;
+    text(out, b"\n")
 }
 
 // The 32 bits of a two's complement number, as a number with its sign.
-pub fn signed_bits(bits: u32) {
+pub fn signed_bits(out: &impl Print, bits: u32) -> io::Result<()> {
     let raw = bits as u64;
     if raw < 0x8000_0000 {
-        number(raw);
+        number(out, raw)
     } else {
-        text(b"-");
-        number(0x1_0000_0000 - raw);
+        text(out, b"-")?;
+        number(out, 0x1_0000_0000 - raw)
     }
 }
 
 // How far a number is from 0.
 fn magnitude(x: i32) -> u64 {
-    let wide = x as i64;
-    if wide < 0 {
-        (0 - wide) as u64
-    } else {
-        wide as u64
-    }
+    wide(x.unsigned_abs())
 }
 
 // A number with its sign.
-pub fn signed(x: i32) {
+pub fn signed(out: &impl Print, x: i32) -> io::Result<()> {
     if x < 0 {
-        text(b"-");
+        text(out, b"-")?;
     }
-    number(magnitude(x));
+    number(out, magnitude(x))
 }
 
 // The word at a place, 0 past the end.

@@ -4,72 +4,78 @@
 ghost use Rattle.std.specs.Prelude.{◌≤◌};
 
 use crate::say;
+use std::io;
 use words::{double_bits, single_bits};
 
-fn say_thousandths(x: u64) {
+fn say_thousandths(out: &impl Print, x: u64) -> io::Result<()> {
     let rest = x % 1000;
-    say::number(x / 1000);
-    say::text(b".");
-    say::number(rest / 100);
-    say::number(rest / 10 % 10);
-    say::number(rest % 10);
+    say::number(out, x / 1000)?;
+    say::text(out, b".")?;
+    say::number(out, rest / 100)?;
+    say::number(out, rest / 10 % 10)?;
+    say::number(out, rest % 10)
 }
 
 // digits / 2^low.
-fn say_quotient(digits: u64, low: u64)
+fn say_quotient(out: &impl Print, digits: u64, low: u64) -> io::Result<()>
     requires { digits ≤ 9007199254740992 }
 {
     if 63 < low {
-        say_thousandths(0);
-        return;
+        return say_thousandths(out, 0);
     }
     let unit = 1u64 << low;
-    say_thousandths((1000 * digits + unit / 2) >> low);
+    say_thousandths(out, (1000 * digits + unit / 2) >> low)
 }
 
 // A float of this fraction and exponent field, where `bias` is the field of the values that are their digits.
-fn say_float(negative: bool, fraction: u64, hidden: u64, exponent: u64, bias: u64)
+fn say_float(
+    out: &impl Print,
+    negative: bool,
+    fraction: u64,
+    hidden: u64,
+    exponent: u64,
+    bias: u64,
+) -> io::Result<()>
     requires { (fraction ≤ 4503599627370495) × (hidden ≤ 4503599627370496) × (1 ≤ bias) }
 {
     if negative {
-        say::text(b"-");
+        say::text(out, b"-")?;
     }
     if bias < exponent {
-        say::text(b"2^53 or more");
-        return;
+        return say::text(out, b"2^53 or more");
     }
     if exponent == 0 {
-        say_quotient(fraction, bias - 1);
-        return;
+        return say_quotient(out, fraction, bias - 1);
     }
-    say_quotient(hidden + fraction, bias - exponent);
+    say_quotient(out, hidden + fraction, bias - exponent)
 }
 
 // A line with a name, the pattern and the value.
-pub fn named_double(name: &[u8], x: f64) {
+pub fn named_double(out: &impl Print, name: &[u8], x: f64) -> io::Result<()> {
     let bits = double_bits(x);
     let fraction = bits % 0x10_0000_0000_0000;
     let exponent = bits / 0x10_0000_0000_0000 % 2048;
-    say::left(name, 24);
-    say::pattern(bits, 16);
-    say::text(b"  ");
+    say::left(out, name, 24)?;
+    say::pattern(out, bits, 16)?;
+    say::text(out, b"  ")?;
     say_float(
+        out,
         0x8000_0000_0000_0000 <= bits,
         fraction,
         0x10_0000_0000_0000,
         exponent,
         1075,
-    );
-    say::text(b"\n");
+    )?;
+    say::text(out, b"\n")
 }
 
-pub fn named_single(name: &[u8], x: f32) {
+pub fn named_single(out: &impl Print, name: &[u8], x: f32) -> io::Result<()> {
     let bits = say::wide(single_bits(x));
     let fraction = bits % 0x80_0000;
     let exponent = bits / 0x80_0000 % 256;
-    say::left(name, 24);
-    say::pattern(bits, 8);
-    say::text(b"          ");
-    say_float(0x8000_0000 <= bits, fraction, 0x80_0000, exponent, 150);
-    say::text(b"\n");
+    say::left(out, name, 24)?;
+    say::pattern(out, bits, 8)?;
+    say::text(out, b"          ")?;
+    say_float(out, 0x8000_0000 <= bits, fraction, 0x80_0000, exponent, 150)?;
+    say::text(out, b"\n")
 }

@@ -1,15 +1,16 @@
 // The command line. A word that is missing, or longer than a path, counts as an empty one, which nothing here is called.
-ghost use Rattle.std.specs.Prelude.{◌≤◌};
+ghost use Rattle.std.specs.Prelude.{◌≤◌, length};
 
 use crate::file;
 use bits::sizes::LONGEST_WINDOW;
 use fastarray::ChecksumMode;
 use framing::Walk;
 use geometry::{RotatorQuantization, VectorQuantization};
+use std::env::{Env, FillError};
 use tell::{levels, say};
 
 // What is to be made of a window.
-#[derive(Drop)]
+#[derive(Clone, Copy)]
 pub enum Job {
     // A walk, and the level at which a struct walk starts.
     Array(Walk, u32),
@@ -17,7 +18,7 @@ pub enum Job {
     Movement(VectorQuantization, RotatorQuantization),
 }
 
-#[derive(Drop)]
+#[derive(Clone, Copy)]
 pub enum Asked {
     Usage,
     Schema,
@@ -25,20 +26,20 @@ pub enum Asked {
 }
 
 // What SCALE and WIDTH say.
-#[derive(Drop)]
+#[derive(Clone, Copy)]
 enum Scale {
     By(VectorQuantization),
     Unknown,
 }
 
-#[derive(Drop)]
+#[derive(Clone, Copy)]
 enum Width {
     Of(RotatorQuantization),
     Unknown,
 }
 
 // How many bits of the file are the window.
-#[derive(Drop)]
+#[derive(Clone, Copy)]
 pub enum Count {
     Whole,
     First(u32),
@@ -46,11 +47,30 @@ pub enum Count {
     Wrong,
 }
 
+// ---- the words
+
+// A word of the command line, to the front of the buffer, and its length.
+fn word_at(rt: &impl Env, at: usize, word: &mut [u8]) -> usize
+    ensures { result ≤ length word.new }
+{
+    rt.arg(at, word).unwrap_or(0)
+}
+
+// How many words there are, with the program's own name.
+fn word_count(rt: &impl Env) -> usize {
+    for at in 0..usize::MAX {
+        if let Err(FillError::NotPresent) = rt.arg(at, &mut []) {
+            return at;
+        }
+    }
+    usize::MAX
+}
+
 // ---- what is asked
 
-fn walk_asked() -> Asked {
-    let mut word = io::buffer();
-    let n = os::arg(2, &mut word);
+fn walk_asked(rt: &impl Env) -> Asked {
+    let mut word = [0u8; 4096];
+    let n = word_at(rt, 2, &mut word);
     let kind = &word[..n];
     if say::equal(kind, b"none") {
         return Asked::Window(Job::Array(Walk::Struct, schema::ABSENT));
@@ -68,9 +88,9 @@ fn walk_asked() -> Asked {
     Asked::Usage
 }
 
-fn fast_asked() -> Asked {
-    let mut word = io::buffer();
-    let n = os::arg(2, &mut word);
+fn fast_asked(rt: &impl Env) -> Asked {
+    let mut word = [0u8; 4096];
+    let n = word_at(rt, 2, &mut word);
     let mode = &word[..n];
     if say::equal(mode, b"absent") {
         return Asked::Window(Job::FastArray(ChecksumMode::Absent));
@@ -81,9 +101,9 @@ fn fast_asked() -> Asked {
     Asked::Usage
 }
 
-fn scale_asked() -> Scale {
-    let mut word = io::buffer();
-    let n = os::arg(2, &mut word);
+fn scale_asked(rt: &impl Env) -> Scale {
+    let mut word = [0u8; 4096];
+    let n = word_at(rt, 2, &mut word);
     let scale = &word[..n];
     if say::equal(scale, b"1") {
         return Scale::By(VectorQuantization::RoundWholeNumber);
@@ -97,9 +117,9 @@ fn scale_asked() -> Scale {
     Scale::Unknown
 }
 
-fn width_asked() -> Width {
-    let mut word = io::buffer();
-    let n = os::arg(3, &mut word);
+fn width_asked(rt: &impl Env) -> Width {
+    let mut word = [0u8; 4096];
+    let n = word_at(rt, 3, &mut word);
     let width = &word[..n];
     if say::equal(width, b"8") {
         return Width::Of(RotatorQuantization::ByteComponents);
@@ -110,9 +130,9 @@ fn width_asked() -> Width {
     Width::Unknown
 }
 
-fn movement_asked() -> Asked {
-    let scale = scale_asked();
-    let width = width_asked();
+fn movement_asked(rt: &impl Env) -> Asked {
+    let scale = scale_asked(rt);
+    let width = width_asked(rt);
     match scale {
         Scale::By(location) => match width {
             Width::Of(rotation) => Asked::Window(Job::Movement(location, rotation)),
@@ -122,20 +142,20 @@ fn movement_asked() -> Asked {
     }
 }
 
-pub fn command() -> Asked {
-    let mut word = io::buffer();
-    let n = os::arg(1, &mut word);
+pub fn command(rt: &impl Env) -> Asked {
+    let mut word = [0u8; 4096];
+    let n = word_at(rt, 1, &mut word);
     let first = &word[..n];
     if say::equal(first, b"walk") {
-        return walk_asked();
+        return walk_asked(rt);
     }
     if say::equal(first, b"fastarray") {
-        return fast_asked();
+        return fast_asked(rt);
     }
     if say::equal(first, b"movement") {
-        return movement_asked();
+        return movement_asked(rt);
     }
-    if say::equal(first, b"schema") && os::arg_count() == 2 {
+    if say::equal(first, b"schema") && word_count(rt) == 2 {
         return Asked::Schema;
     }
     Asked::Usage
@@ -172,9 +192,8 @@ fn counted(word: &[u8]) -> Count {
         return Count::Wrong;
     }
     let mut value: u64 = 0;
-    let mut i = 0;
-    while i < word.len() {
-        let c = digit(word[i]);
+    for letter in word {
+        let c = digit(*letter);
         if c < 48 {
             return Count::Wrong;
         }
@@ -182,14 +201,13 @@ fn counted(word: &[u8]) -> Count {
             return Count::Wrong;
         }
         value = clipped(10 * value + (c - 48));
-        i += 1;
     }
     Count::First(value as u32)
 }
 
 // BITS, if the word of that place is the last one or the one before it is.
-pub fn count_at(at: usize) -> Count {
-    let words = os::arg_count();
+pub fn count_at(rt: &impl Env, at: usize) -> Count {
+    let words = word_count(rt);
     if words == at {
         return Count::Whole;
     }
@@ -199,8 +217,8 @@ pub fn count_at(at: usize) -> Count {
     if 1 < words - at {
         return Count::Wrong;
     }
-    let mut word = io::buffer();
-    let n = os::arg(at, &mut word);
+    let mut word = [0u8; 4096];
+    let n = word_at(rt, at, &mut word);
     counted(&word[..n])
 }
 

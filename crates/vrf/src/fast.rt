@@ -5,6 +5,7 @@ ghost use Rattle.fastarray.specs.Records.{item_words, field_words};
 
 use bitio::{BitsRead, Cursor};
 use fastarray::{ChecksumMode, Delta, FastArray};
+use std::io;
 use tell::rooms::{MOST_FIELDS, MOST_IDS};
 use tell::{refusals, say};
 
@@ -39,31 +40,30 @@ fn field_room() -> [u32; FIELD_ROOM]
 
 // ---- parts
 
-fn say_signed(name: &[u8], x: i32) {
-    say::left(name, 24);
-    say::signed(x);
-    say::text(b"\n");
+fn say_signed(out: &impl Print, name: &[u8], x: i32) -> io::Result<()> {
+    say::left(out, name, 24)?;
+    say::signed(out, x)?;
+    say::text(out, b"\n")
 }
 
-fn say_header(delta: Delta) {
-    say_signed(b"key", delta.key);
-    say_signed(b"base key", delta.base);
-    say::named(b"deleted ids", say::wide(delta.deletes));
-    say::named(b"changed items", say::wide(delta.changes));
-    say::named(b"fields", say::wide(delta.fields));
-    say::named(b"padded numbers", say::wide(delta.padded));
+fn say_header(out: &impl Print, delta: Delta) -> io::Result<()> {
+    say_signed(out, b"key", delta.key)?;
+    say_signed(out, b"base key", delta.base)?;
+    say::named(out, b"deleted ids", say::wide(delta.deletes))?;
+    say::named(out, b"changed items", say::wide(delta.changes))?;
+    say::named(out, b"fields", say::wide(delta.fields))?;
+    say::named(out, b"padded numbers", say::wide(delta.padded))
 }
 
-fn say_deleted(ids: &[i32], count: usize)
+fn say_deleted(out: &impl Print, ids: &[i32], count: usize) -> io::Result<()>
     requires { count ≤ length ids.now }
 {
-    let mut i = 0;
-    while i < count {
-        say::text(b"deleted ");
-        say::signed(ids[i]);
-        say::text(b"\n");
-        i += 1;
+    for i in 0..count {
+        say::text(out, b"deleted ")?;
+        say::signed(out, ids[i])?;
+        say::text(out, b"\n")?;
     }
+    Ok(())
 }
 
 fn at_most_eight(n: u64) -> u64 {
@@ -71,70 +71,89 @@ fn at_most_eight(n: u64) -> u64 {
 }
 
 // The next eight bits of the window, or the n that are left.
-fn say_byte(bytes: &[u8], len: u64, pos: u64, n: u64) {
+fn say_byte(out: &impl Print, bytes: &[u8], len: u64, pos: u64, n: u64) -> io::Result<()> {
     let start = 0;
     let c = Cursor { start, pos, len };
     let read = bitio::read_bits(bytes, c, n);
     match read {
-        BitsRead::Value(x, _) => say::pattern(x, 2),
-        BitsRead::Refused(_) => say::text(b"??"),
+        BitsRead::Value(x, _) => say::pattern(out, x, 2),
+        BitsRead::Refused(_) => say::text(out, b"??"),
     }
 }
 
 // Bits of the window as bytes in hex, or `-` for none.
-fn say_payload(bytes: &[u8], bits: u32, first: u32, width: u32) {
+fn say_payload(
+    out: &impl Print,
+    bytes: &[u8],
+    bits: u32,
+    first: u32,
+    width: u32,
+) -> io::Result<()> {
     if width == 0 {
-        say::text(b"-");
+        say::text(out, b"-")?;
     }
     let mut at = say::wide(first);
     let end = at + say::wide(width);
     while at < end {
-        say_byte(bytes, say::wide(bits), at, at_most_eight(end - at));
+        say_byte(out, bytes, say::wide(bits), at, at_most_eight(end - at))?;
         at += 8;
     }
+    Ok(())
 }
 
-fn say_field(bytes: &[u8], bits: u32, field: &[u32]) {
+fn say_field(out: &impl Print, bytes: &[u8], bits: u32, field: &[u32]) -> io::Result<()> {
     let handle = say::nth(field, 0);
     let first = say::nth(field, 1);
     let width = say::nth(field, 2);
-    say::right(say::wide(handle), 10);
-    say::right(say::wide(width), 8);
-    say::text(b"  ");
-    say_payload(bytes, bits, first, width);
-    say::text(b"\n");
+    say::right(out, say::wide(handle), 10)?;
+    say::right(out, say::wide(width), 8)?;
+    say::text(out, b"  ")?;
+    say_payload(out, bytes, bits, first, width)?;
+    say::text(out, b"\n")
 }
 
 // The fields from one to before another.
-fn say_fields(bytes: &[u8], bits: u32, fields: &[u32], first: usize, end: usize) {
+fn say_fields(
+    out: &impl Print,
+    bytes: &[u8],
+    bits: u32,
+    fields: &[u32],
+    first: usize,
+    end: usize,
+) -> io::Result<()> {
     let most = say::least(end, fields.len() / FIELD_SIZE);
     if first < most {
-        say::text(b"    handle    bits  payload\n");
+        say::text(out, b"    handle    bits  payload\n")?;
     }
-    let mut i = first;
-    while i < most {
+    for i in first..most {
         let at = FIELD_SIZE * i;
-        say_field(bytes, bits, &fields[at..]);
-        i += 1;
+        say_field(out, bytes, bits, &fields[at..])?;
     }
+    Ok(())
 }
 
-fn say_items(bytes: &[u8], bits: u32, count: usize, items: &[u32], fields: &[u32])
+fn say_items(
+    out: &impl Print,
+    bytes: &[u8],
+    bits: u32,
+    count: usize,
+    items: &[u32],
+    fields: &[u32],
+) -> io::Result<()>
     requires { count ≤ length items.now / 2 }
 {
     let mut first = 0;
-    let mut i = 0;
-    while i < count {
+    for i in 0..count {
         let id = say::nth(items, ITEM_SIZE * i);
         let own = say::index(say::nth(items, ITEM_SIZE * i + 1));
         let end = std::num::wrapping_add_usize(first, own);
-        say::text(b"item ");
-        say::signed_bits(id);
-        say::text(b"\n");
-        say_fields(bytes, bits, fields, first, end);
+        say::text(out, b"item ")?;
+        say::signed_bits(out, id)?;
+        say::text(out, b"\n")?;
+        say_fields(out, bytes, bits, fields, first, end)?;
         first = end;
-        i += 1;
     }
+    Ok(())
 }
 
 // ---- the body
@@ -145,18 +164,32 @@ fn taken(bytes: &[u8], bits: u32) -> &[u8] {
     say::front(bytes, size as usize)
 }
 
-fn say_body(delta: Delta, bytes: &[u8], bits: u32, ids: &[i32], items: &[u32], fields: &[u32]) {
-    say_header(delta);
+fn say_body(
+    out: &impl Print,
+    delta: Delta,
+    bytes: &[u8],
+    bits: u32,
+    ids: &[i32],
+    items: &[u32],
+    fields: &[u32],
+) -> io::Result<()> {
+    say_header(out, delta)?;
     let deletes = say::least(say::index(delta.deletes), ids.len());
-    say_deleted(ids, deletes);
+    say_deleted(out, ids, deletes)?;
     let changes = say::least(say::index(delta.changes), items.len() / ITEM_SIZE);
-    say_items(bytes, bits, changes, items, fields);
-    say::text(b"verdict: a whole fast-array body; it takes all ");
-    say::number(say::wide(delta.used));
-    say::text(b" bits\n");
+    say_items(out, bytes, bits, changes, items, fields)?;
+    say::text(out, b"verdict: a whole fast-array body; it takes all ")?;
+    say::number(out, say::wide(delta.used))?;
+    say::text(out, b" bits\n")
 }
 
-pub fn body(mode: ChecksumMode, bytes: &[u8], bits: u32) {
+pub fn body(
+    out: &impl Print,
+    err: &impl Print,
+    mode: ChecksumMode,
+    bytes: &[u8],
+    bits: u32,
+) -> io::Result<()> {
     let mut id_space = id_room();
     let mut item_space = item_room();
     let mut field_space = field_room();
@@ -166,7 +199,10 @@ pub fn body(mode: ChecksumMode, bytes: &[u8], bits: u32) {
     let payload = taken(bytes, bits);
     let r = fastarray::decode_fast_array_delta(payload, bits, mode, ids, items, fields);
     match r {
-        FastArray::Decoded(delta) => say_body(delta, payload, bits, ids, items, fields),
-        _ => refusals::no_body(r),
+        FastArray::Decoded(delta) => say_body(out, delta, payload, bits, ids, items, fields),
+        _ => {
+            refusals::no_body(err, r);
+            Ok(())
+        }
     }
 }

@@ -7,6 +7,7 @@ use array::{ObjectArray, StructArray};
 use framing::Walk;
 use outputs::records::{LEAF_WORDS, PAIR_WORDS};
 use outputs::{LeafRecord, records};
+use std::io;
 use tell::rooms::{MOST_FIELDS, PATH_BYTES, PAYLOAD_BYTES};
 use tell::{refusals, say, verdicts};
 
@@ -50,78 +51,105 @@ fn path_width(leaves: &[u32], count: usize) -> usize
     requires { count ≤ length leaves.now / leaf_words }
 {
     let mut width = 4;
-    let mut i = 0;
-    while i < count {
+    for i in 0..count {
         let leaf = records::leaf_at(leaves, i);
         let len = say::index(leaf.path_length);
         if width < len {
             width = len;
         }
-        i += 1;
     }
     say::least(width, say::COLUMN)
 }
 
-fn say_leaf(leaf: LeafRecord, paths: &[u8], payloads: &[u8], width: usize) {
+fn say_leaf(
+    out: &impl Print,
+    leaf: LeafRecord,
+    paths: &[u8],
+    payloads: &[u8],
+    width: usize,
+) -> io::Result<()> {
     let bits = leaf.payload_bits;
-    say::left(say::part(paths, leaf.path_start, leaf.path_length), width);
-    say::right(say::wide(leaf.handle), 12);
-    say::right(say::wide(bits), 8);
-    say::right(say::wide(leaf.window_start), 9);
-    say::text(b"  ");
-    say::hex(say::part(payloads, leaf.payload_start, bytes_of(bits)));
-    say::text(b"\n");
+    let path = say::part(paths, leaf.path_start, leaf.path_length);
+    say::left(out, path, width)?;
+    say::right(out, say::wide(leaf.handle), 12)?;
+    say::right(out, say::wide(bits), 8)?;
+    say::right(out, say::wide(leaf.window_start), 9)?;
+    say::text(out, b"  ")?;
+    say::hex(out, say::part(payloads, leaf.payload_start, bytes_of(bits)))?;
+    say::text(out, b"\n")
 }
 
-fn say_leaves(count: usize, leaves: &[u32], paths: &[u8], payloads: &[u8])
+fn say_leaves(
+    out: &impl Print,
+    count: usize,
+    leaves: &[u32],
+    paths: &[u8],
+    payloads: &[u8],
+) -> io::Result<()>
     requires { count ≤ length leaves.now / leaf_words }
 {
     let width = path_width(leaves, count);
-    say::left(b"path", width);
-    say::text(b"      handle    bits    start  payload\n");
-    let mut i = 0;
-    while i < count {
+    say::left(out, b"path", width)?;
+    say::text(out, b"      handle    bits    start  payload\n")?;
+    for i in 0..count {
         let leaf = records::leaf_at(leaves, i);
-        say_leaf(leaf, paths, payloads, width);
-        i += 1;
+        say_leaf(out, leaf, paths, payloads, width)?;
     }
+    Ok(())
 }
 
-fn report(r: StructArray, leaves: &[u32], paths: &[u8], payloads: &[u8]) {
+fn report(
+    out: &impl Print,
+    err: &impl Print,
+    r: StructArray,
+    leaves: &[u32],
+    paths: &[u8],
+    payloads: &[u8],
+) -> io::Result<()> {
     match r {
         StructArray::Decoded(stats, judged, extent, padded) => {
             let count = say::least(say::index(extent.leaves), leaves.len() / LEAF_WORDS);
-            say_leaves(count, leaves, paths, payloads);
-            verdicts::report(stats, judged, padded);
+            say_leaves(out, count, leaves, paths, payloads)?;
+            verdicts::report(out, stats, judged, padded)
         }
-        _ => refusals::unwalked(r),
+        _ => {
+            refusals::unwalked(err, r);
+            Ok(())
+        }
     }
 }
 
 // ---- pairs
 
-fn say_pairs(count: usize, pairs: &[u32])
+fn say_pairs(out: &impl Print, count: usize, pairs: &[u32]) -> io::Result<()>
     requires { count ≤ length pairs.now / pair_words }
 {
-    say::text(b"     index      object\n");
-    let mut i = 0;
-    while i < count {
+    say::text(out, b"     index      object\n")?;
+    for i in 0..count {
         let pair = records::pair_at(pairs, i);
-        say::right(say::wide(pair.index), 10);
-        say::right(say::wide(pair.guid), 12);
-        say::text(b"\n");
-        i += 1;
+        say::right(out, say::wide(pair.index), 10)?;
+        say::right(out, say::wide(pair.guid), 12)?;
+        say::text(out, b"\n")?;
     }
+    Ok(())
 }
 
-fn report_pairs(r: ObjectArray, pairs: &[u32]) {
+fn report_pairs(
+    out: &impl Print,
+    err: &impl Print,
+    r: ObjectArray,
+    pairs: &[u32],
+) -> io::Result<()> {
     match r {
         ObjectArray::Decoded(stats, judged, given, padded) => {
             let count = say::least(say::index(given), pairs.len() / PAIR_WORDS);
-            say_pairs(count, pairs);
-            verdicts::report(stats, judged, padded);
+            say_pairs(out, count, pairs)?;
+            verdicts::report(out, stats, judged, padded)
         }
-        _ => refusals::unpaired(r),
+        _ => {
+            refusals::unpaired(err, r);
+            Ok(())
+        }
     }
 }
 
@@ -177,7 +205,14 @@ fn decode_exact(
 }
 
 // The walk, and what is to be said of it; a struct walk starts at the level `root`.
-pub fn array(walk: Walk, root: u32, bytes: &[u8], bits: u32) {
+pub fn array(
+    out: &impl Print,
+    err: &impl Print,
+    walk: Walk,
+    root: u32,
+    bytes: &[u8],
+    bits: u32,
+) -> io::Result<()> {
     let mut record_space = record_room();
     let mut path_space = path_room();
     let mut payload_space = payload_room();
@@ -187,15 +222,15 @@ pub fn array(walk: Walk, root: u32, bytes: &[u8], bits: u32) {
     match walk {
         Walk::Struct => {
             let r = decode_by_levels(root, bytes, bits, records, paths, payloads);
-            report(r, records, paths, payloads);
+            report(out, err, r, records, paths, payloads)
         }
         Walk::Exact => {
             let r = decode_exact(bytes, bits, records, paths, payloads);
-            report(r, records, paths, payloads);
+            report(out, err, r, records, paths, payloads)
         }
         Walk::Object => {
             let r = array::decode_object_ref_array(bytes, bits, records);
-            report_pairs(r, records);
+            report_pairs(out, err, r, records)
         }
     }
 }

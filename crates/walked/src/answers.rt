@@ -4,9 +4,10 @@ use array::{ArrayDecodeStats, Extent, ObjectArray, StructArray, Verdict};
 use framing::Walk;
 use recorded::answers::SHORT;
 use recorded::{fields, say};
+use std::io;
 use words::wide;
 
-#[derive(Drop)]
+#[derive(Clone, Copy)]
 pub struct Answer {
     // 0 for a walk, or the refusal's number by document 01.
     pub number: u64,
@@ -19,7 +20,7 @@ pub struct Answer {
 }
 
 // What is recorded of a walk.
-#[derive(Drop)]
+#[derive(Clone, Copy)]
 pub struct Recorded {
     pub answer: Answer,
     // Whether its outputs stand in the case: 1 or 0, and no other number is one that the case may have.
@@ -123,7 +124,7 @@ pub fn of_objects(r: ObjectArray) -> Answer {
 }
 
 // The recorded counters, verdict and padded numbers, and the place after them.
-#[derive(Drop)]
+#[derive(Clone, Copy)]
 struct Counted {
     counts: [u64; 9],
     next: usize,
@@ -132,12 +133,10 @@ struct Counted {
 fn recorded_counts(s: &[u8], at: usize) -> Counted {
     let mut counts = [0u64; 9];
     let mut next = at;
-    let mut i = 0;
-    while i < 9 {
+    for count in counts.iter_mut() {
         let field = fields::number(s, next);
-        counts[i] = field.value;
+        *count = field.value;
         next = field.next;
-        i += 1;
     }
     Counted { counts, next }
 }
@@ -205,14 +204,7 @@ pub fn recorded_walk(walk: Walk, s: &[u8], at: usize) -> Recorded {
 }
 
 fn same_counts(a: [u64; 9], b: [u64; 9]) -> bool {
-    let mut i = 0;
-    while i < 9 {
-        if a[i] != b[i] {
-            return false;
-        }
-        i += 1;
-    }
-    true
+    a == b
 }
 
 pub fn same(a: Answer, b: Answer) -> bool {
@@ -225,26 +217,24 @@ pub fn same(a: Answer, b: Answer) -> bool {
         && a.payload_bytes == b.payload_bytes
 }
 
-fn say_counts(counts: [u64; 9]) {
-    let mut i = 0;
-    while i < 9 {
-        say::text(b" ");
-        say::number(counts[i]);
-        i += 1;
+fn say_counts(out: &impl Print, counts: [u64; 9]) -> io::Result<()> {
+    for count in counts {
+        say::text(out, b" ")?;
+        say::number(out, count)?;
     }
+    Ok(())
 }
 
-pub fn say_answer(a: Answer) {
-    say::text(b"number ");
-    say::number(a.number);
-    say::text(b", counters, verdict and padded");
-    let counts = a.counts;
-    say_counts(counts);
-    say::text(b", needs ");
-    say::number(a.records);
-    say::text(b" records, ");
-    say::number(a.path_bytes);
-    say::text(b" path bytes, ");
-    say::number(a.payload_bytes);
-    say::text(b" payload bytes");
+pub fn say_answer(out: &impl Print, a: Answer) -> io::Result<()> {
+    say::text(out, b"number ")?;
+    say::number(out, a.number)?;
+    say::text(out, b", counters, verdict and padded")?;
+    say_counts(out, a.counts)?;
+    say::text(out, b", needs ")?;
+    say::number(out, a.records)?;
+    say::text(out, b" records, ")?;
+    say::number(out, a.path_bytes)?;
+    say::text(out, b" path bytes, ")?;
+    say::number(out, a.payload_bytes)?;
+    say::text(out, b" payload bytes")
 }

@@ -5,7 +5,7 @@ use recorded::{fields, lists};
 
 // Which walk, its numbers, and the places of its runs in the case. Where a kind has no such number it is 0, and where it has no
 // such run its place is past the case, where an empty run stands.
-#[derive(Drop)]
+#[derive(Clone, Copy)]
 pub struct Call {
     pub walk: Walk,
     // 1 where the twelve levels are meant; the case has no table then. Else 0, and no other number is one that the case may have.

@@ -14,6 +14,7 @@
 // `outputs` lays them out), the path bytes and the payload bytes. Where whole is 0, they don't stand there; such a walk, and one
 // whose outputs are larger than what the caller lends, is lent nothing, and has to be refused for its needs. An object walk
 // writes the records of pairs alone.
+#![tactic(auto)]
 
 pub mod answers;
 pub mod calls;

@@ -21,4 +21,4 @@ pub holds_more : (x : Input) {n most : ℕ} → n ≤ most → Holds x n → Hol
 holds_more (input.Whole k) l h = omega (arith, l, h)
 holds_more input.Longer l h = tt
 holds_more input.Changed l h = tt
-holds_more input.Failed l h = tt
+holds_more (input.Failed why) l h = tt

@@ -11,18 +11,18 @@ use Rattle.words.specs.declared.input.Input.TheVariants as input
 abbrev pub Moves : Turn → ℕ → Type 0
 Moves (turn.Got n) most = (1 ≤ n) × (n ≤ most)
 Moves turn.End most = Unit {0}
-Moves turn.Interrupted most = Unit {0}
-Moves turn.Failed most = Unit {0}
+Moves (turn.Interrupted why) most = Unit {0}
+Moves (turn.Failed why) most = Unit {0}
 
 -- A buffer that was filled to where the file ended.
 abbrev pub Fills : Reached → ℕ → Type 0
 Fills reached.Full most = Unit {0}
 Fills (reached.Ended n) most = n ≤ most
-Fills reached.Failed most = Unit {0}
+Fills (reached.Failed why) most = Unit {0}
 
 -- A whole file.
 abbrev pub Holds : Input → ℕ → Type 0
 Holds (input.Whole n) most = n ≤ most
 Holds input.Longer most = Unit {0}
 Holds input.Changed most = Unit {0}
-Holds input.Failed most = Unit {0}
+Holds (input.Failed why) most = Unit {0}

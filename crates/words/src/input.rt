@@ -6,6 +6,28 @@
 ghost use Rattle.std.specs.Prelude.{length};
 ghost use Rattle.words.specs.Input.{Moves, Fills, Holds};
 
+use crate::error;
+use std::io::{ErrorKind, Read, Seek, SeekFrom};
+use std::rt::Files;
+use std::{fs, io};
+
+// The file of that name, open for reading; none where it can't be opened, and standard error says why. std opens only files whose
+// names are text.
+pub fn open<R: Files>(rt: &R, err: &impl Print, path: &[u8]) -> Option<R::File> {
+    let Ok(name) = std::str::from_utf8(path) else {
+        error::text(err, path);
+        error::text(err, b": a file is opened only by a name in UTF-8\n");
+        return None;
+    };
+    match fs::open(rt, name) {
+        Ok(file) => Some(file),
+        Err(why) => {
+            error::failed(err, path, why);
+            None
+        }
+    }
+}
+
 // How often an interrupted read is tried again in all.
 const TRIES: u32 = 1000000;
 
@@ -15,24 +37,24 @@ enum Turn {
     // So many bytes came, at least one.
     Got(usize),
     End,
-    Interrupted,
-    // It failed; errno says why.
-    Failed,
+    Interrupted(io::Error),
+    // It failed, and why.
+    Failed(io::Error),
 }
 
 // How far a buffer was filled.
-#[derive(Drop)]
+#[derive(Clone, Copy)]
 pub enum Reached {
     // To its end; the file may go on.
     Full,
     // The file ended after so many bytes.
     Ended(usize),
-    // A read failed, or was interrupted too often; errno says why.
-    Failed,
+    // A read failed, or was interrupted too often, and why.
+    Failed(io::Error),
 }
 
 // A file that was to be read whole.
-#[derive(Drop)]
+#[derive(Clone, Copy)]
 pub enum Input {
     // The file has so many bytes, and all of them were read.
     Whole(usize),
@@ -40,51 +62,44 @@ pub enum Input {
     Longer,
     // The file ended at another place than its length says: it changed, or bytes of it were not given.
     Changed,
-    // A read failed, or the length couldn't be asked; errno says why.
-    Failed,
+    // A read failed, or the length couldn't be asked, and why.
+    Failed(io::Error),
 }
 
 // One read to the front of the buffer.
-fn read_some(fd: i32, buf: &mut [u8]) -> Turn
+fn read_some(file: &mut impl Read, buf: &mut [u8]) -> Turn
     ensures { Moves result (length buf.old) }
 {
-    let got = libc::read(fd, buf);
-    if got < 0 {
-        if os::errno() == libc::EINTR {
-            return Turn::Interrupted;
-        }
-        return Turn::Failed;
+    match file.read(buf) {
+        Ok(0) => Turn::End,
+        Ok(n) => Turn::Got(n),
+        Err(why) if why.kind() == ErrorKind::Interrupted => Turn::Interrupted(why),
+        Err(why) => Turn::Failed(why),
     }
-    let n = io::count(got, buf);
-    if n == 0 {
-        return Turn::End;
-    }
-    Turn::Got(n)
 }
 
 // Reads until the buffer is full or the file ends.
-pub fn fill(fd: i32, buf: &mut [u8]) -> Reached
+pub fn fill(file: &mut impl Read, buf: &mut [u8]) -> Reached
     ensures { Fills result (length buf.old) }
 {
     let mut done: usize = 0;
     let mut tries = TRIES;
     while done < buf.len() {
-        let turn = read_some(fd, &mut buf[done..]);
-        match turn {
+        match read_some(file, &mut buf[done..]) {
             Turn::Got(n) => {
                 done += n;
             }
-            Turn::Interrupted => {
+            Turn::Interrupted(why) => {
                 if tries == 0 {
-                    return Reached::Failed;
+                    return Reached::Failed(why);
                 }
                 tries -= 1;
             }
             Turn::End => {
                 return Reached::Ended(done);
             }
-            Turn::Failed => {
-                return Reached::Failed;
+            Turn::Failed(why) => {
+                return Reached::Failed(why);
             }
         }
     }
@@ -92,43 +107,36 @@ pub fn fill(fd: i32, buf: &mut [u8]) -> Reached
 }
 
 // What is read behind the last byte of a full buffer, where the file ends or goes on.
-fn after_full(fd: i32, count: usize) -> Input
+fn after_full(file: &mut (impl Read + Seek), count: usize) -> Input
     ensures { Holds result count }
 {
     let mut one = [0u8; 1];
-    let next = fill(fd, &mut one);
-    match next {
+    match fill(file, &mut one) {
         Reached::Full => Input::Longer,
-        Reached::Ended(_) => at_end(fd, count),
-        Reached::Failed => Input::Failed,
+        Reached::Ended(_) => at_end(file, count),
+        Reached::Failed(why) => Input::Failed(why),
     }
 }
 
 // The count, where the file's length agrees. A pipe or a terminal has no length, and its end is where no more is read.
-pub fn at_end(fd: i32, count: usize) -> Input
+pub fn at_end(file: &mut impl Seek, count: usize) -> Input
     ensures { Holds result count }
 {
-    let size = libc::lseek(fd, 0, libc::SEEK_END);
-    if size < 0 {
-        if os::errno() == libc::ESPIPE {
-            return Input::Whole(count);
-        }
-        return Input::Failed;
+    match file.seek(SeekFrom::End(0)) {
+        Ok(size) if size == count as u64 => Input::Whole(count),
+        Ok(_) => Input::Changed,
+        Err(why) if why.kind() == ErrorKind::NotSeekable => Input::Whole(count),
+        Err(why) => Input::Failed(why),
     }
-    if size as u64 != count as u64 {
-        return Input::Changed;
-    }
-    Input::Whole(count)
 }
 
 // The whole file to the front of the buffer, read from where it stands, which is its start when it was just opened.
-pub fn whole(fd: i32, buf: &mut [u8]) -> Input
+pub fn whole(file: &mut (impl Read + Seek), buf: &mut [u8]) -> Input
     ensures { Holds result (length buf.old) }
 {
-    let filled = fill(fd, buf);
-    match filled {
-        Reached::Full => after_full(fd, buf.len()),
-        Reached::Ended(n) => at_end(fd, n),
-        Reached::Failed => Input::Failed,
+    match fill(file, buf) {
+        Reached::Full => after_full(file, buf.len()),
+        Reached::Ended(n) => at_end(file, n),
+        Reached::Failed(why) => Input::Failed(why),
     }
 }
