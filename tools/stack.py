@@ -4,14 +4,10 @@
     stack.py [PROGRAM]
 
 Makes two files of one recorded case each, a struct walk of one level and one of twelve, and finds by bisection the least stack
-with which PROGRAM (target/bin/replay) ends on each of them. The difference is what eleven nested levels take; what the program
-itself holds, its rooms above all, is in both. On a machine other than x86-64 the toolchain's emulator runs the program, and is told
-the stack's size.
+with which PROGRAM (crates/replay/out/replay) ends on each of them. The difference is what eleven nested levels take; what the program
+itself holds, its rooms above all, is in both.
 """
-import os
-import platform
 import resource
-import shutil
 import struct
 import subprocess
 import sys
@@ -60,23 +56,9 @@ def case(levels):
     return b"VRFCASE4" + struct.pack("<I", len(body)) + body
 
 
-def emulator():
-    """What runs an x86-64 program here with a stack of so many bytes, as a function to its words; none on x86-64."""
-    if platform.machine() == "x86_64":
-        return None
-    kit = os.path.dirname(os.path.dirname(os.path.realpath(shutil.which("rt"))))
-    own = os.path.join(kit, "on", platform.machine(), "toolchain")
-    lib = os.path.join(own, "lib")
-    loader = [os.path.join(lib, "ld-linux-x86-64.so.2"), "--library-path", lib]
-    return lambda size: [os.path.join(own, "bin", "qemu-x86_64"), "-s", str(size)] + loader
-
-
 def ends(program, path, kib):
     size = 1024 * kib
-    emulated = emulator()
-    words = (emulated(size) if emulated else []) + [program, path]
-    limit = None if emulated else lambda: resource.setrlimit(resource.RLIMIT_STACK, (size, size))
-    done = subprocess.run(words, preexec_fn=limit, capture_output=True)
+    done = subprocess.run([program, path], preexec_fn=lambda: resource.setrlimit(resource.RLIMIT_STACK, (size, size)), capture_output=True)
     return done.returncode == 0 and b"1 cases" in done.stdout
 
 
@@ -94,7 +76,7 @@ def least(program, path):
 
 
 def main():
-    program = sys.argv[1] if len(sys.argv) > 1 else "target/bin/replay"
+    program = sys.argv[1] if len(sys.argv) > 1 else "crates/replay/out/replay"
     sizes = []
     for levels in (1, LEVELS):
         with tempfile.NamedTemporaryFile(suffix=".bin") as f:

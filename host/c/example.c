@@ -5,7 +5,7 @@
  *     target/example                 a small window that stands below
  *     target/example FILE [BITS]     the first BITS bits of a file, or all of it
  *
- * tools/staticlib makes the library for the machine at hand; the one for x86-64 is also what `rt staticlib exports` writes. */
+ * tools/staticlib makes the library, for x86-64: it is what `rt lib` makes of crate exports_c. */
 #include "vrf.h"
 
 #include <errno.h>

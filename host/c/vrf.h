@@ -3,7 +3,7 @@
  * libexports.a holds these functions, with the machine's own calling convention for C. Build it with tools/staticlib; see example.c
  * for a program that uses it. Each function is proved, whatever it is handed: it ends, it stays inside what is lent, and what it
  * answers and leaves in the lent buffers is what a definition makes of the inputs and of nothing else. The contracts stand in
- * crates/exports/src/lib.rt. There is no state: calls from several threads don't meet.
+ * crates/exports_c/src/lib.rt. There is no state: calls from several threads don't meet.
  *
  * What you hand in
  *   A slice is a pointer and a length. Lengths count elements of the pointer's type, not bytes: a buffer of 170 uint32_t has

@@ -33,6 +33,7 @@ fn made() -> PathBuf {
         "crates/floats",
         "crates/geometry",
         "crates/exports",
+        "crates/exports_c",
     ] {
         println!("cargo:rerun-if-changed={}", root.join(source).display());
     }

@@ -7,7 +7,7 @@ a module or of all that a module has, a public module written with its body, met
 import re
 from dataclasses import dataclass
 
-from .code import CLAUSE, without_comments
+from .code import clauses_in, without_clauses, without_comments
 from .repository import PUBLIC, PUBLIC_MODULES
 
 
@@ -33,10 +33,11 @@ class Call:
     @property
     def short(self):
         """The call's name in theorems."""
-        return self.name.split("::")[-1].replace("_", "-")
+        return self.name.split("::")[-1]
 
 
-ENSURES = re.compile(r"\bensures(?: \w+)?\s*\{\s*λ (\w+)\.\s*⌜(.*?)⌝\s*\}", re.S)
+# what a clause calls the answer
+ANSWER = "result"
 
 
 def call_of(name, node, head):
@@ -56,8 +57,14 @@ def call_of(name, node, head):
     m = re.match(r"\s*->\s*(.*?)(?=\s*(?:\brequires\b|\bensures\b|\n|$))", rest, re.S)
     returns = m[1].strip() if m else ""
     rest = rest[m.end() :] if m else rest
-    clauses = tuple((a, " ".join(p.split())) for a, p in ENSURES.findall(rest))
-    return Call(name, node, tuple(parameters), returns, clauses, ENSURES.sub("", rest).strip(" \n{"))
+    clauses, behind, last = [], [], 0
+    for start, first, end, over in clauses_in(rest):
+        # a starred clause says something of memory, and is none of those that are read
+        if re.match(r"ensures(?: \w+)? ", rest[start:first]):
+            clauses.append((ANSWER, " ".join(rest[first:end].split())))
+            behind.append(rest[last:start])
+            last = over
+    return Call(name, node, tuple(parameters), returns, tuple(clauses), "".join([*behind, rest[last:]]).strip(" \n{"))
 
 
 def all_is_read(code, crate, report):
@@ -67,7 +74,7 @@ def all_is_read(code, crate, report):
             continue
         path = code.paths[owner, module]
         text = without_comments(code.repository.text(path))
-        bare = CLAUSE.sub(" ", text)
+        bare = without_clauses(text)
         unread = [name for name in re.findall(r"\bfn\s+(\w+)", bare) if name not in held.items or held.items[name].kind != "fn"]
         unread += [name for name in re.findall(r"\bmod\s+(\w+)", bare) if name not in held.children]
         unread += ["pub use"] * (len(re.findall(r"\bpub\s+use\b", bare)) != len(re.findall(r"^pub use ", bare, re.M)))

@@ -15,7 +15,8 @@ ITEM = re.compile(
 USE = re.compile(r"^(?P<open>pub(?:\([^)\n]*\))? )?use (?P<path>[^;]+);", re.M)
 MOD = re.compile(r"^(?P<open>pub(?:\([^)\n]*\))? )?mod (?P<name>\w+)(?P<end>;| \{)", re.M)
 GHOST = re.compile(r"^ghost use (?P<path>[^;]+);", re.M)
-CLAUSE = re.compile(r"⌜(.*?)⌝", re.S)
+BRACE = re.compile(r"[{}]")
+CLAUSE = re.compile(r"\b(?:requires|ensures)\*?(?: \w+)? \{")
 COMMENT = re.compile(r'"(?:\\.|[^"\\\n])*"|//[^\n]*|/\*.*?\*/', re.S)
 PATH = re.compile(r"(?<![\w.'])[A-Za-z_]\w*(?:::[A-Za-z_]\w*)*")
 
@@ -41,6 +42,31 @@ class Module:
     ghosts: tuple  # the paths of `ghost use`
 
 
+def clauses_in(text):
+    """(start of the clause, of what stands between its braces, end of that, end of the clause) of each `requires` and `ensures` of a text."""
+    at = 0
+    for m in CLAUSE.finditer(text):
+        if m.start() < at:
+            continue
+        depth, at = 1, m.end()
+        while depth:
+            brace = BRACE.search(text, at)
+            if brace is None:
+                return
+            depth += 1 if brace[0] == "{" else -1
+            at = brace.end()
+        yield m.start(), m.end(), at - 1, at
+
+
+def without_clauses(text):
+    """The text with a blank in the place of each clause."""
+    held, at = [], 0
+    for start, _, _, end in clauses_in(text):
+        held.append(text[at:start])
+        at = end
+    return " ".join([*held, text[at:]])
+
+
 @kept_by_text
 def without_comments(text):
     """The same text, comments blanked, so that places stay."""
@@ -52,11 +78,16 @@ def spread(path):
     path = " ".join(path.split())
     m = re.match(r"(.*?)::\{(.*)\}$", path)
     if m:
-        return [pair for part in m[2].split(",") if part.strip() for pair in spread(f"{m[1]}::{part.strip()}")]
+        return [pair for part in members(m[2]) for pair in spread(m[1] if part == "self" else f"{m[1]}::{part}")]
     m = re.match(r"(.*) as (\w+)$", path)
     if m:
         return [(m[2], m[1])]
     return [(path.split("::")[-1], path)]
+
+
+def members(text):
+    """The parts of a list, lists within it whole."""
+    return [part for part in (p.strip() for p in re.split(r",(?![^{}]*\})", text)) if part]
 
 
 @kept_by_text
@@ -153,7 +184,7 @@ class Code:
     def mentioned(self, node):
         """The items that an item's code names: functions that it calls, constants, types."""
         crate, module, _ = node
-        text = CLAUSE.sub(" ", self.item(node).text)
+        text = without_clauses(self.item(node).text)
         for m in PATH.finditer(text):
             found = self.resolve(crate, module, m[0])
             if found and found[2] and (self.item(found).kind != "fn" or text[m.end() :].lstrip()[:1] in ("(", "<")):
@@ -161,4 +192,5 @@ class Code:
 
     def clauses(self, node):
         """The propositions that an item's contract states."""
-        return CLAUSE.findall(self.item(node).text)
+        text = self.item(node).text
+        return [text[first:last] for _, first, last, _ in clauses_in(text)]

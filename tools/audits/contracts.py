@@ -1,11 +1,11 @@
-"""The contract of a public call, held to a shape. It has no `requires` and one `ensures { λ r. ⌜ .. ⌝ }`, which is one of these:
+"""The contract of a public call, held to a shape. It has no `requires` and one `ensures { .. }`, which is one of these:
 
-  r ≡ D A ..               the answer; `now r ≡ D A ..` where the answer is a slice. Nothing stands in front of r.
-  R A .. r X ..            a relation of RELATIONS; r is an argument of its own, and so are the final contents X of the lent buffers,
-                           `now (B .exit)`, or several of them side by side in a record made by one of MAKERS
+  result ≡ D A ..          the answer; `result.now ≡ D A ..` where the answer is a slice. Nothing stands in front of the answer.
+  R A .. result X ..       a relation of RELATIONS; the answer is an argument of its own, and so are the final contents X of the lent
+                           buffers, `B.new`, or several of them side by side in a record made by one of MAKERS
 
-D is one definition of some crate's specs. Each A is what is known at the entry, as it is: a parameter, `now (P .entry)`, or several lists
-side by side (MAKERS); of a relation also how a walk or a body is asked for, by parameters alone (ASKED). So a contract is one definition
+D is one definition of some crate's specs. Each A is what is known at the entry, as it is: a parameter by value, `P.now` of a shared one,
+`P.old` of a lent one, or several lists side by side (MAKERS); of a relation also how a walk or a body is asked for, by parameters alone (ASKED). So a contract is one definition
 applied to what is handed in, and what comes of it: a theorem that cites the definition says what the contract says, and neither can be
 altered without the other. The clause says what is answered and what each `&mut` parameter holds in the end.
 """
@@ -33,11 +33,11 @@ RELATIONS = {
 # records of several lists side by side: nothing but a name for all of them
 MAKERS = {("schema", "specs/Tables", "tables"), ("array", "specs/Calls", "lent"), ("fastarray", "specs/Answers", "lent")}
 # how a walk or a body is asked for: a record of the call's parameters, in which a number may stand for a mode (MODES)
-ASKED = {("array", "specs/Calls", "structCall"), ("array", "specs/Calls", "exactCall"), ("fastarray", "specs/Answers", "call")}
-MODES = {("exports", "specs/WalkResults", "modeOf")}
+ASKED = {("array", "specs/Calls", "struct_call"), ("array", "specs/Calls", "exact_call"), ("fastarray", "specs/Answers", "call")}
+MODES = {("exports", "specs/WalkResults", "mode_of")}
 ANSWER = ("var", "the answer")
 # what `≡` has to mean
-EQUAL = ("library", "mathlib.Core.Path", "_≡_")
+EQUAL = ("library", "mathlib.Core.Path", "◌≡◌")
 
 
 def at_exit(name):
@@ -63,26 +63,36 @@ class Contract:
         return [p.name for p in self.call.parameters if p.lent]
 
 
-def plain(tree):
-    """`now (P .entry)` as the variable P, `now (P .exit)` as the variable of P's contents at the exit, `now r` as r."""
-    if tree[0] == "app" and tree[1] == ("var", "now") and len(tree[2]) == 1:
-        inner = tree[2][0]
-        if inner[0] == "get" and inner[1][0] == "var" and inner[2] in ("entry", "exit"):
-            return ("var", inner[1][1] if inner[2] == "entry" else at_exit(inner[1][1]))
-        if inner == ANSWER:
+def plain(tree, call):
+    """`P.now` of a shared parameter and `P.old` of a lent one as the variable P, `P.new` as the variable of P's contents at the exit, `result.now`
+    as the answer. What else is said of such a parameter, and the parameter itself, is no variable that a contract may have."""
+    shared = {p.name for p in call.parameters if p.type.startswith("&") and not p.lent}
+    lent = {p.name for p in call.parameters if p.lent}
+
+    def of(tree):
+        kind = tree[0]
+        if kind == "get" and tree[1] == ANSWER and tree[2] == "now":
             return ANSWER
-    kind = tree[0]
-    if kind in ("var", "name"):
-        return tree
-    if kind == "app":
-        return ("app", plain(tree[1]), tuple(plain(t) for t in tree[2]))
-    if kind == "get":
-        return ("get", plain(tree[1]), tree[2])
-    if kind == "op":
-        return ("op", tree[1], plain(tree[2]), plain(tree[3]))
-    if kind == "fun":
-        return ("fun", tree[1], plain(tree[2]))
-    return ("all", tuple((n, plain(t)) for n, t in tree[1]), plain(tree[2]))
+        if kind == "get" and tree[1][0] == "var" and tree[1][1] in shared | lent:
+            name = tree[1][1]
+            if tree[2] == ("now" if name in shared else "old"):
+                return ("var", name)
+            return ("var", at_exit(name)) if name in lent and tree[2] == "new" else ("get", ("var", f"{name} itself"), tree[2])
+        if kind == "var" and tree[1] in shared | lent:
+            return ("var", f"{tree[1]} itself")
+        if kind in ("var", "name"):
+            return tree
+        if kind == "app":
+            return ("app", of(tree[1]), tuple(of(t) for t in tree[2]))
+        if kind == "get":
+            return ("get", of(tree[1]), tree[2])
+        if kind == "op":
+            return ("op", tree[1], of(tree[2]), of(tree[3]))
+        if kind == "fun":
+            return ("fun", tree[1], of(tree[2]))
+        return ("all", tuple((n, of(t)) for n, t in tree[1]), of(tree[2]))
+
+    return of(tree)
 
 
 def is_relation(tree):
@@ -138,10 +148,10 @@ def contract_of(call, definitions, reach, report):
         except terms.Unread as why:
             report.hold(False, f"{call.name}: a clause can't be read ({why}): {text[:60]}")
             continue
-        report.hold("≡" not in text or definitions.meaning(crate, None, "_≡_", scope) == EQUAL, f"{call.name}: `≡` is not the equation of paths")
-        tree = plain(put(tree, {answer: ANSWER}) if answer != "_" else tree)
+        report.hold("≡" not in text or definitions.meaning(crate, None, "◌≡◌", scope) == EQUAL, f"{call.name}: `≡` is not the equation of paths")
+        tree = plain(put(tree, {answer: ANSWER}), call)
         clause = shaped(call, tree, exits)
-        if report.hold(clause is not None, f"{call.name}: this clause is no equation `r ≡ ..` and no relation: {text[:60]}"):
+        if report.hold(clause is not None, f"{call.name}: this clause is no equation `result ≡ ..` and no relation: {text[:60]}"):
             single = is_single(clause, {p.name for p in call.parameters}, exits)
             report.hold(single, f"{call.name}: the contract is no single definition applied to what is handed in: {text[:60]}")
             found.clause = clause if len(call.clauses) == 1 else None

@@ -39,7 +39,7 @@ class File:
     @cached_property
     def operators(self):
         """The names that are written in parts, with their parts."""
-        return [(name, [p for p in name.split("_") if p]) for name in [*self.brought, *self.declarations] if "_" in name]
+        return [(name, [p for p in name.split("◌") if p]) for name in [*self.brought, *self.declarations] if "◌" in name]
 
 
 COMMENT = re.compile(r'"(?:\\.|[^"\\\n])*"|\{-|-\}|(?<![^\s(){}.;,@"«»])--[^\n]*')
@@ -161,10 +161,44 @@ def tokens_of(text):
     return {token.strip(".") for token in TOKEN.findall(text) if not token.startswith(".")}
 
 
+# where the toolchain's library declares what it passes on under other paths, so that a word means the same by whichever of them it is brought
+HOMES = {
+    "Prim.Native.Nat": "ℕ zero suc pred ◌+◌ ◌-◌ ◌*◌ ◌/◌ ◌%◌ ◌^◌ ◌<◌ ◌≤◌ min max",
+    "mathlib.Core.Path": "◌≡◌ refl sym ap ap₂ ◌∙◌ subst",
+    "mathlib.Core.Bool": "Bool true false cond not ◌&&◌ ◌||◌",
+    "mathlib.Core.Logic": "◌≢◌ ◌⊎◌ ◌↔◌",
+    "mathlib.Core.List": "List [] ◌∷◌ ◌++◌ map reverse",
+    "lib.Dec": "T eqb ltb leb",
+    "Rattle.core.specs.Bool": "if◌then◌else◌ nat_eq nat_lt nat_le ◌==◌",
+    "lib.ListN": "length get_or take drop set replicate",
+    "lib.IntN": "ℤ pos negsuc ◌+ℤ◌ ◌-ℤ◌ ◌*ℤ◌ neg_ℤ nat_abs",
+    "lib.Signed": "◌≤ℤ◌ ◌<ℤ◌",
+    "lib.Ieee": "Float Format binary32 binary64 nan inf fin sqrt",
+}
+HOME = {name: home for home, names in HOMES.items() for name in names.split()}
+PASSING = {"Rattle.std.specs.Prelude", "Rattle.core.specs.Prelude", "Rattle.std.proofs.Common", "Rattle.std.specs.Float", "Rattle.core.specs.Float"}
+# modules that it passes on whole, by the paths that they then have
+WHOLE = [
+    (re.compile(r"Rattle\.(?:std|core)\.proofs\.Math\.(Path|Logic|Bool|Option)$"), r"mathlib.Core.\1"),
+    (re.compile(r"Rattle\.(?:std|core)\.proofs\.Math\.(Arith|Dec|IntN|ListN|Pow|Seq)$"), r"lib.\1"),
+    (re.compile(r"Rattle\.(?:std|core)\.specs\.Float\.(Ieee(?:\..*)?)$"), r"lib.\1"),
+]
+
+
+def home_of(path, name):
+    """The module of the library that declares a name, and the name."""
+    if path in PASSING:
+        return HOME.get(name, path), name
+    for form, home in WHOLE:
+        if form.match(path):
+            return form.sub(home, path), name
+    return path, name
+
+
 @kept_by_text
 def module_named(path):
-    """(crate, file, type) of a path such as Rattle·bitio.specs.Bits or Rattle·bitio·specs.specs.declared.Cursor.the-variants."""
-    m = re.match(r"Rattle·(\w+)(?:·(?:specs|proofs))?\.(specs|proofs)(?:\.(.*))?$", path)
+    """(crate, file, type) of a path such as Rattle.bitio.specs.Bits or Rattle.bitio.specs.declared.Cursor.TheVariants."""
+    m = re.match(r"Rattle\.(\w+)\.(specs|proofs)(?:\.(.*))?$", path)
     if not m:
         return None
     crate, kind, rest = m[1], m[2], m[3] or "Lib"
@@ -222,9 +256,9 @@ class Definitions:
                     found = self.in_module(".".join([held.aliases[first]] + parts[: k - 1]), parts[k - 1])
                     if found:
                         return found
-            if first.startswith("Rattle·"):
+            if first == "Rattle":
                 parts = word.split(".")
-                for k in range(len(parts) - 1, 1, -1):
+                for k in range(len(parts) - 1, 2, -1):
                     found = self.in_module(".".join(parts[:k]), parts[k])
                     if found:
                         return found
@@ -237,7 +271,7 @@ class Definitions:
         held = scope or self.files[crate, file]
         found = self.resolve(crate, file, word, scope)
         if found is None and word in held.brought:
-            found = ("library", *held.brought[word])
+            found = ("library", *home_of(*held.brought[word]))
         return found
 
     def words(self, crate, file, text, scope=None):

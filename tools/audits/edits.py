@@ -56,11 +56,13 @@ def changes(text, crate):
 
 
 def fits(repository, edit):
-    """No change is empty, and each old text stands in its file exactly once."""
+    """No change is empty, and each old text stands exactly once in its file, as the changes before it left that."""
+    texts = {}
     for file, old, new in edit.changes:
-        text = repository.text(file)
+        text = texts.get(file, repository.text(file))
         if text is None or old == new or text.count(old) != 1:
             return False
+        texts[file] = text.replace(old, new)
     return bool(edit.changes)
 
 

@@ -91,7 +91,7 @@ def theorems_weakened(seen):
     for call in seen.calls:
         shapes = Shapes(call, seen.contracts[call.name], seen.definitions, seen.reach, seen.code)
         for kind in [k for k, owed in KINDS.items() if owed(call)]:
-            name = f"{kind}-{call.short}"
+            name = f"{kind}_{call.short}"
             for file in named[name]:
                 statement = statement_of(seen.definitions, "promises", file, seen.definitions.declaration(("promises", file, name)))
                 for what, weaker in weaker_statements(statement):

@@ -1,9 +1,12 @@
-"""The C interface, held to one reading of it in three places: crates/exports/src (what is proved), host/c/vrf.h (what C is told) and
-host/rust/src/raw.rs (what host/rust is told). The same structs with the same fields in the same order, the same functions with the
-same parameters in the same order, by name and by type; a slice is a pointer and its length. A constant of vrf.h that the code or
-host/rust has too (CONSTANTS) has one value.
+"""The C interface, held to one reading of it in four places: crates/exports/src (what is proved), crates/exports_c/src (what is handed to C),
+host/c/vrf.h (what C is told) and host/rust/src/raw.rs (what host/rust is told). The same structs with the same fields in the same order,
+the same functions with the same parameters in the same order, by name and by type; a slice is a pointer and its length. A constant of
+vrf.h that the code or host/rust has too (CONSTANTS) has one value.
 
-All three are brought to one form: a struct is a list of (field, type), a function a list of (parameter, type) and what it gives. Types
+A function of crates/exports_c is the one of crates/exports of its name: it has its head and its contract, whose words mean the same (the
+`ghost use` lines are the same), and its body hands its parameters on in their order and does nothing else.
+
+All are brought to one form: a struct is a list of (field, type), a function a list of (parameter, type) and what it gives. Types
 are written as in C, without `const`'s place: `const uint8_t *`, `uint32_t *`, `size_t`.
 """
 import re
@@ -13,6 +16,8 @@ from . import code
 HEADER = "host/c/vrf.h"
 RAW = "host/rust/src/raw.rs"
 EXPORTS = "crates/exports/src/*.rt"
+LIBRARY = "crates/exports/src/lib.rt"
+CALLED = "crates/exports_c/src/lib.rt"
 NUMBERS = {
     "u8": "uint8_t", "u16": "uint16_t", "u32": "uint32_t", "u64": "uint64_t", "i8": "int8_t", "i16": "int16_t", "i32": "int32_t",
     "i64": "int64_t", "usize": "size_t", "isize": "ptrdiff_t", "f32": "float", "f64": "double", "bool": "bool",
@@ -105,16 +110,23 @@ def header_of(text):
 def interface_is_one(repository, report):
     texts = [code.without_comments(repository.text(path)) for path in repository.find(EXPORTS)]
     ours = "\n".join(texts)
-    marked = re.findall(r'#\[no_mangle\]\s*pub extern "C" fn (\w+)', ours)
-    proved = rust_structs(ours), rust_functions(ours, r'pub extern "C" ')
-    report.hold(set(marked) == set(proved[1]), f"crates/exports: an `extern \"C\"` function without #[no_mangle]: {', '.join(sorted(set(proved[1]) - set(marked)))}")
+    if not report.hold(repository.text(CALLED) is not None, f"{CALLED} isn't there"):
+        return
+    called = code.without_comments(repository.text(CALLED))
+    marked = re.findall(r'#\[unsafe\(no_mangle\)\]\s*pub extern "C" fn (\w+)', called)
+    proved = rust_structs(ours), rust_functions(called, r'pub extern "C" ')
+    report.hold(set(marked) == set(proved[1]), f"crates/exports_c: an `extern \"C\"` function without #[unsafe(no_mangle)]: {', '.join(sorted(set(proved[1]) - set(marked)))}")
+    for path in repository.find(EXPORTS):
+        marks = re.search(r'no_mangle|extern\s+"C"', code.without_comments(repository.text(path)))
+        report.hold(not marks, f"{path}: C is handed functions by crates/exports_c alone")
+    handed_on(repository, report)
     header = repository.text(HEADER)
     raw = repository.text(RAW)
     if not report.hold(header is not None, f"{HEADER} isn't there") or not report.hold(raw is not None, f"{RAW} isn't there"):
         return
     structs, functions, constants = header_of(header)
     raw = code.without_comments(raw)
-    for place, text, words in [(HEADER, header, HEADER_WORDS), (RAW, raw, RUST_WORDS), ("crates/exports", ours, RUST_WORDS)]:
+    for place, text, words in [(HEADER, header, HEADER_WORDS), (RAW, raw, RUST_WORDS), ("crates/exports", ours, RUST_WORDS), ("crates/exports_c", called, RUST_WORDS)]:
         found = [m[0].strip() for m in (re.search(word, text) for word in words) if m]
         report.hold(not found, f"{place} has what would alter a layout or a name: {', '.join(found)}")
     for path in repository.find("host/rust/src/**/*.rs"):
@@ -132,6 +144,31 @@ def interface_is_one(repository, report):
         base = kind.replace("const ", "").replace(" *", "")
         report.hold(base in NUMBERS.values() or base in proved[0], f"crates/exports: {kind} has no form in C that is known here")
     constants_agree(repository, constants, report)
+
+
+def head_of(item):
+    """A function's name, parameters, result and contract, in one form."""
+    head = re.sub(r"^(?:#\[[^\n]*\]\n)*pub (?:extern \"C\" )?", "", item.head)
+    return re.sub(r"\s*([(){},:])\s*", r"\1", " ".join(head.split())).replace(",)", ")")
+
+
+def handed_on(repository, report):
+    """Each function of crates/exports_c is that of crates/exports, and hands its parameters on."""
+    library, called = code.module_of(repository.text(LIBRARY) or ""), code.module_of(repository.text(CALLED))
+    report.hold(repository.find("crates/exports_c/src/*") == [CALLED], f"crates/exports_c: {CALLED} is not its only source")
+    report.hold(sorted(library.ghosts) == sorted(called.ghosts), f"{CALLED}: the words of its contracts are brought from elsewhere than those of {LIBRARY}")
+    ours = {name for name, item in library.items.items() if item.kind == "fn" and item.public}
+    theirs = {name for name, item in called.items.items() if item.kind == "fn"}
+    report.hold(set(called.items) == theirs and not called.children, f"{CALLED} has something besides functions")
+    for name in sorted(ours ^ theirs):
+        report.hold(False, f"function {name}: {CALLED if name in ours else LIBRARY} lacks it")
+    for name in sorted(ours & theirs):
+        here, there = library.items[name], called.items[name]
+        report.hold(head_of(here) == head_of(there), f"function {name}: {CALLED} and {LIBRARY} differ in its head or in its contract")
+        handed = re.search(r"\((.*?)\)\s*->", head_of(there), re.S)
+        words = ",".join(part.partition(":")[0] for part in re.split(r",(?![^\[<]*[\]>])", handed[1])) if handed else None
+        body = re.sub(r"\s+", "", there.text.partition("\n{\n")[2]).replace(",)", ")")
+        report.hold(body == f"exports::{name}({words})}}", f"function {name}: {CALLED} does something else than hand its parameters on")
 
 
 def difference(here, there):

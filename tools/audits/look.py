@@ -52,7 +52,7 @@ def look(root):
         seen.tried[call.name] = tried = wrong_answers(call, named, reach, seen.edits, changed)
         report.hold(len(tried) >= LEAST, f"{call.name}: fewer than two edits touch something that it rests on")
         file = theorems.get("one", "proofs/none").split("/")[1]
-        seen.rows[call.name] = row_of(call, named, f"{file}.one-{call.short}", tried)
+        seen.rows[call.name] = row_of(call, named, f"{file}.one_{call.short}", tried)
     judged_by(seen.contracts, report)
     for name in sorted(set(seen.edits) - set().union(*seen.tried.values())):
         stated = stated_of(seen.edits[name], changed[name], definitions, reach)

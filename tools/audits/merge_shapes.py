@@ -1,4 +1,4 @@
-"""The shapes of the laws on merges, commutes- to parts-. shapes.py says what each is held to. A law is a word of promises/specs/Totals, of the
+"""The shapes of the laws on merges, commutes_ to parts_. shapes.py says what each is held to. A law is a word of promises/specs/Totals, of the
 call's own contract and of how its sets and answers are read: it has no variable and no premise of its own."""
 from . import terms
 from .contracts import ANSWER, cited
@@ -9,8 +9,8 @@ from .walk_shapes import VERDICT_NAMED, VERDICT_NUMBER, WalkShapes, named
 
 OF_TOTALS = ("promises", "specs/Totals")
 # how sets and answers are read, and how verdicts on sets are told: by the definition that judges them, and in which form
-IN_RATTLE = ((*OF_TOTALS, "inRattle"), ("array", "specs/Calls", "Judges"), VERDICT_NAMED)
-IN_C = ((*OF_TOTALS, "inC"), ("exports", "specs/Calls", "vrfVerdict"), VERDICT_NUMBER)
+IN_RATTLE = ((*OF_TOTALS, "in_rattle"), ("array", "specs/Calls", "Judges"), VERDICT_NAMED)
+IN_C = ((*OF_TOTALS, "in_c"), ("exports", "specs/Calls", "vrf_verdict_lem"), VERDICT_NUMBER)
 
 
 def applied_to(contract, outs):
@@ -72,6 +72,6 @@ class MergeShapes(WalkShapes):
 
 
 def judged_by(contracts, report):
-    """The verdicts that parts- speaks of are the contracts of the calls that judge a set."""
+    """The verdicts that parts_ speaks of are the contracts of the calls that judge a set."""
     for call, (_, definition, _) in zip(JUDGED_BY, (IN_RATTLE, IN_C)):
         report.hold(cited(contracts[call]) == [definition], f"{call}: the laws on merges speak of {definition[2]}, which is not its contract")

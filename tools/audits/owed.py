@@ -35,8 +35,8 @@ IN_PARTS = {
 }
 # answers that hold floats: the word of promises/specs/Finite that is said of one, and how many bits it says that an angle has: the definitions
 # that tell it, outermost first, of a parameter
-WIDTH_OF = ("geometry", "specs/Movements", "widthOf")
-ROTATION_KIND = ("exports", "specs/MoveResults", "rotationKind")
+WIDTH_OF = ("geometry", "specs/Movements", "width_of")
+ROTATION_KIND = ("exports", "specs/MoveResults", "rotation_kind_lem")
 FINITE = {
     "VectorRead": ("FiniteAnswer", None),
     "RotationRead": ("SoundRotationAnswer", ("width",)),
@@ -91,7 +91,8 @@ KINDS = {
     "clean": lambda call: call.name in WALKS,
     "judged": lambda call: call.name in JUDGE,
     "paths": lambda call: call.name in LEAFY,
-    "placed": lambda call: call.name in LEAFY,
+    **{told: lambda call: call.name in LEAFY for told in ("placed", "ordered", "copied")},
+    "accounted": lambda call: call.name in WALKS,
     "behind": lambda call: call.name in OBJECTS,
     **{law: lambda call: call.name in MERGES for law in ("commutes", "associates", "zero", "totals", "parts")},
 }

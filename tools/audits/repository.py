@@ -32,7 +32,7 @@ class Repository:
 
     def crates(self):
         lines = self.text("crates.txt").splitlines()
-        return [line.split(":")[0] for line in lines if ":" in line.split("#")[0]]
+        return [line.split(":")[0].split()[0] for line in lines if line.split("#")[0].partition(":")[0].strip()]
 
     def find(self, pattern):
         """The paths from the root that fit a pattern with * and **, in order."""
@@ -51,7 +51,7 @@ def listed(root):
         return sorted(name for name in said.stdout.splitlines() if (root / name).is_file())
     found = []
     for folder, below, names in os.walk(root):
-        below[:] = [name for name in below if name not in ("target", ".git")]
+        below[:] = [name for name in below if name not in ("target", ".git", "out")]
         found += [os.path.relpath(os.path.join(folder, name), root) for name in names]
     return sorted(found)
 

@@ -1,35 +1,36 @@
-"""The shape of each kind of theorem on a call. A theorem is KIND-CALL, with `-` for `_`; owed.py says which calls owe one. A statement is
+"""The shape of each kind of theorem on a call. A theorem is KIND_CALL; owed.py says which calls owe one. A statement is
 read with the binders of the sections around it. Its variables stand for parameters of the call, for final contents, for the answer, or
 for several lists side by side (MAKERS of contracts.py). In all kinds:
 
   - what is said of the call is its own `ensures`: the one definition that this cites, over variables for what is handed in and comes out;
   - every variable stands in the contract, and every premise is one that the kind names: so none can be added.
 
-  one-       Determines C, or DeterminesAll C where buffers are lent; C r (C r end) is the contract: `r ≡` its definition, or its relation
-  refused-   under the contract: VIEW r ≡ firstOf RULES. VIEW is one or more definitions, the outermost of which gives an Option; RULES a
-             definition that gives a list of rules, or numberedRules of one, and every parameter of the call is among its arguments
-  kept-      under the contract, and where the answer is refused (VIEW r ≡ some n, with the VIEW of the refused- theorem, or
-             `r .refusal ≡ 0 → ⊥`; where a call can't refuse, but its relation says that X is stored at P of its buffer B,
+  one_       Determines C, or DeterminesAll C where buffers are lent; C r (C r end) is the contract: `r ≡` its definition, or its relation
+  refused_   under the contract: VIEW r ≡ firstOf RULES. VIEW is one or more definitions, the outermost of which gives an Option; RULES a
+             definition that gives a list of rules, or numbered_rules of one, and every parameter of the call is among its arguments
+  kept_      under the contract, and where the answer is refused (VIEW r ≡ some n, with the VIEW of the refused_ theorem, or
+             `r.refusal ≡ 0 → ⊥`; where a call can't refuse, but its relation says that X is stored at P of its buffer B,
              `length B < P + length X`): the final contents of each buffer are those at the entry
-  outside-   of two lists s and t that agree in the window (Agree; or, which asks less, are as many bytes): what the contract's definition
+  outside_   of two lists s and t that agree in the window (Agree; or, which asks less, are as many bytes): what the contract's definition
              gives for s it gives for t; or, where the contract is a relation, two answers that meet it coincide, with the buffers
-  longer-    the same however many bytes follow: of two lists that both hold the cursor's window (Inside) or the first bits (Hold); of a walk
+  longer_    the same however many bytes follow: of two lists that both hold the cursor's window (Inside) or the first bits (Hold); of a walk
              also of two that both hold fewer (Alike); of a fast-array body of two that both have as many bytes as its bits take, or both
              haven't (AlikeBodies)
-  stays-     under the contract: Stays of the cursor's position and of the refusal, told as in the refused- theorem; StaysInC of the struct for C
-  finite-    under the contract: the word of promises/specs/Finite that owed.py names, of the answer
-  padded-    under the contract: the word of promises/specs/Padded that owed.py names, of the cursor's position and the answer; or that of
+  stays_     under the contract: Stays of the cursor's position and of the refusal, told as in the refused_ theorem; StaysInC of the struct for C
+  finite_    under the contract: the word of promises/specs/Finite that owed.py names, of the answer
+  padded_    under the contract: the word of promises/specs/Padded that owed.py names, of the cursor's position and the answer; or that of
              promises/specs/PaddedCounts, of what the contract says is walked or decoded, and the answer; or that of PaddedMovements, of
              all that is handed in, and the answer
-  prefix-    under FirstBits, and two accepted answers that meet the contract: Begins, or PairsBegin, of these answers and buffers; of two
+  prefix_    under FirstBits, and two accepted answers that meet the contract: Begins, or PairsBegin, of these answers and buffers; of two
              structs for C that meet it BeginsInC, or PairsBeginInC
-  clean-     under the contract: CleanLeaves, or CleanPairs, of an accepted answer and its buffers; CleanInC, or CleanPairsInC, of the struct for C
-  judged-    under the contract: OnWindow of an accepted answer's counters and verdict, or InC of the struct for C, with the call's own walk
+  clean_     under the contract: CleanLeaves, or CleanPairs, of an accepted answer and its buffers; CleanInC, or CleanPairsInC, of the struct for C
+  judged_    under the contract: OnWindow of an accepted answer's counters and verdict, or InC of the struct for C, with the call's own walk
              and bits; OnSet of an answer on counters alone
-  paths-     under the contract: PathsFit of the answer, or PathsFitInC of the struct for C
-  placed-    under the contract: PlacedLeaves of the call's own walk, the answer and its buffers, or PlacedLeavesInC of the struct for C
-  behind-    under the contract: GivenBehind of the answer and its buffer, or GivenBehindInC of the struct for C
-  commutes-, associates-, zero-, totals-, parts-   of a merge: Commutes, Associates, ZeroKeeps, Totals, CleanParts of the contract
+  paths_     under the contract: PathsFit of the answer, or PathsFitInC of the struct for C
+  placed_, ordered_, copied_, accounted_   under the contract: PlacedLeaves, OrderedLeaves, CopiedLeaves or AccountedLeaves of the call's own walk, the
+             answer and its buffers, or the same InC of the struct for C; accounted_ of an object walk: AccountedPairs of its bytes, bits and answer
+  behind_    under the contract: GivenBehind of the answer and its buffer, or GivenBehindInC of the struct for C
+  commutes_, associates_, zero_, totals_, parts_   of a merge: Commutes, Associates, ZeroKeeps, Totals, CleanParts of the contract
 """
 import re
 
@@ -43,13 +44,13 @@ from .walk_shapes import applied
 
 OF_DETERMINING = ("promises", "specs/Determining")
 OF_OUTSIDE = ("promises", "specs/Outside")
-FIRST_OF = ("bits", "specs/Refusals", "firstOf")
-NUMBERED_RULES = ("promises", "specs/ExportOrders", "numberedRules")
+FIRST_OF = ("bits", "specs/Refusals", "first_of")
+NUMBERED_RULES = ("promises", "specs/ExportOrders", "numbered_rules")
 SOME = ("library", "mathlib.Core.Option", "some")
 LENGTH = ("library", "lib.ListN", "length")
 STORE = ("bits", "specs/Runs", "store")
 AGREEMENTS = {(*OF_OUTSIDE, word) for word in ("Agree", "Hold", "Alike", "AlikeBodies", "Inside")}
-CURSOR_OF = ("exports", "specs/ReadResults", "cursorOf")
+CURSOR_OF = ("exports", "specs/ReadResults", "cursor_of_lem")
 OF_STAYS = ("promises", "specs/Stays")
 OF_FINITE = ("promises", "specs/Finite")
 OF_PADDED = ("promises", "specs/Padded")
@@ -145,7 +146,7 @@ class Shapes(MergeShapes):
             number = arguments(pair[1])
             if len(number) == 1 and number[0][0] == "var" and number[0][1] in self.open and number[0][1] not in found:
                 if self.views(pair[0], answers) != self.contract.told:
-                    raise Wrong("the refusal is not told as in the `refused-` theorem")
+                    raise Wrong("the refusal is not told as in the `refused_` theorem")
                 found[number[0][1]] = ("var", "the refusal")
                 return
         if premise[0] == "all" and len(premise[1]) == 1 and premise[2] == ("var", "⊥"):
@@ -235,7 +236,7 @@ class Shapes(MergeShapes):
         if head(statement.conclusion) is None or head(statement.conclusion)[1] != (*OF_STAYS, "Stays") or arguments(statement.conclusion)[0] != at:
             raise Wrong("it doesn't say that the cursor stays where it stood")
         if self.views(arguments(statement.conclusion)[1], lambda tree: tree == self.answer_in(found)) != self.contract.told:
-            raise Wrong("the refusal is not told as in the `refused-` theorem")
+            raise Wrong("the refusal is not told as in the `refused_` theorem")
 
     def finite(self, statement):
         found = self.meets(statement)

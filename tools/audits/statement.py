@@ -33,7 +33,7 @@ def signature(declaration):
 def statement_of(definitions, crate, file, declaration):
     """The statement of a theorem: the sections' binders, then its own."""
     text = " ".join(declaration.sections + ("→" if any(declaration.sections) else "", signature(declaration)))
-    if "≡" in text and definitions.meaning(crate, file, "_≡_") != EQUAL:
+    if "≡" in text and definitions.meaning(crate, file, "◌≡◌") != EQUAL:
         raise Wrong("`≡` is not the equation of paths")
     tree = terms.read(text, lambda word: definitions.meaning(crate, file, word))
     held, conclusion = (tree[1], tree[2]) if tree[0] == "all" else ((), tree)

@@ -2,13 +2,12 @@
 import re
 
 from .code import without_comments
-from .interface import HEADER, RAW, interface_is_one
+from .interface import CALLED, HEADER, LIBRARY, RAW, interface_is_one
 from .repository import Report, Repository
 
-EXPORTS = "crates/exports/src/lib.rt"
 # where a list stands, and what its parts are: whole lines of a struct, or what commas divide
 STRUCTS = r"struct \w+ \{\n(.*?)^\}"
-LISTS = {HEADER: r"^\w+ vrf_\w+\(([^)]*)\);", RAW: r"fn vrf_\w+\(([^)]*)\)", EXPORTS: r"fn vrf_\w+(?:<[^>]*>)?\(([^)]*)\)"}
+LISTS = {HEADER: r"^\w+ vrf_\w+\(([^)]*)\);", RAW: r"fn vrf_\w+\(([^)]*)\)", LIBRARY: r"fn vrf_\w+(?:<[^>]*>)?\(([^)]*)\)", CALLED: r"(?:fn|exports::)\s*vrf_\w+(?:<[^>]*>)?\(([^)]*)\)"}
 
 
 def swaps(text, pattern, split, join):

@@ -13,9 +13,9 @@ import re
 
 from .repository import kept_by_text
 
-TOKEN = re.compile(r"\s+|«(?P<quoted>[^»]*)»|(?P<mark>[(){},;=λ→×]|\.(?=\s|$)|:(?=\s))|(?P<field>\.[^\s(){}«».,;]+)|(?P<word>[^\s(){}«».,;]+(?:\.[^\s(){}«».,;]+)*)")
+TOKEN = re.compile(r"\s+|«(?P<quoted>[^»]*)»|(?P<mark>[(){},;λ→×]|=(?=\s)|\.(?=\s|$)|:(?=\s))|(?P<field>\.«?[^\s(){}«».,;]+»?)|(?P<word>[^\s(){}«».,;]+(?:\.[^\s(){}«».,;]+)*)")
 # how tightly a sign binds; the first of a list binds least
-SIGNS = [["×"], ["≡", "≤", "<"], ["||"], ["&&"], ["++", "∷"], ["+", "-"], ["*", "/", "%"], ["^"]]
+SIGNS = [["×"], ["≡", "≤", "<", "=="], ["||"], ["&&"], ["++", "∷"], ["+", "-"], ["*", "/", "%"], ["^"]]
 LEVEL = {sign: k for k, signs in enumerate(SIGNS) for sign in signs}
 
 
@@ -36,7 +36,9 @@ def tokens_of(text):
         elif m["mark"]:
             found.append(("mark", m["mark"]))
         elif m["field"]:
-            found.append(("field", m["field"][1:]))
+            if m.start() == 0 or text[m.start() - 1].isspace():  # a field is written tight behind what it is of
+                raise Unread(m["field"])
+            found.append(("field", m["field"][1:].strip("«»")))
         elif m["word"]:
             found.append(("word", m["word"]))
     return tuple(found)
@@ -134,10 +136,6 @@ class Parser:
             raise Unread(f"nothing where a term is due, before {self.peek()[1]}")
         held = []
         while True:
-            if self.peek()[0] == "field":
-                field = self.next()[1]
-                head, held = ("get", ("app", head, tuple(held)) if held else head, field), []
-                continue
             more = self.atom()
             if more is None:
                 break
@@ -161,19 +159,34 @@ class Parser:
         return ("fun", tuple(names), body)
 
     def atom(self):
+        """A word or what stands in parentheses, with the fields behind it."""
         kind, word = self.peek()
         if kind == "word" and word not in LEVEL and word not in ("let", "in"):
             self.next()
-            if word in self.bound:
-                return ("var", word)
-            meaning = self.meaning(word)
-            return ("name", meaning, word.split(".")[-1]) if meaning else ("var", word)
-        if (kind, word) == ("mark", "("):
+            found = self.named(word)
+        elif (kind, word) == ("mark", "("):
             self.next()
-            inner = self.statement()
+            found = self.statement()
             self.want(")")
-            return inner
-        return None
+        else:
+            return None
+        while self.peek()[0] == "field":
+            found = ("get", found, self.next()[1])
+        return found
+
+    def named(self, word):
+        """What a word with dots is: a variable, or the longest name in front that means something, and fields of it."""
+        parts = word.split(".")
+        for k in range(len(parts), 0, -1):
+            first = ".".join(parts[:k])
+            if k > 1 and parts[0] in self.bound:
+                continue
+            meaning = None if first in self.bound else self.meaning(first)
+            if meaning or k == 1:
+                found = ("name", meaning, parts[k - 1]) if meaning else ("var", first)
+                for field in parts[k:]:
+                    found = ("get", found, field)
+                return found
 
 
 def flat(tree):
@@ -285,7 +298,7 @@ def fit(pattern, tree, open_names, found, may):
 
 
 def parts_as_variables(tree, open_names):
-    """`end .0` of an open variable as a variable of its own."""
+    """`end.0` of an open variable as a variable of its own."""
     kind = tree[0]
     if kind == "get" and tree[1][0] == "var" and tree[1][1] in open_names and tree[2].isdigit():
         return ("var", f"{tree[1][1]}.{tree[2]}")

@@ -20,7 +20,7 @@ def hold_theorems(call, contract, named, definitions, reach, code, report):
     """Holds each theorem that a call owes to its shape; answers the file of each. `named` are the theorems by name."""
     found = {}
     for kind, owed in KINDS.items():
-        name = f"{kind}-{call.short}"
+        name = f"{kind}_{call.short}"
         files = named.get(name, [])
         if not owed(call):
             if kind == "refused":

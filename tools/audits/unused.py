@@ -1,14 +1,15 @@
 """What nobody uses, and what is too long to read. Five kinds, each found by reading the files:
 
-  law       a declaration of specs/ or proofs/ that nothing rests on which is asked for. Asked for are: what a contract names; the proof
-            of a function (`..-spec` of a Proof.antt), which the toolchain looks up by name; the theorems that public calls owe
-            (owed.py); what documents name in backquotes, a file that docs/PROMISES.md names whole included; a law that a comment of
+  law       a declaration of specs/ or proofs/ that nothing rests on which is asked for. Asked for are: what a contract or a `tactic`
+            attribute names; what answers a goal or a given of a function (`goal.NAME` in its Answers.antt or Invariants.antt), and the
+            proof of a function (`.._spec` of a Proof.antt), which the toolchain looks up by name; the theorems that public calls owe
+            (owed.py); what documents name in backquotes, a file that docs/PROMISES.md or docs/PORT.md names whole included; a law that a comment of
             its crate's definitions or code names so; what the audit and an edit's new text name
   import    a name that a `use` or `ghost use` line brings and the file doesn't have a second time; a module so brought whose names it
             doesn't use. In code a `ghost use` serves contracts alone. `pub use` passes a name on and is not looked at
   long      a line of 300 characters or more in a file of definitions or proofs; a line of a contract of over 160. `use` lines may be long
   chain     `.before` six times or more in a row, but for the line that names the place (`let at-start = c .before .. in`)
-  sentence  a file of proofs/ that doesn't begin with a comment, unless it only answers `search needs`
+  sentence  a file of proofs/ that doesn't begin with a comment, unless it only answers `search rules`
 
 A name that a file also binds as a variable counts as used: what is listed can go, what isn't listed may still be idle.
 """
@@ -33,13 +34,20 @@ DEEP = 6
 
 NAME = re.compile(r"«[^»\n]*»|[^\s(){}.;,@\"«»⌜⌝]+")
 CHAIN = re.compile(r"(?:\.before(?![^\s(){}.;,@\"«»])\s*){%d,}" % DEEP)
-NAMED = re.compile(r"^ *(?:let [\w-]+ = [\w-]+(?: \.before)+ in|[\w-]+ c = c(?: \.before)+)$")
+NAMED = re.compile(r"^ *(?:let [\w-]+ = [\w-]+(?:\.before)+ in|[\w-]+ c = c(?:\.before)+)$")
 CLAUSE = re.compile(r"^ *(?:requires|ensures)\b[^{\n]*\{", re.M)
+# traits of the library that may be brought for their methods alone
+TRAITS = {f"std::{path}" for path in ("env::Env", "fmt::Write", "io::BufRead", "io::Print", "io::Read", "io::Seek", "io::Write")}
+# `#[tactic(auto, using(crate::proofs::File::law), unfolding(bits::specs::Bits::field))]`
+TACTIC = re.compile(r"#!?\[tactic\((?P<said>[^\]]*)\)\]")
+CITED = re.compile(r"\b(?P<crate>\w+)::(?P<file>(?:specs|proofs)(?:::\w+)+)::(?P<name>[^\s(),:]+)")
 GHOST = re.compile(r"^ghost use (?P<path>[^;]+);\n?", re.M)
 QUOTED = re.compile(r"`([^`\n]+)`")
 PLACE = re.compile(r"(?P<crate>\w+)/(?P<file>(?:specs|proofs)/[\w/+-]+)(?:\.(?P<name>\S+))?")
 COMMENT = re.compile(r"(?:--|//) .*")
 CARRYING = ["docs/PROMISES.md", "docs/DECISIONS.md"]
+# files that a document names whole, as `crate/proofs/File`: what carries a promise, and what stays though nothing cites it any more
+WHOLE = ["docs/PROMISES.md", "docs/PORT.md"]
 ANSWER = re.compile(r"^\S+(?: \S+)* =\s*(?P<body>.*?)(?=^\S|\Z)", re.S | re.M)
 
 
@@ -71,10 +79,10 @@ def bare_names(text):
 def used(name, names):
     """Whether a name, be it written in parts around its arguments, is among the names of a text."""
     plain = name.strip("«»")
-    pieces = [] if name.startswith("«") else [p for p in name.split("_") if p]
-    if plain in names or "_" in plain and pieces and all(p in names for p in pieces):
+    pieces = [p for p in name.split("◌") if p]
+    if plain in names or "◌" in plain and pieces and all(p in names for p in pieces):
         return True
-    return plain in ("_>>=_", "_>>_") and "do" in names
+    return plain in ("◌>>=◌", "◌>>◌") and "do" in names
 
 
 def clauses(plain):
@@ -94,12 +102,17 @@ def asked_for(repository, code, definitions):
     """The declarations that somebody outside the definitions and proofs asks for."""
     for (crate, file), held in definitions.files.items():
         if file.endswith("/Proof"):
-            yield from ((crate, file, d.name) for d in held.declarations.values() if d.name.endswith("-spec"))
+            yield from ((crate, file, d.name) for d in held.declarations.values() if d.name.endswith("_spec"))
+        if file.endswith(("/Answers", "/Invariants")):
+            yield from ((crate, file, d.name) for d in held.declarations.values() if is_answer(held, d))
     for (crate, module), held in code.modules.items():
         plain = code_without_comments(repository.text(code.paths[crate, module]))
+        for tactic in TACTIC.finditer(plain):
+            for m in CITED.finditer(tactic["said"]):
+                yield crate if m["crate"] == "crate" else m["crate"], m["file"].replace("::", "/"), m["name"]
         said = " ".join(plain[a:b] for a, b in clauses(plain))
         yield from definitions.words(crate, None, said, definitions.scope_of(held))
-    owed = {f"{kind}-{call.short}" for call in public_calls(code, Report()) for kind, owes in KINDS.items() if owes(call)}
+    owed = {f"{kind}_{call.short}" for call in public_calls(code, Report()) for kind, owes in KINDS.items() if owes(call)}
     quoted, whole = quoted_in(repository)
     for (crate, file), held in definitions.files.items():
         for name, declaration in held.declarations.items():
@@ -108,7 +121,7 @@ def asked_for(repository, code, definitions):
                 yield crate, file, declaration.name
     for path in repository.find("crates/*/specs/**/*.antt") + repository.find("crates/*/src/**/*.rt"):
         crate = path.split("/")[1]
-        said = {name for comment in COMMENT.findall(repository.text(path)) for name in QUOTED.findall(comment) if "-" in name}
+        said = {name for comment in COMMENT.findall(repository.text(path)) for name in QUOTED.findall(comment) if "_" in name or "-" in name}
         for (owner, file), held in definitions.files.items():
             if owner == crate and file.startswith("proofs/"):
                 yield from ((crate, file, held.declarations[name].name) for name in said if name in held.declarations)
@@ -125,6 +138,12 @@ def asked_for(repository, code, definitions):
                     yield from definitions.words(crate, None, new, definitions.scope_of(code.modules[crate, module]))
 
 
+def is_answer(held, declaration):
+    """Whether a declaration of a function's proof is what the toolchain asks for: its type is a goal's or a given's."""
+    m = re.match(r"\s*:\s*(?P<alias>[^\s.]+)\.", declaration.text.partition(declaration.name)[2])
+    return m is not None and held.aliases.get(m["alias"], "").endswith((".Goals", ".Given"))
+
+
 def quoted_in(repository):
     """What documents name in backquotes: `crate/proofs/File.name` in any, `name` and whole files in those that say what carries a rule."""
     quoted, whole = set(), set()
@@ -134,7 +153,7 @@ def quoted_in(repository):
             m = PLACE.fullmatch(words)
             if m and m["name"]:
                 quoted.add((m["crate"], m["file"], m["name"]))
-            elif m and path == CARRYING[0]:
+            elif m and path in WHOLE:
                 whole.add((m["crate"], m["file"]))
             if carries:
                 quoted.add(words.split(".")[-1])
@@ -237,7 +256,7 @@ def idle_in_code(text, extra=""):
         if m["open"]:
             continue
         pairs = spread(m["path"])
-        idle = [name for name, _ in pairs if name not in words and name != "*"]
+        idle = [name for name, path in pairs if name not in words and name != "*" and path not in TRAITS]
         if idle:
             yield m, "use", idle, [path for name, path in pairs if name not in idle]
 
@@ -338,9 +357,9 @@ def chains(repository):
 
 
 def only_searches(plain):
-    """Whether every answer of a proof is `search needs`; the closing line that gathers them is no answer."""
+    """Whether every answer of a proof is `search rules`; the closing line that gathers them is no answer."""
     answers = [" ".join(m["body"].split()) for m in ANSWER.finditer(plain)]
-    return bool(answers) and all(body == "search needs" or re.match(r"(?:tie\.)?close\b", body) for body in answers)
+    return bool(answers) and all(body == "search rules" or re.match(r"(?:tie\.)?close\b", body) for body in answers)
 
 
 def without_sentence(repository):

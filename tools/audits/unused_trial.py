@@ -11,37 +11,37 @@ FILES = {
     "crates/a/src/lib.rt": """\
 mod m;
 
-ghost use mathlib.Core.Path.{_≡_};
-ghost use Prim.Native.Nat.{_+_, _<_};
-ghost use Rattle·a·specs.specs.Words.{answer, place};
-use crate::m::place;
-use crate::m::Held;
+ghost use Rattle.std.specs.Prelude.{◌≡◌, ◌+◌, ◌<◌};
+ghost use Rattle.a.specs.Words.{answer, place};
 
-// The sum, which isn't below anything; `stated-so` says why.
+use crate::m::{Held, place};
+use std::env::Env;
+
+// The sum, which isn't below anything; `stated_so` says why.
+#[tactic(auto, using(crate::proofs::Laws::by_attribute))]
 fn f(x: u64) -> u64
-    ensures { λ r. ⌜ r ≡ answer x + 1 ⌝ }
+    ensures { result ≡ answer x + 1 }
 {
     place(x)
 }
 """,
     "crates/a/src/m.rt": f"""\
-ghost use Rattle·a·specs.specs.Words.{{answer}};
+ghost use Rattle.a.specs.Words.{{answer}};
 
 pub struct Held {{
     x: u64,
 }}
 
 pub fn place(x: u64) -> u64
-    ensures {{ λ r. ⌜ answer {' '.join(['x'] * 80)}
-        ⌝ }}
+    ensures {{ answer {' '.join(['x'] * 80)}
+        }}
 {{
     x
 }}
 """,
     "crates/a/specs/Words.antt": """\
 -- Words.
-use Prim.Native.Nat.{ℕ}
-use mathlib.Core.Bool.{Bool, true, false}
+use Rattle.std.specs.Prelude.{ℕ, Bool, true, false}
 
 abbrev pub answer : ℕ → ℕ
 answer x = shape (some x)
@@ -63,12 +63,12 @@ edited = 1
 """,
     "crates/a/proofs/Laws.antt": f"""\
 -- Laws.
-use Prim.Native.Nat.{{ℕ, _+_, _*_}}
-use mathlib.Core.Path.{{_≡_, refl as same, sym}}
-use Rattle·a·specs.specs.Words.{{Shape}}
-use Rattle·a·specs.specs.Words as words
-use Rattle·a·proofs.proofs.Shown as shown
--- sym and _*_ stand in a comment
+use Prim.Native.Nat.{{ℕ, ◌+◌, ◌*◌}}
+use mathlib.Core.Path.{{◌≡◌, refl as same, sym}}
+use Rattle.a.specs.Words.{{Shape}}
+use Rattle.a.specs.Words as words
+use Rattle.a.proofs.Shown as shown
+-- sym and ◌*◌ stand in a comment
 
 pub promised : (x : ℕ) → x + 0 ≡ x
 promised x = helper x
@@ -76,15 +76,21 @@ promised x = helper x
 helper : (x : ℕ) → x + 0 ≡ x
 helper x = same
 
-pub stated-so : ℕ → ℕ
-stated-so x = x .sym .before .before .before .before .before .before .args
+pub stated_so : ℕ → ℕ
+stated_so x = x.sym.before.before.before.before.before.before.args
+
+pub by_attribute : (n : ℕ) → n ≡ n
+by_attribute n = same
+
+pub by_answer : (n : ℕ) → n ≡ n
+by_answer n = same
 
 module _ (x : ℕ) where
   pub idle : Shape.other ≡ words.answer
-  idle = idle-helper x
+  idle = idle_helper x
 
-idle-helper : (n : ℕ) → n ≡ n
-idle-helper n = same
+idle_helper : (n : ℕ) → n ≡ n
+idle_helper n = same
 
 long : {'x' * unused.LONG_TEXT}
 long = idle
@@ -99,15 +105,37 @@ hidden : ℕ
 hidden = 1
 """,
     "crates/a/proofs/f/Proof.antt": """\
-use borrow.Author.Needs.{needs}
-use Rattle·a·proofs.proofs.f.Tie as tie
+use borrow.Author.Rules.{rules}
+use Rattle.a.proofs.f.Tie as tie
 
 returns : tie.Need-returns
 returns c κs =
-    search needs
+    search rules
 
-pub f-spec : {M : Type 1} → statement M
-f-spec = tie.close (tie.spec returns)
+pub f_spec : {M : Type 1} → statement M
+f_spec = tie.close (tie.spec returns)
+""",
+    "crates/a/proofs/m/place/Answers.antt": """\
+-- Answers.
+use borrow.Author.Rules.{rules}
+use Rattle.a.proofs.Laws.{by_answer}
+use Rattle.a.proofs.m.place.Goals as goal
+
+pub returns-then-x : goal.returns-then-x
+returns-then-x c = by_answer c.x
+
+unasked : (n : Shape) → goal.returns
+unasked n = search rules
+""",
+    "crates/a/proofs/m/place/Invariants.antt": """\
+use Prim.Native.Nat.{ℕ}
+use Rattle.a.proofs.m.place.Given as goal
+
+abbrev pub invariant-loop : goal.invariant-loop
+invariant-loop l = l.x
+
+abbrev pub decreases-loop : goal.decreases-loop
+decreases-loop l = search rules
 """,
     "edits/a/one.edit": "file: specs/Words.antt\nold: answer x = shape (some x)\nnew: answer x = edited\n",
 }
@@ -115,14 +143,17 @@ f-spec = tie.close (tie.spec returns)
 MUST = {
     "crates/a/specs/Words.antt: law: place",
     "crates/a/proofs/Laws.antt: law: idle",
-    "crates/a/proofs/Laws.antt: law: idle-helper",
+    "crates/a/proofs/Laws.antt: law: idle_helper",
+    "crates/a/proofs/m/place/Answers.antt: law: unasked",
+    "crates/a/proofs/m/place/Invariants.antt: import: ℕ",
+    "crates/a/proofs/m/place/Invariants.antt: sentence",
     "crates/a/proofs/Laws.antt: law: long",
     "crates/a/proofs/Shown.antt: law: hidden",
     "crates/a/specs/Words.antt: import: false",
-    "crates/a/proofs/Laws.antt: import: _*_",
+    "crates/a/proofs/Laws.antt: import: ◌*◌",
     "crates/a/proofs/Laws.antt: import: sym",
     "crates/a/proofs/Laws.antt: import: shown",
-    "crates/a/src/lib.rt: import: ghost use _<_",
+    "crates/a/src/lib.rt: import: ghost use ◌<◌",
     "crates/a/src/lib.rt: import: ghost use place",
     "crates/a/src/lib.rt: import: use Held",
     "crates/a/proofs/Laws.antt: long",
@@ -154,7 +185,7 @@ def trial():
         brought = (root / "crates/a/proofs/Laws.antt").read_text().splitlines()[1:5]
     wrong = [f"not listed: {line}" for line in sorted(MUST - said)] + [f"listed: {line}" for line in sorted(said - MUST)]
     wrong += [f"left by --fix-imports: {line}" for line in sorted(left)]
-    kept = ["use Prim.Native.Nat.{ℕ, _+_}", "use mathlib.Core.Path.{_≡_, refl as same}"]
+    kept = ["use Prim.Native.Nat.{ℕ, ◌+◌}", "use mathlib.Core.Path.{◌≡◌, refl as same}"]
     if brought[:2] != kept or len([line for line in brought if line.startswith("use ")]) != 4:
         wrong.append("--fix-imports wrote other lines than those that are left")
     kinds = {line.split(": ")[1] for line in MUST}

@@ -1,4 +1,5 @@
-"""The shapes of the theorems on walks alone: prefix-, clean-, judged-, paths-, placed- and behind-. shapes.py says what each is held to."""
+"""The shapes of the theorems on walks alone: prefix_, clean_, judged_, paths_, placed_, ordered_, copied_, accounted_ and behind_. shapes.py says what
+each is held to."""
 from .contracts import ANSWER
 from .owed import COUNTS, window_of
 from .statement import Spoken, Wrong
@@ -8,16 +9,23 @@ OF_PREFIX = ("promises", "specs/Prefix")
 OF_CLEAN = ("promises", "specs/Clean")
 OF_VERDICTS = ("promises", "specs/Verdicts")
 OF_PATHS = ("promises", "specs/Paths")
-OF_PLACES = ("promises", "specs/Places")
+# of what a walk left: where its leaves lie, their order, their payloads, how all bits add up
+LEFT = {
+    "placed": ("promises", "specs/Places", "PlacedLeaves"),
+    "ordered": ("promises", "specs/Accounts", "OrderedLeaves"),
+    "copied": ("promises", "specs/Accounts", "CopiedLeaves"),
+    "accounted": ("promises", "specs/Accounts", "AccountedLeaves"),
+}
+PAIRS_ACCOUNTED = ("promises", "specs/Accounts", "AccountedPairs")
 OF_PAIRS = ("promises", "specs/PairsBehind")
-ROOM_IN = ("array", "specs/Refusals", "roomIn")
-ANSWER_OF = ("array", "specs/Refusals", "answerOf")
-COUNTERS_OF = ("array", "specs/Refusals", "countersOf")
-COUNTERS_IN = ("exports", "specs/WalkResults", "countersIn")
-VERDICT_NAMED = ("array", "specs/Calls", "verdictNamed")
-VERDICT_NUMBER = ("exports", "specs/WalkResults", "verdictNumber")
+ROOM_IN = ("array", "specs/Refusals", "room_in")
+ANSWER_OF = ("array", "specs/Refusals", "answer_of")
+COUNTERS_OF = ("array", "specs/Refusals", "counters_of_lem")
+COUNTERS_IN = ("exports", "specs/WalkResults", "counters_in")
+VERDICT_NAMED = ("array", "specs/Calls", "verdict_named")
+VERDICT_NUMBER = ("exports", "specs/WalkResults", "verdict_number_lem")
 # the walk that a call of `array` is: its arguments, by their places among the call's
-WALKERS = {"structCall": ("struct", (2, 4)), "exactCall": ("exact", (2, 3))}
+WALKERS = {"struct_call": ("struct", (2, 4)), "exact_call": ("exact", (2, 3))}
 ACCEPTED = {"Decoded"}
 
 
@@ -169,14 +177,30 @@ class WalkShapes(Spoken):
         self.ends_in(statement, (*OF_PATHS, word), (of,))
         self.all_stand(statement, found)
 
-    def placed(self, statement):
+    def left(self, statement, kind):
+        """What a walk left: its own call, the answer, and what the buffers hold then; of pairs the bytes, the bits and the answer."""
         self.opened(statement)
         found = {}
         if len(statement.premises) != 1 or not self.fits(statement.premises[0], self.contract.clause.whole, found):
             raise Wrong("its premise is not an answer that meets the contract")
-        walk, _, r, end = arguments(statement.premises[0])
-        self.ends_in(statement, (*OF_PLACES, "PlacedLeaves" if self.in_rattle else "PlacedLeavesInC"), (walk, r, end))
+        told = arguments(statement.premises[0])
+        pairs = head(told[0]) is None
+        crate, file, word = PAIRS_ACCOUNTED if pairs else LEFT[kind]
+        expected = (told[0], told[1], told[3]) if pairs else (told[0], told[2], told[3])
+        self.ends_in(statement, (crate, file, word if self.in_rattle else f"{word}InC"), expected)
         self.all_stand(statement, found)
+
+    def placed(self, statement):
+        self.left(statement, "placed")
+
+    def ordered(self, statement):
+        self.left(statement, "ordered")
+
+    def copied(self, statement):
+        self.left(statement, "copied")
+
+    def accounted(self, statement):
+        self.left(statement, "accounted")
 
     def behind(self, statement):
         self.opened(statement)
