@@ -1,102 +1,81 @@
 -- A read that succeeds ends in its window: it is given only where the bits that it takes are there.
-use Rattle.std.proofs.Common.{◌≡◌, ℕ, ◌+◌, ◌^◌, ◌≤◌, Bool, eqb, ltb, leb, List, refl, subst}
+use Rattle.bits.specs.declared.Broken.TheVariants as Num
+use Rattle.std.proofs.Common.{◌≡◌, ℕ, ◌+◌, ◌^◌, ◌≤◌, Bool, eqb, ltb, leb, List, refl, subst, Result, Ok, Err}
+use Rattle.std.specs.Prelude.{IfOk, ◌==◌}
 use Rattle.bits.specs.Bits.{field}
-use Rattle.bits.specs.Packed.{packed}
+use Rattle.bits.specs.Packed.{Packed, packed}
 use Rattle.bits.proofs.ChoiceLaws.{by_cases}
 use Rattle.bits.proofs.PackedLaws.{whole_within}
-use Rattle.bits.specs.declared.Packed.{Packed}
-use Rattle.bits.specs.declared.Packed.TheVariants as Num
-use Rattle.bitio.specs.Cursors.{window, skipped}
-use Rattle.bitio.specs.Reads.{seen, as_bit, read_bit_lem, read_bits_lem, widest_read}
+use Rattle.bitio.specs.Cursors.{window, skipped, seen}
+use Rattle.bitio.specs.Reads.{read_lem, read_bit_lem, read_bits_lem, widest_read}
 use Rattle.bitio.specs.Numbers.{log2, packed_answer, read_int_packed_lem, serialized_top, serialized_at, read_serialized_int_lem}
 use Rattle.bitio.proofs.CursorLaws.{good_le, at_holds, asking_holds}
 use Rattle.bitio.specs.declared.Cursor.{Cursor}
-use Rattle.bitio.specs.declared.Skipped.{Skipped}
-use Rattle.bitio.specs.declared.Skipped.TheVariants as Skip
-use Rattle.bitio.specs.declared.BitRead.{BitRead}
-use Rattle.bitio.specs.declared.BitRead.TheVariants as B1
-use Rattle.bitio.specs.declared.BitsRead.{BitsRead}
-use Rattle.bitio.specs.declared.BitsRead.TheVariants as B
 use Rattle.bitio.specs.declared.PackedNumber.{PackedNumber}
-use Rattle.bitio.specs.declared.PackedRead.{PackedRead}
-use Rattle.bitio.specs.declared.PackedRead.TheVariants as P
-use Rattle.bitio.specs.declared.SerializedRead.{SerializedRead}
-use Rattle.bitio.specs.declared.SerializedRead.TheVariants as Ser
+use Rattle.bitio.specs.declared.Read.{Read}
+use Rattle.bitio.specs.declared.Refusal.{Refusal}
 
 -- what is said of an answer: the position that it gives is at most len
 module _ (len : ℕ) where
-  abbrev SkipWithin : Skipped → Type 0
-  SkipWithin (Skip.Done p) = p ≤ len
-  SkipWithin (Skip.Refused r) = Unit
+  abbrev SkipWithin : Result ℕ Refusal → Type 0
+  SkipWithin r = IfOk r (λ p. p ≤ len)
 
-  abbrev BitWithin : BitRead → Type 0
-  BitWithin (B1.Value b p) = p ≤ len
-  BitWithin (B1.Refused r) = Unit
+  abbrev ReadWithin : {A : Type 0} → Result (Read A) Refusal → Type 0
+  ReadWithin r = IfOk r (λ x. x.next ≤ len)
 
-  abbrev BitsWithin : BitsRead → Type 0
-  BitsWithin (B.Value x p) = p ≤ len
-  BitsWithin (B.Refused r) = Unit
+  -- a read ends where the skip of its bits does
+  seen_within : {A : Type 0} (x : A) (k : Result ℕ Refusal) → SkipWithin k → ReadWithin (seen x k)
+  unfolding seen
+  seen_within x (Ok p) h = h
+  seen_within x (Err r) h = tt
 
-  abbrev PackedWithin : PackedRead → Type 0
-  PackedWithin (P.Value x p) = p ≤ len
-  PackedWithin (P.Refused r) = Unit
-
-  abbrev SerializedWithin : SerializedRead → Type 0
-  SerializedWithin (Ser.Value x p) = p ≤ len
-  SerializedWithin (Ser.Refused r) = Unit
-
-  -- a bit ends where its skipping does
-  bit_seen : (x : ℕ) (k : Skipped) → SkipWithin k → BitWithin (as_bit (seen x k))
-  unfolding as_bit seen
-  bit_seen x (Skip.Done p) h = h
-  bit_seen x (Skip.Refused r) h = tt
-
-  packed_answered : (W pos : ℕ) → pos ≤ len → (r : Packed) → packed W len pos ≡ r → PackedWithin (packed_answer len pos r)
+  packed_answered : (W pos : ℕ) → pos ≤ len → (r : Packed) → packed W len pos ≡ r → ReadWithin (packed_answer len pos r)
   unfolding packed_answer
-  packed_answered W pos h (Num.Whole v n) e = whole_within W len pos h v n e
-  packed_answered W pos h (Num.Cut n) e = tt
-  packed_answered W pos h Num.GoesOn e = tt
-  packed_answered W pos h Num.Overflows e = tt
+  packed_answered W pos h (Ok x) e = whole_within W len pos h x.value x.bytes e
+  packed_answered W pos h (Err (Num.Cut n)) e = tt
+  packed_answered W pos h (Err Num.GoesOn) e = tt
+  packed_answered W pos h (Err Num.Overflows) e = tt
 
-  top_within : (W m b v pos : ℕ) → pos ≤ len → SerializedWithin (serialized_top W len m b v pos)
+  top_within : (W m b v pos : ℕ) → pos ≤ len → ReadWithin (serialized_top W len m b v pos)
   unfolding serialized_top
   top_within W m b v pos h =
-      by_cases (leb m (v + 2 ^ b)) (λ e. rw e h)
-      (λ e. rw e (asking_holds len pos 1 Ser.Refused _ SerializedWithin (λ r. tt) (λ k. k)))
+      by_cases (leb m (v + 2 ^ b)) (λ e. rw e h) (λ e. rw e (asking_holds len pos 1 _ ReadWithin (λ r. tt) (λ k. k)))
 
-  low_within : (W m pos : ℕ) → SerializedWithin (serialized_at W len m pos)
+  low_within : (W m pos : ℕ) → ReadWithin (serialized_at W len m pos)
   unfolding serialized_at
   low_within W m pos =
       by_cases (eqb m 0) (λ e. rw e tt)
-      (λ e. rw e (asking_holds len pos (log2 m) Ser.Refused _ SerializedWithin (λ r. tt)
+      (λ e. rw e (asking_holds len pos (log2 m) _ ReadWithin (λ r. tt)
       (λ k. top_within W m (log2 m) (field W pos (log2 m)) (pos + log2 m) k)))
 
 module _ (s : List ℕ) (c : Cursor) where
   skip_within : (n : ℕ) → SkipWithin c.len (skipped s c n)
   skip_within n =
-      at_holds s c Skip.Refused _ (SkipWithin c.len) (λ r. tt)
-      (λ g. asking_holds c.len c.pos n Skip.Refused _ (SkipWithin c.len) (λ r. tt) (λ k. k))
+      at_holds s c _ (SkipWithin c.len) (λ r. tt) (λ g. asking_holds c.len c.pos n _ (SkipWithin c.len) (λ r. tt) (λ k. k))
 
-  pub bit_ends : (b : Bool) (p : ℕ) → read_bit_lem s c ≡ B1.Value b p → p ≤ c.len
-  bit_ends b p e = subst (BitWithin c.len) e (bit_seen c.len (field (window s c) c.pos 1) (skipped s c 1) (skip_within 1))
+  pub read_ends : {A : Type 0} (given : ℕ → A) (n : ℕ) (x : Read A) → read_lem n given s c ≡ Ok x → x.next ≤ c.len
+  read_ends given n x e =
+      subst (ReadWithin c.len) e (seen_within c.len (given (field (window s c) c.pos n)) (skipped s c n) (skip_within n))
 
-  bits_within : (n : ℕ) → BitsWithin c.len (read_bits_lem s c n)
+  pub bit_ends : (x : Read Bool) → read_bit_lem s c ≡ Ok x → x.next ≤ c.len
+  bit_ends x e = read_ends (λ b. b == 1) 1 x e
+
+  bits_within : (n : ℕ) → ReadWithin c.len (read_bits_lem s c n)
   unfolding read_bits_lem
   bits_within n =
-      at_holds s c B.Refused _ (BitsWithin c.len) (λ r. tt) (λ g.
+      at_holds s c _ (ReadWithin c.len) (λ r. tt) (λ g.
       by_cases (ltb widest_read n) (λ e. rw e tt)
-      (λ e. rw e (asking_holds c.len c.pos n B.Refused _ (BitsWithin c.len) (λ r. tt) (λ k. k))))
+      (λ e. rw e (asking_holds c.len c.pos n _ (ReadWithin c.len) (λ r. tt) (λ k. k))))
 
-  pub bits_ends : (n x p : ℕ) → read_bits_lem s c n ≡ B.Value x p → p ≤ c.len
-  bits_ends n x p e = subst (BitsWithin c.len) e (bits_within n)
+  pub bits_ends : (n : ℕ) (x : Read ℕ) → read_bits_lem s c n ≡ Ok x → x.next ≤ c.len
+  bits_ends n x e = subst (ReadWithin c.len) e (bits_within n)
 
-  pub packed_ends : (x : PackedNumber) (p : ℕ) → read_int_packed_lem s c ≡ P.Value x p → p ≤ c.len
-  packed_ends x p e =
-      subst (PackedWithin c.len) e
-      (at_holds s c P.Refused _ (PackedWithin c.len) (λ r. tt) (λ g.
+  pub packed_ends : (x : Read PackedNumber) → read_int_packed_lem s c ≡ Ok x → x.next ≤ c.len
+  packed_ends x e =
+      subst (ReadWithin c.len) e
+      (at_holds s c _ (ReadWithin c.len) (λ r. tt) (λ g.
       packed_answered c.len (window s c) c.pos (good_le s c g).0 (packed (window s c) c.len c.pos) refl))
 
-  pub serialized_ends : (m x p : ℕ) → read_serialized_int_lem s c m ≡ Ser.Value x p → p ≤ c.len
-  serialized_ends m x p e =
-      subst (SerializedWithin c.len) e
-      (at_holds s c Ser.Refused _ (SerializedWithin c.len) (λ r. tt) (λ g. low_within c.len (window s c) m c.pos))
+  pub serialized_ends : (m : ℕ) (x : Read ℕ) → read_serialized_int_lem s c m ≡ Ok x → x.next ≤ c.len
+  serialized_ends m x e =
+      subst (ReadWithin c.len) e (at_holds s c _ (ReadWithin c.len) (λ r. tt) (λ g. low_within c.len (window s c) m c.pos))

@@ -1,13 +1,13 @@
 -- The laws of the logarithm and the serialized integer.
-use Rattle.std.proofs.Common.{◌≡◌, ℕ, zero, suc, ◌+◌, ◌-◌, ◌*◌, ◌/◌, ◌^◌, ◌<◌, ◌≤◌, ap, arith, pow_pos, eq-eqb, ne_eqb, le-leb}
+use Rattle.std.proofs.Common.{◌≡◌, ℕ, zero, suc, ◌+◌, ◌-◌, ◌*◌, ◌/◌, ◌^◌, ◌<◌, ◌≤◌, ap, arith, pow_pos, ne_eqb, le-leb, Ok, Err}
 use native.Mathlib.Nat.{pow-succ'}
 use lib.Count.{count_leading_zeros, leading_top}
 use borrow.Author.Tests.{lt-leb}
 use Rattle.bits.specs.Bits.{field}
+use Rattle.bitio.specs.Cursors.{asking}
 use Rattle.bitio.specs.Numbers.{halvings, log2, serialized_top, serialized_at}
-use Rattle.bitio.proofs.CursorLaws.{asking_few, asking_enough}
-use Rattle.bitio.specs.declared.Refusal.TheVariants.{TooFew, NoMaximum}
-use Rattle.bitio.specs.declared.SerializedRead.TheVariants as S
+use Rattle.bitio.proofs.CursorLaws.{few_way, enough_way, past_is}
+use Rattle.bitio.specs.declared.Refusal.{Refusal}
 
 -- the logarithm is the one number whose power is at most n and the next one above
 halvings_is : (k j n : ℕ) → j < k → 2 ^ j ≤ n → n < 2 ^ suc j → halvings k n ≡ j
@@ -37,29 +37,23 @@ log2_zeros m h u =
     let z : 31 - count_leading_zeros 32 m ≡ t.0 = omega arith in
     rw e (z, l, t.2, t.3)
 
-module _ (W len m pos : ℕ) where
-  pub serialized_none : m ≡ 0 → serialized_at W len m pos ≡ S.Refused NoMaximum
+-- the steps of the code, as those of the definition: the low bits v, of the width w, end at `at`
+module _ (W len m pos w : ℕ) (h : m ≡ 0 → ⊥) (l : w ≡ log2 m) where
+  pub serialized_few : (r : Refusal) → Err r ≡ asking len pos w (Ok (pos + w)) → serialized_at W len m pos ≡ Err r
   unfolding serialized_at
-  serialized_none h = simp (eq-eqb _ _ h)
+  serialized_few r e = simp (ne_eqb _ _ h, ← l) (few_way len pos w _ r e)
 
-  pub serialized_few : (m ≡ 0 → ⊥) → len < pos + log2 m → serialized_at W len m pos ≡ S.Refused (TooFew pos len (log2 m))
+  pub serialized_low : (v at : ℕ) → v ≡ field W pos w → Ok at ≡ asking len pos w (Ok (pos + w)) → serialized_at W len m pos ≡ serialized_top W len m w v at
   unfolding serialized_at
-  serialized_few h k = simp (ne_eqb _ _ h) (asking_few len pos (log2 m) S.Refused _ k)
+  serialized_low v at f e = rw (f, past_is len pos w at e) (simp (ne_eqb _ _ h, ← l) (enough_way len pos w _ at e))
 
-  pub serialized_low : (m ≡ 0 → ⊥) → pos + log2 m ≤ len
-      → serialized_at W len m pos ≡ serialized_top W len m (log2 m) (field W pos (log2 m)) (pos + log2 m)
-  unfolding serialized_at
-  serialized_low h k = simp (ne_eqb _ _ h) (asking_enough len pos (log2 m) S.Refused _ k)
-
-module _ (W len m b v pos : ℕ) where
-  pub top_closed : m ≤ v + 2 ^ b → serialized_top W len m b v pos ≡ S.Value v pos
+-- and then the top bit
+module _ (W len m b v pos : ℕ) (h : v + 2 ^ b < m) where
+  pub top_few : (r : Refusal) → Err r ≡ asking len pos 1 (Ok (pos + 1)) → serialized_top W len m b v pos ≡ Err r
   unfolding serialized_top
-  top_closed h = simp (le-leb _ _ h)
+  top_few r e = simp (lt-leb _ _ h) (few_way len pos 1 _ r e)
 
-  pub top_few : v + 2 ^ b < m → len < pos + 1 → serialized_top W len m b v pos ≡ S.Refused (TooFew pos len 1)
+  pub top_open : (t next : ℕ) → t ≡ field W pos 1 → Ok next ≡ asking len pos 1 (Ok (pos + 1))
+      → serialized_top W len m b v pos ≡ Ok (record { value = v + t * 2 ^ b; next = next })
   unfolding serialized_top
-  top_few h k = simp (lt-leb _ _ h) (asking_few len pos 1 S.Refused _ k)
-
-  pub top_open : v + 2 ^ b < m → pos + 1 ≤ len → serialized_top W len m b v pos ≡ S.Value (v + field W pos 1 * 2 ^ b) (pos + 1)
-  unfolding serialized_top
-  top_open h k = simp (lt-leb _ _ h) (asking_enough len pos 1 S.Refused _ k)
+  top_open t next f e = rw (f, past_is len pos 1 next e) (simp (lt-leb _ _ h) (enough_way len pos 1 _ next e))

@@ -1,27 +1,19 @@
 -- Bits outside the window alter nothing: what a call answers depends on the window's number and on how many bytes there are; at a good cursor on
 -- the window alone.
 use Rattle.std.specs.Prelude.{if◌then◌else◌}
-use Rattle.std.proofs.Common.{◌≡◌, ℕ, ◌+◌, ◌-◌, ◌*◌, ◌^◌, ◌<◌, ◌≤◌, min, Bool, true, false, ◌&&◌, ltb, leb, List, length, sym, ap, ◌∙◌, ap₂, arith, ltb-false, le-ltb}
+use Rattle.std.proofs.Common.{◌≡◌, ℕ, ◌+◌, ◌-◌, ◌*◌, ◌^◌, ◌<◌, ◌≤◌, min, Bool, true, false, ◌&&◌, ltb, leb, List, length, sym, ap, ◌∙◌, ap₂, arith, ltb-false, le-ltb, Result, Ok, Err}
 use Rattle.bits.specs.Bits.{num, field}
 use Rattle.bits.specs.Sizes.{longest_window}
 use Rattle.bits.proofs.ChoiceLaws.{by_cases}
 use Rattle.bits.proofs.FieldLaws.{field_same}
-use Rattle.bitio.specs.Cursors.{bits_of, good, window, bad_cursor_lem, at_cursor, asking, opened}
-use Rattle.bitio.specs.Reads.{seen, taken, read_bits_lem}
+use Rattle.bitio.specs.Cursors.{bits_of, good, window, bad_cursor_lem, at_cursor, asking, opened, seen}
+use Rattle.bitio.specs.Reads.{read_lem, read_bits_lem}
 use Rattle.bitio.specs.Numbers.{read_int_packed_lem, read_serialized_int_lem}
 use Rattle.bitio.specs.Copies.{copy_answer, pasted, copy_target}
 use Rattle.bitio.proofs.CursorLaws.{good_true, at_good}
 use Rattle.bitio.specs.declared.Cursor.{Cursor}
 use Rattle.bitio.specs.declared.Refusal.{Refusal}
 use Rattle.bitio.specs.declared.Refusal.TheVariants.{TooLong, Past}
-use Rattle.bitio.specs.declared.Opened.TheVariants as O
-use Rattle.bitio.specs.declared.PackedRead.TheVariants as P
-use Rattle.bitio.specs.declared.SerializedRead.TheVariants as Ser
-use Rattle.bitio.specs.declared.Skipped.{Skipped}
-use Rattle.bitio.specs.declared.Skipped.TheVariants as Skip
-use Rattle.bitio.specs.declared.BitsRead.TheVariants as B
-use Rattle.bitio.specs.declared.Copied.{Copied}
-use Rattle.bitio.specs.declared.Copied.TheVariants as Copy
 
 -- the reader of the first n bits
 abbrev pub front : (n : ℕ) → Cursor
@@ -35,22 +27,21 @@ same_window s t c h = field_same (num s) (num t) c.start c.start c.len h
 
 -- Two sets of bytes of whose window every call makes the same.
 module _ (s t : List ℕ) (c : Cursor) (w : window s c ≡ window t c)
-    (both : (A : Type 0) (refused : Refusal → A) (inside : ℕ → A) → at_cursor s c refused inside ≡ at_cursor t c refused inside) where
+    (both : (A : Type 0) (inside : ℕ → Result A Refusal) → at_cursor s c inside ≡ at_cursor t c inside) where
   -- Each read is such a call, or looks at the window besides.
-  pub same_taken : (n : ℕ) → taken s c n ≡ taken t c n
-  same_taken n =
-      ap₂ (λ (x : ℕ) (k : Skipped). seen x k) (ap (λ (W : ℕ). field W c.pos n) w)
-      (both _ Skip.Refused (λ W. asking c.len c.pos n Skip.Refused (Skip.Done (c.pos + n))))
+  pub same_read : {A : Type 0} (given : ℕ → A) (n : ℕ) → read_lem n given s c ≡ read_lem n given t c
+  same_read given n =
+      ap₂ (λ (W : ℕ) (k : Result ℕ Refusal). seen (given (field W c.pos n)) k) w (both ℕ (λ W. asking c.len c.pos n (Ok (c.pos + n))))
 
   pub same_bits : (n : ℕ) → read_bits_lem s c n ≡ read_bits_lem t c n
   unfolding read_bits_lem
-  same_bits n = both _ B.Refused _
+  same_bits n = both _ _
 
   pub same_packed : read_int_packed_lem s c ≡ read_int_packed_lem t c
-  same_packed = both _ P.Refused _
+  same_packed = both _ _
 
   pub same_serialized : (m : ℕ) → read_serialized_int_lem s c m ≡ read_serialized_int_lem t c m
-  same_serialized m = both _ Ser.Refused _
+  same_serialized m = both _ _
 
 -- Two sets of as many bytes.
 module _ (s t : List ℕ) (c : Cursor) (l : length s ≡ length t) (w : window s c ≡ window t c) where
@@ -62,14 +53,14 @@ module _ (s t : List ℕ) (c : Cursor) (l : length s ≡ length t) (w : window s
   same_bad = ap (λ (k : ℕ). Past c.len (min (8 * k) (2 ^ 64 - 1))) l
 
   -- What a call answers depends on the number of the bytes and on the window's bits alone.
-  pub outside_alters_nothing : {A : Type 0} (refused : Refusal → A) (inside : ℕ → A) → at_cursor s c refused inside ≡ at_cursor t c refused inside
+  pub outside_alters_nothing : {A : Type 0} (inside : ℕ → Result A Refusal) → at_cursor s c inside ≡ at_cursor t c inside
   unfolding at_cursor
-  outside_alters_nothing refused inside =
-      ap (λ (b : Bool). if b then inside (window s c) else refused (bad_cursor_lem s c)) same_good
-      ∙ ap₂ (λ (x : ℕ) (r : Refusal). if good t c then inside x else refused r) w same_bad
+  outside_alters_nothing inside =
+      ap (λ (b : Bool). if b then inside (window s c) else Err (bad_cursor_lem s c)) same_good
+      ∙ ap₂ (λ (x : ℕ) (r : Refusal). if good t c then inside x else Err r) w same_bad
 
-  pub outside_taken : (n : ℕ) → taken s c n ≡ taken t c n
-  outside_taken n = same_taken s t c w (λ A. outside_alters_nothing {A = A}) n
+  pub outside_read : {A : Type 0} (given : ℕ → A) (n : ℕ) → read_lem n given s c ≡ read_lem n given t c
+  outside_read given n = same_read s t c w (λ A. outside_alters_nothing {A = A}) given n
 
   pub outside_bits : (n : ℕ) → read_bits_lem s c n ≡ read_bits_lem t c n
   outside_bits n = same_bits s t c w (λ A. outside_alters_nothing {A = A}) n
@@ -82,26 +73,25 @@ module _ (s t : List ℕ) (c : Cursor) (l : length s ≡ length t) (w : window s
 
   pub outside_copy : (n : ℕ) (d : List ℕ) → (copy_answer s c n d ≡ copy_answer t c n d) × (copy_target s c n d ≡ copy_target t c n d)
   outside_copy n d =
-      let a : copy_answer s c n d ≡ copy_answer t c n d = outside_alters_nothing Copy.Refused _ in
-      (a, ap₂ (λ (W : ℕ) (r : Copied). pasted d n (field W c.pos n) r) w a)
+      let a : copy_answer s c n d ≡ copy_answer t c n d = outside_alters_nothing _ in
+      (a, ap₂ (λ (W : ℕ) (r : Result ℕ Refusal). pasted d n (field W c.pos n) r) w a)
 
 -- Opening a reader looks at no bit, but only at how many bytes there are.
 pub outside_opened : (s t : List ℕ) (n : ℕ) → length s ≡ length t → opened s n ≡ opened t n
 unfolding opened
 outside_opened s t n l =
     ap (λ (k : ℕ).
-    if ltb longest_window n then O.Refused TooLong else
-    (if ltb (min (8 * k) (2 ^ 64 - 1)) n then O.Refused (Past n (min (8 * k) (2 ^ 64 - 1))) else O.Reader (front n))) l
+    if ltb longest_window n then Err TooLong else
+    (if ltb (min (8 * k) (2 ^ 64 - 1)) n then Err (Past n (min (8 * k) (2 ^ 64 - 1))) else Ok (front n))) l
 
 -- However many bytes follow: at a cursor that is good in both a call sees the window alone.
 pub longer_alters_nothing : (s t : List ℕ) (c : Cursor) → good s c ≡ true → good t c ≡ true → window s c ≡ window t c
-    → {A : Type 0} (refused : Refusal → A) (inside : ℕ → A) → at_cursor s c refused inside ≡ at_cursor t c refused inside
-longer_alters_nothing s t c g h w refused inside =
-    at_good s c refused inside g ∙ ap inside w ∙ sym (at_good t c refused inside h)
+    → {A : Type 0} (inside : ℕ → Result A Refusal) → at_cursor s c inside ≡ at_cursor t c inside
+longer_alters_nothing s t c g h w inside = at_good s c inside g ∙ ap inside w ∙ sym (at_good t c inside h)
 
 -- a reader of the first n bits, where there are as many: 1, or a good cursor
 module _ (s : List ℕ) (n : ℕ) (h : n ≤ 8 * length s) where
-  pub opened_long : ltb longest_window n ≡ true → opened s n ≡ O.Refused TooLong
+  pub opened_long : ltb longest_window n ≡ true → opened s n ≡ Err TooLong
   unfolding opened
   opened_long e = simp e
 
@@ -109,7 +99,7 @@ module _ (s : List ℕ) (n : ℕ) (h : n ≤ 8 * length s) where
     held : n ≤ bits_of s
     held = let k : n ≤ longest_window = ltb-false longest_window n e in omega arith
 
-    pub opened_reader : opened s n ≡ O.Reader (front n)
+    pub opened_reader : opened s n ≡ Ok (front n)
     unfolding opened
     opened_reader = simp (e, le-ltb (bits_of s) n held)
 

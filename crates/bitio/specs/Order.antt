@@ -1,5 +1,5 @@
 -- The order of the refusals (01, Refusal numbers): the first whose condition holds is given, and none if none holds.
-use Rattle.std.specs.Prelude.{ℕ, ◌+◌, not, List, [], ◌∷◌, length, nat_lt}
+use Rattle.std.specs.Prelude.{ℕ, ◌+◌, not, List, [], ◌∷◌, length, nat_lt, Result, Ok, Err}
 use Rattle.std.proofs.Math.Option.{Option, none, some}
 use Rattle.bits.specs.Refusals.{Rule, when}
 use Rattle.bits.specs.Runs.{bytes_for}
@@ -9,16 +9,6 @@ use Rattle.bitio.specs.Reads.{widest_read}
 use Rattle.bitio.specs.declared.Cursor.{Cursor}
 use Rattle.bitio.specs.declared.Refusal.{Refusal}
 use Rattle.bitio.specs.declared.Refusal.TheVariants.{TooLong, TooFew, TooMany, Past}
-use Rattle.bitio.specs.declared.Opened.{Opened}
-use Rattle.bitio.specs.declared.Opened.TheVariants as Open
-use Rattle.bitio.specs.declared.Skipped.{Skipped}
-use Rattle.bitio.specs.declared.Skipped.TheVariants as Skip
-use Rattle.bitio.specs.declared.U64Read.{U64Read}
-use Rattle.bitio.specs.declared.U64Read.TheVariants as U64
-use Rattle.bitio.specs.declared.BitsRead.{BitsRead}
-use Rattle.bitio.specs.declared.BitsRead.TheVariants as B
-use Rattle.bitio.specs.declared.Copied.{Copied}
-use Rattle.bitio.specs.declared.Copied.TheVariants as Copy
 
 -- a bad cursor, before all else
 abbrev pub bad_first : List ℕ → Cursor → Rule Refusal
@@ -44,24 +34,7 @@ reading_rules s c n = bad_first s c ∷ when (nat_lt widest_read n) TooMany ∷ 
 abbrev pub copying_rules : List ℕ → Cursor → (n : ℕ) → (d : List ℕ) → List (Rule Refusal)
 copying_rules s c n d = bad_first s c ∷ when (nat_lt (length d) (bytes_for n)) (Past n (bits_of d)) ∷ fewer c n ∷ []
 
--- ---- the refusal that an answer is, if it is one
-
-abbrev pub refusal_of_opened : Opened → Option Refusal
-refusal_of_opened (Open.Reader c) = none
-refusal_of_opened (Open.Refused r) = some r
-
-abbrev pub refusal_of_skipped : Skipped → Option Refusal
-refusal_of_skipped (Skip.Done next) = none
-refusal_of_skipped (Skip.Refused r) = some r
-
-abbrev pub refusal_of_taken : U64Read → Option Refusal
-refusal_of_taken (U64.Value x next) = none
-refusal_of_taken (U64.Refused r) = some r
-
-abbrev pub refusal_of_bits : BitsRead → Option Refusal
-refusal_of_bits (B.Value x next) = none
-refusal_of_bits (B.Refused r) = some r
-
-abbrev pub refusal_of_copied : Copied → Option Refusal
-refusal_of_copied (Copy.Done next) = none
-refusal_of_copied (Copy.Refused r) = some r
+-- the refusal that an answer is, if it is one
+abbrev pub refusal_of : {A : Type 0} → Result A Refusal → Option Refusal
+refusal_of (Ok x) = none
+refusal_of (Err r) = some r

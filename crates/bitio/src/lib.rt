@@ -3,18 +3,20 @@
 // A byte holds eight bits of a window, its lowest first, from the window's start on; a number's lowest bit is read
 // first. Every call takes any bytes, any cursor and any count, and answers with a value or with one of
 // document 01's refusals. A cursor goes in by value; an answer carries the next position.
-#![tactic(auto)]
+#![tactic(auto, using(crate::proofs::CursorLaws::ways), unfolding(crate::specs::Cursors::seen, crate::specs::Reads::read_bits_lem, crate::specs::Copies::pasted))]
 
+mod number;
 pub mod said;
 
-ghost use Rattle.std.specs.Prelude.{◌≡◌, ◌+◌, ◌-◌, ◌*◌, ◌<◌, ◌≤◌};
-ghost use Rattle.bitio.specs.Cursors.{bits_of, good, bad_cursor_lem, opened, whole_of, position_of, length_of, remaining_of, end_of, skipped, skipped_all, sub_reader_lem};
-ghost use Rattle.bitio.specs.Reads.{taken, read_bit_lem, read_bits_lem, read_u8_lem, read_u16_lem, read_u32_lem, read_i32_lem, read_u64_lem};
+ghost use Rattle.std.specs.Prelude.{◌≡◌, ◌+◌, ◌^◌, ◌<◌, ◌≤◌, OnOk, IfOk};
+ghost use Rattle.bitio.specs.Cursors.{bits_of, good_or_refused_lem, asking, opened, whole_of, position_of, length_of, remaining_of, end_of, skipped, skipped_all, sub_reader_lem};
+ghost use Rattle.bitio.specs.Reads.{taken, read_lem, read_bit_lem, read_bits_lem, read_u8_lem, read_u16_lem, read_u32_lem, read_i32_lem, read_u64_lem};
 ghost use Rattle.bitio.specs.Numbers.{log2, read_int_packed_lem, read_serialized_int_lem};
 ghost use Rattle.bitio.specs.Copies.{CopiesBits};
 
-use bits::Found;
+use bits::Broken;
 use bits::sizes::LONGEST_WINDOW;
+use number::Number;
 
 // ---- a cursor, and what the calls answer
 
@@ -47,79 +49,11 @@ pub enum Refusal {
     Past(u64, u64),
 }
 
-#[derive(Clone, Copy)]
-pub enum Opened {
-    Reader(Cursor),
-    Refused(Refusal),
-}
-
-#[derive(Clone, Copy)]
-pub enum Measured {
-    Value(u64),
-    Refused(Refusal),
-}
-
-#[derive(Clone, Copy)]
-pub enum Ended {
-    Value(bool),
-    Refused(Refusal),
-}
-
-// The next position.
-#[derive(Clone, Copy)]
-pub enum Skipped {
-    Done(u64),
-    Refused(Refusal),
-}
-
-// A cursor at the front of the inner window, and the next position of the outer one.
-#[derive(Clone, Copy)]
-pub enum SubReader {
-    Window(Cursor, u64),
-    Refused(Refusal),
-}
-
 // What was read, and the next position.
 #[derive(Clone, Copy)]
-pub enum BitRead {
-    Value(bool, u64),
-    Refused(Refusal),
-}
-
-#[derive(Clone, Copy)]
-pub enum BitsRead {
-    Value(u64, u64),
-    Refused(Refusal),
-}
-
-#[derive(Clone, Copy)]
-pub enum U8Read {
-    Value(u8, u64),
-    Refused(Refusal),
-}
-
-#[derive(Clone, Copy)]
-pub enum U16Read {
-    Value(u16, u64),
-    Refused(Refusal),
-}
-
-#[derive(Clone, Copy)]
-pub enum U32Read {
-    Value(u32, u64),
-    Refused(Refusal),
-}
-
-#[derive(Clone, Copy)]
-pub enum I32Read {
-    Value(i32, u64),
-    Refused(Refusal),
-}
-
-#[derive(Clone, Copy)]
-pub enum U64Read {
-    Value(u64, u64),
-    Refused(Refusal),
+pub struct Read<T> {
+    pub value: T,
+    pub next: u64,
 }
 
 // A packed number: its value, the bytes that it took (1 to 5), and whether it is padded: fewer bytes hold the value too.
@@ -130,73 +64,57 @@ pub struct PackedNumber {
     pub padded: bool,
 }
 
-#[derive(Clone, Copy)]
-pub enum PackedRead {
-    Value(PackedNumber, u64),
-    Refused(Refusal),
-}
-
-#[derive(Clone, Copy)]
-pub enum SerializedRead {
-    Value(u32, u64),
-    Refused(Refusal),
-}
-
-// The next position.
-#[derive(Clone, Copy)]
-pub enum Copied {
-    Done(u64),
-    Refused(Refusal),
-}
-
 // ---- readers
 
 // The bits of the bytes: 8 times their number, at most the largest u64.
 fn bits_of(bytes: &[u8]) -> u64
     ensures { result ≡ bits_of bytes.now }
 {
-    let n = bytes.len() as u64;
-    if n < 0x2000_0000_0000_0000 {
-        n * 8
-    } else {
-        0xffff_ffff_ffff_ffff
-    }
+    (bytes.len() as u64).saturating_mul(8)
 }
 
 // Whether the cursor lies in its length, and its window in the bytes.
-fn is_good(bytes: &[u8], c: Cursor) -> bool
-    ensures { result ≡ good bytes.now c }
+#[tactic(auto, using(crate::proofs::CursorLaws::ways), unfolding(crate::specs::Cursors::at_cursor, crate::specs::Cursors::good))]
+fn good_or_refused(bytes: &[u8], c: Cursor) -> Result<(), Refusal>
+    ensures value { result ≡ good_or_refused_lem bytes.now c }
+    ensures within { OnOk result (c.pos ≤ c.len) }
+    ensures ends { OnOk result (c.start + c.len ≤ bits_of bytes.now) }
 {
     let all = bits_of(bytes);
-    if c.len < c.pos {
-        return false;
+    if c.pos <= c.len && c.start <= all && c.len <= all - c.start {
+        Ok(())
+    } else {
+        Err(Refusal::Past(c.len, all))
     }
-    if all < c.start {
-        return false;
-    }
-    if c.len <= all - c.start { true } else { false }
 }
 
-// What a bad cursor gets.
-fn bad_cursor(bytes: &[u8], c: Cursor) -> Refusal
-    ensures { result ≡ bad_cursor_lem bytes.now c }
+// The position `count` bits on from `pos`, in a window of `len` bits.
+#[tactic(auto, unfolding(crate::specs::Cursors::asking))]
+fn past(len: u64, pos: u64, count: u64) -> Result<u64, Refusal>
+    requires { pos ≤ len }
+    ensures value { result ≡ asking len pos count (Ok (pos + count)) }
+    ensures within { OnOk result (pos + count ≤ len) }
 {
-    let all = bits_of(bytes);
-    Refusal::Past(c.len, all)
+    if len - pos < count {
+        return Err(Refusal::TooFew(pos, len, count));
+    }
+    let next = pos + count;
+    Ok(next)
 }
 
 // A reader of the first `count` bits.
-pub fn open(bytes: &[u8], count: u64) -> Opened
+#[tactic(auto, unfolding(crate::specs::Cursors::opened))]
+pub fn open(bytes: &[u8], count: u64) -> Result<Cursor, Refusal>
     ensures { result ≡ opened bytes.now count }
 {
     if (LONGEST_WINDOW as u64) < count {
-        return Opened::Refused(Refusal::TooLong);
+        return Err(Refusal::TooLong);
     }
     let all = bits_of(bytes);
     if all < count {
-        return Opened::Refused(Refusal::Past(count, all));
+        return Err(Refusal::Past(count, all));
     }
-    Opened::Reader(Cursor {
+    Ok(Cursor {
         start: 0,
         pos: 0,
         len: count,
@@ -216,294 +134,224 @@ pub fn new(bytes: &[u8]) -> Cursor
 }
 
 // The bits that are read.
-pub fn position(bytes: &[u8], c: Cursor) -> Measured
+pub fn position(bytes: &[u8], c: Cursor) -> Result<u64, Refusal>
     ensures { result ≡ position_of bytes.now c }
 {
-    if !is_good(bytes, c) {
-        return Measured::Refused(bad_cursor(bytes, c));
-    }
-    Measured::Value(c.pos)
+    good_or_refused(bytes, c)?;
+    Ok(c.pos)
 }
 
 // The window's length in bits.
-pub fn len_bits(bytes: &[u8], c: Cursor) -> Measured
+pub fn len_bits(bytes: &[u8], c: Cursor) -> Result<u64, Refusal>
     ensures { result ≡ length_of bytes.now c }
 {
-    if !is_good(bytes, c) {
-        return Measured::Refused(bad_cursor(bytes, c));
-    }
-    Measured::Value(c.len)
+    good_or_refused(bytes, c)?;
+    Ok(c.len)
 }
 
 // The bits that are left.
-pub fn bits_remaining(bytes: &[u8], c: Cursor) -> Measured
+pub fn bits_remaining(bytes: &[u8], c: Cursor) -> Result<u64, Refusal>
     ensures { result ≡ remaining_of bytes.now c }
 {
-    if !is_good(bytes, c) {
-        return Measured::Refused(bad_cursor(bytes, c));
-    }
+    good_or_refused(bytes, c)?;
     let left = c.len - c.pos;
-    Measured::Value(left)
+    Ok(left)
 }
 
 // Whether no bits are left.
-pub fn at_end(bytes: &[u8], c: Cursor) -> Ended
+pub fn at_end(bytes: &[u8], c: Cursor) -> Result<bool, Refusal>
     ensures { result ≡ end_of bytes.now c }
 {
-    if !is_good(bytes, c) {
-        return Ended::Refused(bad_cursor(bytes, c));
-    }
-    Ended::Value(c.pos == c.len)
+    good_or_refused(bytes, c)?;
+    Ok(c.pos == c.len)
 }
 
 // Past the next `count` bits.
-pub fn skip_bits(bytes: &[u8], c: Cursor, count: u64) -> Skipped
+pub fn skip_bits(bytes: &[u8], c: Cursor, count: u64) -> Result<u64, Refusal>
     ensures { result ≡ skipped bytes.now c count }
 {
-    if !is_good(bytes, c) {
-        return Skipped::Refused(bad_cursor(bytes, c));
-    }
-    if c.len - c.pos < count {
-        return Skipped::Refused(Refusal::TooFew(c.pos, c.len, count));
-    }
-    let next = c.pos + count;
-    Skipped::Done(next)
+    good_or_refused(bytes, c)?;
+    past(c.len, c.pos, count)
 }
 
 // Past all bits that are left.
-pub fn skip_remaining(bytes: &[u8], c: Cursor) -> Skipped
+pub fn skip_remaining(bytes: &[u8], c: Cursor) -> Result<u64, Refusal>
     ensures { result ≡ skipped_all bytes.now c }
 {
-    if !is_good(bytes, c) {
-        return Skipped::Refused(bad_cursor(bytes, c));
-    }
-    Skipped::Done(c.len)
+    good_or_refused(bytes, c)?;
+    let next = c.len;
+    Ok(next)
 }
 
-// The next `count` bits as a window of their own.
-pub fn sub_reader(bytes: &[u8], c: Cursor, count: u64) -> SubReader
+// The next `count` bits as a window of their own, and the position past them in the outer one.
+pub fn sub_reader(bytes: &[u8], c: Cursor, count: u64) -> Result<Read<Cursor>, Refusal>
     ensures { result ≡ sub_reader_lem bytes.now c count }
 {
-    let room = skip_bits(bytes, c, count);
-    match room {
-        Skipped::Done(next) => {
-            let start = c.start + c.pos;
-            let inner = Cursor {
-                start,
-                pos: 0,
-                len: count,
-            };
-            SubReader::Window(inner, next)
-        }
-        Skipped::Refused(r) => SubReader::Refused(r),
-    }
+    let next = skip_bits(bytes, c, count)?;
+    let start = c.start + c.pos;
+    let value = Cursor {
+        start,
+        pos: 0,
+        len: count,
+    };
+    Ok(Read { value, next })
 }
 
 // ---- reads of a fixed number of bits
 
 // The next `count` bits, at most 64, as one number.
-fn take(bytes: &[u8], c: Cursor, count: u64) -> U64Read
+fn take(bytes: &[u8], c: Cursor, count: u64) -> Result<Read<u64>, Refusal>
     requires { count ≤ 64 }
-    ensures { result ≡ taken bytes.now c count }
+    ensures value { result ≡ taken bytes.now c count }
+    ensures small { IfOk result (λ x. x.value < 2 ^ count) }
 {
-    let room = skip_bits(bytes, c, count);
-    match room {
-        Skipped::Done(next) => {
-            let at = c.start + c.pos;
-            let x = bits::field::field_of(bytes, at, count);
-            U64Read::Value(x, next)
-        }
-        Skipped::Refused(r) => U64Read::Refused(r),
-    }
+    let next = skip_bits(bytes, c, count)?;
+    let at = c.start + c.pos;
+    let value = bits::field::field_of(bytes, at, count);
+    Ok(Read { value, next })
 }
 
-pub fn read_bit(bytes: &[u8], c: Cursor) -> BitRead
+// The next bits as a number of the type.
+fn read_number<T: Number>(bytes: &[u8], c: Cursor) -> Result<Read<T>, Refusal>
+    ensures { result ≡ read_lem T.WIDTH T.given bytes.now c }
+{
+    let got = take(bytes, c, T::WIDTH)?;
+    let value = T::of(got.value);
+    Ok(Read {
+        value,
+        next: got.next,
+    })
+}
+
+pub fn read_bit(bytes: &[u8], c: Cursor) -> Result<Read<bool>, Refusal>
     ensures { result ≡ read_bit_lem bytes.now c }
 {
-    let got = take(bytes, c, 1);
-    match got {
-        U64Read::Value(x, next) => BitRead::Value(x == 1, next),
-        U64Read::Refused(r) => BitRead::Refused(r),
-    }
+    read_number::<bool>(bytes, c)
+}
+
+pub fn read_u8(bytes: &[u8], c: Cursor) -> Result<Read<u8>, Refusal>
+    ensures { result ≡ read_u8_lem bytes.now c }
+{
+    read_number::<u8>(bytes, c)
+}
+
+pub fn read_u16(bytes: &[u8], c: Cursor) -> Result<Read<u16>, Refusal>
+    ensures { result ≡ read_u16_lem bytes.now c }
+{
+    read_number::<u16>(bytes, c)
+}
+
+pub fn read_u32(bytes: &[u8], c: Cursor) -> Result<Read<u32>, Refusal>
+    ensures { result ≡ read_u32_lem bytes.now c }
+{
+    read_number::<u32>(bytes, c)
+}
+
+pub fn read_i32(bytes: &[u8], c: Cursor) -> Result<Read<i32>, Refusal>
+    ensures { result ≡ read_i32_lem bytes.now c }
+{
+    read_number::<i32>(bytes, c)
+}
+
+pub fn read_u64(bytes: &[u8], c: Cursor) -> Result<Read<u64>, Refusal>
+    ensures { result ≡ read_u64_lem bytes.now c }
+{
+    read_number::<u64>(bytes, c)
 }
 
 // The next `count` bits as one number, the first bit lowest.
-pub fn read_bits(bytes: &[u8], c: Cursor, count: u64) -> BitsRead
+pub fn read_bits(bytes: &[u8], c: Cursor, count: u64) -> Result<Read<u64>, Refusal>
     ensures { result ≡ read_bits_lem bytes.now c count }
 {
-    if !is_good(bytes, c) {
-        return BitsRead::Refused(bad_cursor(bytes, c));
-    }
+    good_or_refused(bytes, c)?;
     if 64 < count {
-        return BitsRead::Refused(Refusal::TooMany);
+        return Err(Refusal::TooMany);
     }
-    let start = c.start;
-    let pos = c.pos;
-    let len = c.len;
-    if len - pos < count {
-        return BitsRead::Refused(Refusal::TooFew(pos, len, count));
-    }
-    let x = bits::field::field_of(bytes, start + pos, count);
-    let next = pos + count;
-    BitsRead::Value(x, next)
-}
-
-pub fn read_u8(bytes: &[u8], c: Cursor) -> U8Read
-    ensures { result ≡ read_u8_lem bytes.now c }
-{
-    let got = take(bytes, c, 8);
-    match got {
-        U64Read::Value(x, next) => {
-            let value = x as u8;
-            U8Read::Value(value, next)
-        }
-        U64Read::Refused(r) => U8Read::Refused(r),
-    }
-}
-
-pub fn read_u16(bytes: &[u8], c: Cursor) -> U16Read
-    ensures { result ≡ read_u16_lem bytes.now c }
-{
-    let got = take(bytes, c, 16);
-    match got {
-        U64Read::Value(x, next) => {
-            let value = x as u16;
-            U16Read::Value(value, next)
-        }
-        U64Read::Refused(r) => U16Read::Refused(r),
-    }
-}
-
-pub fn read_u32(bytes: &[u8], c: Cursor) -> U32Read
-    ensures { result ≡ read_u32_lem bytes.now c }
-{
-    let got = take(bytes, c, 32);
-    match got {
-        U64Read::Value(x, next) => {
-            let value = x as u32;
-            U32Read::Value(value, next)
-        }
-        U64Read::Refused(r) => U32Read::Refused(r),
-    }
-}
-
-pub fn read_i32(bytes: &[u8], c: Cursor) -> I32Read
-    ensures { result ≡ read_i32_lem bytes.now c }
-{
-    let got = take(bytes, c, 32);
-    match got {
-        U64Read::Value(x, next) => {
-            let wide = bits::integer::signed(x, 32);
-            let value = wide as i32;
-            I32Read::Value(value, next)
-        }
-        U64Read::Refused(r) => I32Read::Refused(r),
-    }
-}
-
-pub fn read_u64(bytes: &[u8], c: Cursor) -> U64Read
-    ensures { result ≡ read_u64_lem bytes.now c }
-{
-    take(bytes, c, 64)
+    let next = past(c.len, c.pos, count)?;
+    let value = bits::field::field_of(bytes, c.start + c.pos, count);
+    Ok(Read { value, next })
 }
 
 // ---- reads whose width depends on what is read
 
 // A packed number: groups of seven bits, the lowest first, each under a bit that says whether another follows.
-pub fn read_int_packed(bytes: &[u8], c: Cursor) -> PackedRead
+#[tactic(auto, using(crate::proofs::CursorLaws::ways), unfolding(crate::specs::Numbers::packed_answer))]
+pub fn read_int_packed(bytes: &[u8], c: Cursor) -> Result<Read<PackedNumber>, Refusal>
     ensures { result ≡ read_int_packed_lem bytes.now c }
 {
-    if !is_good(bytes, c) {
-        return PackedRead::Refused(bad_cursor(bytes, c));
-    }
-    let start = c.start;
+    good_or_refused(bytes, c)?;
     let pos = c.pos;
-    let len = c.len;
-    let at = start + pos;
-    let end = start + len;
+    let at = c.start + pos;
+    let end = c.start + c.len;
     let found = bits::number::packed_at(bytes, at, end);
     match found {
-        Found::Whole(value, n, padded) => {
-            let next = pos + 8 * n;
-            let taken = n as u32;
-            let number = PackedNumber {
-                value,
+        Ok(x) => {
+            let next = pos + 8 * x.bytes;
+            let taken = x.bytes as u32;
+            let value = PackedNumber {
+                value: x.value,
                 bytes: taken,
-                padded,
+                padded: x.padded,
             };
-            PackedRead::Value(number, next)
+            Ok(Read { value, next })
         }
-        Found::Cut(n) => {
+        Err(Broken::Cut(n)) => {
             let stop = pos + 8 * n;
-            PackedRead::Refused(Refusal::TooFew(stop, len, 8))
+            Err(Refusal::TooFew(stop, c.len, 8))
         }
-        Found::GoesOn => PackedRead::Refused(Refusal::GoesOn(pos)),
-        Found::Overflows => PackedRead::Refused(Refusal::Overflows(pos)),
+        Err(Broken::GoesOn) => Err(Refusal::GoesOn(pos)),
+        Err(Broken::Overflows) => Err(Refusal::Overflows(pos)),
     }
 }
 
 // The logarithm of m to the base 2, rounded down.
 fn log2_of(m: u32) -> u64
     requires { 0 < m }
-    ensures { result ≡ log2 m }
+    ensures value { result ≡ log2 m }
+    ensures small { result < 32 }
+    ensures below { 2 ^ result ≤ m }
 {
-    (31 - u32::leading_zeros(m)) as u64
+    m.ilog2() as u64
 }
 
 // An integer below `max`: its low bits, and its top bit only where `max` leaves it open.
-pub fn read_serialized_int(bytes: &[u8], c: Cursor, max: u32) -> SerializedRead
+#[tactic(auto, using(crate::proofs::CursorLaws::ways), unfolding(crate::specs::Numbers::serialized_at, crate::specs::Numbers::serialized_top))]
+pub fn read_serialized_int(bytes: &[u8], c: Cursor, max: u32) -> Result<Read<u32>, Refusal>
     ensures { result ≡ read_serialized_int_lem bytes.now c max }
 {
-    if !is_good(bytes, c) {
-        return SerializedRead::Refused(bad_cursor(bytes, c));
-    }
+    good_or_refused(bytes, c)?;
     if max == 0 {
-        return SerializedRead::Refused(Refusal::NoMaximum);
+        return Err(Refusal::NoMaximum);
     }
     let start = c.start;
     let pos = c.pos;
-    let len = c.len;
     let width = log2_of(max);
-    if len - pos < width {
-        return SerializedRead::Refused(Refusal::TooFew(pos, len, width));
-    }
+    let at = past(c.len, pos, width)?;
     let v = bits::field::field_of(bytes, start + pos, width);
-    let at = pos + width;
     let top = 1u64 << width;
     if max as u64 <= v + top {
-        let small = v as u32;
-        return SerializedRead::Value(small, at);
+        let value = v as u32;
+        return Ok(Read { value, next: at });
     }
-    if len - at < 1 {
-        return SerializedRead::Refused(Refusal::TooFew(at, len, 1));
-    }
+    let next = past(c.len, at, 1)?;
     let bit = bits::field::field_of(bytes, start + at, 1);
     let high = bit << width;
-    let both = (v + high) as u32;
-    let end = at + 1;
-    SerializedRead::Value(both, end)
+    let value = (v + high) as u32;
+    Ok(Read { value, next })
 }
 
 // ---- copies
 
 // The next `count` bits to the front of dst, as bytes; the last one's padding is 0.
-pub fn copy_bits_to(bytes: &[u8], c: Cursor, count: u64, dst: &mut [u8]) -> Copied
+pub fn copy_bits_to(bytes: &[u8], c: Cursor, count: u64, dst: &mut [u8]) -> Result<u64, Refusal>
     ensures { CopiesBits bytes.now c count dst.old result dst.new }
 {
-    if !is_good(bytes, c) {
-        return Copied::Refused(bad_cursor(bytes, c));
-    }
-    let start = c.start;
-    let pos = c.pos;
-    let len = c.len;
-    let needed = count / 8 + (count % 8 + 7) / 8;
+    good_or_refused(bytes, c)?;
+    let needed = count.div_ceil(8);
     if (dst.len() as u64) < needed {
-        return Copied::Refused(Refusal::Past(count, bits_of(dst)));
+        return Err(Refusal::Past(count, bits_of(dst)));
     }
-    if len - pos < count {
-        return Copied::Refused(Refusal::TooFew(pos, len, count));
-    }
-    bits::copy::copy_field(bytes, start + pos, dst, count);
-    let next = pos + count;
-    Copied::Done(next)
+    let next = past(c.len, c.pos, count)?;
+    bits::copy::copy_field(bytes, c.start + c.pos, dst, count);
+    Ok(next)
 }

@@ -10,7 +10,8 @@ use native.Mathlib.Omega.{arith}
 use lib.Dec.{ltb}
 use lib.ListN.{length, get_or, take, drop, set, length-append}
 use lib.Seq.{take-suc, set_at, length-take-le}
-use borrow.Author.Tests.{lt-ltb, le-ltb, ltb-false}
+use borrow.Author.Tests.{lt-ltb, le-ltb, ltb-true, ltb-false}
+use Rattle.bits.proofs.ChoiceLaws.{by_cases}
 use Rattle.bits.specs.Runs.{put}
 use Rattle.bits.specs.Decimals.{digits, decimal}
 
@@ -109,6 +110,19 @@ module _ (d₀ d : List ℕ) (at n v j : ℕ) (w : Written d₀ d at n v j) wher
       let r = w.room in
       let e = w.same in
       (omega arith, omega arith)
+
+  -- whether another stands before it
+  pub digits_left : at + 1 < j → 10 ≤ v
+  digits_left h =
+      by_cases (ltb v 10)
+      (λ e. let o = length_one v (ltb-true v 10 e) in let a = w.place in absurd (omega arith))
+      (λ e. ltb-false v 10 e)
+
+  pub digit_left : j ≤ at + 1 → v < 10
+  digit_left h =
+      by_cases (ltb v 10)
+      (λ e. ltb-true v 10 e)
+      (λ e. let m = length_more v (ltb-false v 10 e) w.small in let s = decimal_some (v / 10) in let a = w.place in absurd (omega arith))
 
   pub digit_written : 10 ≤ v → set d (j - 1) (48 + v % 10) ≡ put d₀ (j - 1) ((48 + v % 10) ∷ w.run)
   digit_written h =

@@ -1,4 +1,5 @@
 -- The laws of the packed number: what each byte that is read makes of it.
+use Rattle.std.specs.Prelude.{Ok, Err}
 use Prim.Native.Nat.{ℕ, zero, suc, ◌+◌, ◌-◌, ◌*◌, ◌/◌, ◌%◌, ◌^◌, ◌≤◌, ◌<◌}
 use mathlib.Core.Path.{◌≡◌, refl, sym, ap, ap₂, ◌∙◌, subst}
 use mathlib.Core.Bool.{true, false}
@@ -8,11 +9,27 @@ use lib.Dec.{leb, eqb}
 use lib.Pow.{pow-add}
 use borrow.Author.Tests.{le-leb, lt-leb, leb-true, leb-false, eq-eqb, ne_eqb}
 use Rattle.bits.specs.Bits.{field}
-use Rattle.bits.specs.Packed.{after, earlier_byte, fifth_byte, packed_from, packed, most_bytes}
+use Rattle.bits.specs.Packed.{Packed, whole, after, earlier_byte, fifth_byte, packed_from, packed, most_bytes}
 use Rattle.bits.proofs.ChoiceLaws.{by_cases}
 use Rattle.bits.proofs.FieldLaws.{field_field}
-use Rattle.bits.specs.declared.Packed.{Packed}
-use Rattle.bits.specs.declared.Packed.TheVariants.{Whole, Cut, GoesOn, Overflows}
+use Rattle.bits.specs.declared.Broken.TheVariants.{Cut, GoesOn, Overflows}
+
+-- the same whole number has the same value and the same bytes
+value_of : Packed → ℕ
+value_of (Ok x) = x.value
+value_of (Err why) = 0
+
+bytes_of : Packed → ℕ
+bytes_of (Ok x) = x.bytes
+bytes_of (Err why) = 0
+
+pub same_value : {v n w m : ℕ} → whole v n ≡ whole w m → v ≡ w
+unfolding value_of
+same_value e = ap value_of e
+
+pub same_bytes : {v n w m : ℕ} → whole v n ≡ whole w m → n ≡ m
+unfolding bytes_of
+same_bytes e = ap bytes_of e
 
 -- a group above n others
 group_above : (n v g x : ℕ) → v + 2 ^ (7 * n) * (g + 2 ^ (7 * 1) * x) ≡ v + g * 2 ^ (7 * n) + 2 ^ (7 * (n + 1)) * x
@@ -29,23 +46,23 @@ group_above n v g x =
 -- n bytes and one more are n + 1 bytes
 pub after_after : (n v g : ℕ) (rest : Packed) → after n v (after 1 g rest) ≡ after (n + 1) (v + g * 2 ^ (7 * n)) rest
 unfolding after
-after_after n v g (Whole x m) = ap₂ Whole (group_above n v g x) (sym (add_assoc n 1 m))
-after_after n v g (Cut m) = ap Cut (sym (add_assoc n 1 m))
-after_after n v g GoesOn = refl
-after_after n v g Overflows = refl
+after_after n v g (Ok x) = ap₂ whole (group_above n v g x.value) (sym (add_assoc n 1 x.bytes))
+after_after n v g (Err (Cut m)) = ap (λ (k : ℕ). Err (Cut k)) (sym (add_assoc n 1 m))
+after_after n v g (Err GoesOn) = refl
+after_after n v g (Err Overflows) = refl
 
 -- The number of which n bytes worth v are read, and whose next byte stands at bit p.
 module _ (n v W len p : ℕ) where
   -- the window ends in that byte
-  pub byte_cut : (left : ℕ) → len < p + 8 → after n v (packed_from left W len p) ≡ Cut n
+  pub byte_cut : (left : ℕ) → len < p + 8 → after n v (packed_from left W len p) ≡ Err (Cut n)
   unfolding after packed_from
   byte_cut zero h = simp (lt-leb _ _ h, add-zero)
   byte_cut (suc left) h = simp (lt-leb _ _ h, add-zero)
 
   module _ (b : ℕ) (h : p + 8 ≤ len) (eb : b ≡ field W p 8) where
-    ends' : (left : ℕ) → b % 2 ≡ 0 → after n v (packed_from (suc left) W len p) ≡ Whole (v + b / 2 * 2 ^ (7 * n)) (n + 1)
+    ends' : (left : ℕ) → b % 2 ≡ 0 → after n v (packed_from (suc left) W len p) ≡ whole (v + b / 2 * 2 ^ (7 * n)) (n + 1)
     unfolding after packed_from earlier_byte
-    ends' left e = simp (le-leb _ _ h, ← eb, eq-eqb _ _ e) (ap (λ (y : ℕ). Whole (v + y) (n + 1)) (mul_comm (2 ^ (7 * n)) (b / 2)))
+    ends' left e = simp (le-leb _ _ h, ← eb, eq-eqb _ _ e) (ap (λ (y : ℕ). whole (v + y) (n + 1)) (mul_comm (2 ^ (7 * n)) (b / 2)))
 
     follows' : (left : ℕ) → (b % 2 ≡ 0 → ⊥)
         → after n v (packed_from (suc left) W len p) ≡ after (n + 1) (v + b / 2 * 2 ^ (7 * n)) (packed_from left W len (p + 8))
@@ -56,7 +73,7 @@ module _ (n v W len p : ℕ) where
     one_less left l = let e : left ≡ suc (left - 1) = omega arith in ap (λ (k : ℕ). packed_from k W len p) e
 
     -- that byte ends it
-    pub byte_ends : (left : ℕ) → 0 < left → b % 2 ≡ 0 → after n v (packed_from left W len p) ≡ Whole (v + b / 2 * 2 ^ (7 * n)) (n + 1)
+    pub byte_ends : (left : ℕ) → 0 < left → b % 2 ≡ 0 → after n v (packed_from left W len p) ≡ whole (v + b / 2 * 2 ^ (7 * n)) (n + 1)
     byte_ends left l e = ap (after n v) (one_less left l) ∙ ends' (left - 1) e
 
     -- another byte follows
@@ -65,40 +82,40 @@ module _ (n v W len p : ℕ) where
     byte_follows left l e = ap (after n v) (one_less left l) ∙ follows' (left - 1) e
 
     -- that byte is the fifth
-    pub fifth_goes_on : b % 2 ≡ 1 → after n v (packed_from 0 W len p) ≡ GoesOn
+    pub fifth_goes_on : b % 2 ≡ 1 → after n v (packed_from 0 W len p) ≡ Err GoesOn
     unfolding after packed_from fifth_byte
     fifth_goes_on e = simp (le-leb _ _ h, ← eb, ne_eqb (b % 2) 0 (λ z. omega arith))
 
-    pub fifth_over : (b % 2 ≡ 1 → ⊥) → 15 < b / 2 → after n v (packed_from 0 W len p) ≡ Overflows
+    pub fifth_over : (b % 2 ≡ 1 → ⊥) → 15 < b / 2 → after n v (packed_from 0 W len p) ≡ Err Overflows
     unfolding after packed_from fifth_byte
     fifth_over e k = let z : b % 2 ≡ 0 = omega arith in simp (le-leb _ _ h, ← eb, eq-eqb _ _ z, lt-leb _ _ k)
 
-    pub fifth_ends : (b % 2 ≡ 1 → ⊥) → b / 2 ≤ 15 → after n v (packed_from 0 W len p) ≡ Whole (v + 2 ^ (7 * n) * (b / 2)) (n + 1)
+    pub fifth_ends : (b % 2 ≡ 1 → ⊥) → b / 2 ≤ 15 → after n v (packed_from 0 W len p) ≡ whole (v + 2 ^ (7 * n) * (b / 2)) (n + 1)
     unfolding after packed_from fifth_byte
     fifth_ends e k = let z : b % 2 ≡ 0 = omega arith in simp (le-leb _ _ h, ← eb, eq-eqb _ _ z, le-leb _ _ k)
 
 -- nothing is read yet
 nothing_before : (r : Packed) → after 0 0 r ≡ r
 unfolding after
-nothing_before (Whole x m) = ap₂ Whole (omega arith) (omega arith)
-nothing_before (Cut m) = ap Cut (omega arith)
-nothing_before GoesOn = refl
-nothing_before Overflows = refl
+nothing_before (Ok x) = ap₂ whole (omega arith) (omega arith)
+nothing_before (Err (Cut m)) = ap (λ (k : ℕ). Err (Cut k)) (omega arith)
+nothing_before (Err GoesOn) = refl
+nothing_before (Err Overflows) = refl
 
 module _ (W len p : ℕ) where
   from_start : after 0 0 (packed_from 4 W len p) ≡ packed W len p
   unfolding packed
   from_start = nothing_before (packed_from 4 W len p)
 
-  pub packed_cut : len < p + 8 → packed W len p ≡ Cut 0
+  pub packed_cut : len < p + 8 → packed W len p ≡ Err (Cut 0)
   packed_cut h = sym from_start ∙ byte_cut 0 0 W len p 4 h
 
   module _ (b : ℕ) (h : p + 8 ≤ len) (eb : b ≡ field W p 8) where
     first : 0 + b / 2 * 2 ^ (7 * 0) ≡ b / 2
     first = omega arith
 
-    pub packed_one : b % 2 ≡ 0 → packed W len p ≡ Whole (b / 2) 1
-    packed_one e = sym from_start ∙ byte_ends 0 0 W len p b h eb 4 (omega arith) e ∙ ap (λ (x : ℕ). Whole x 1) first
+    pub packed_one : b % 2 ≡ 0 → packed W len p ≡ whole (b / 2) 1
+    packed_one e = sym from_start ∙ byte_ends 0 0 W len p b h eb 4 (omega arith) e ∙ ap (λ (x : ℕ). whole x 1) first
 
     pub packed_more : (b % 2 ≡ 0 → ⊥) → packed W len p ≡ after 1 (b / 2) (packed_from 3 W len (p + 8))
     packed_more e =
@@ -138,17 +155,17 @@ packed_window N start len p = from_window 4 N start len p
 
 -- the whole bytes that are read of a number whose next byte may be followed by left more
 abbrev pub bytes_read : (left : ℕ) → Packed → ℕ
-bytes_read left (Whole v n) = n
-bytes_read left (Cut n) = n
-bytes_read left GoesOn = left + 1
-bytes_read left Overflows = left + 1
+bytes_read left (Ok x) = x.bytes
+bytes_read left (Err (Cut n)) = n
+bytes_read left (Err GoesOn) = left + 1
+bytes_read left (Err Overflows) = left + 1
 
 read_after : (left g : ℕ) (rest : Packed) → bytes_read (suc left) (after 1 g rest) ≡ 1 + bytes_read left rest
 unfolding after
-read_after left g (Whole v n) = refl
-read_after left g (Cut n) = refl
-read_after left g GoesOn = omega arith
-read_after left g Overflows = omega arith
+read_after left g (Ok x) = refl
+read_after left g (Err (Cut n)) = refl
+read_after left g (Err GoesOn) = omega arith
+read_after left g (Err Overflows) = omega arith
 
 read_fifth : (b : ℕ) → bytes_read 0 (fifth_byte b) ≡ 1
 unfolding fifth_byte
@@ -188,7 +205,7 @@ read_few (suc left) W len p =
     (omega (arith, read_after left (field W p 8 / 2) (packed_from left W len (p + 8)), read_few left W len (p + 8)))))
     (λ k. simp k (omega arith))
 
-pub whole_bytes : (W len p v n : ℕ) → packed W len p ≡ Whole v n → n ≤ most_bytes
+pub whole_bytes : (W len p v n : ℕ) → packed W len p ≡ whole v n → n ≤ most_bytes
 unfolding packed
 whole_bytes W len p v n e = subst (λ (x : Packed). bytes_read 4 x ≤ most_bytes) e (read_few 4 W len p)
 
@@ -197,15 +214,15 @@ module _ (W len p : ℕ) (h : p ≤ len) where
   unfolding packed
   within r e = subst (λ (x : Packed). p + 8 * bytes_read 4 x ≤ len) e (read_within 4 W len p h)
 
-  pub whole_within : (v n : ℕ) → packed W len p ≡ Whole v n → p + 8 * n ≤ len
-  whole_within v n e = within (Whole v n) e
+  pub whole_within : (v n : ℕ) → packed W len p ≡ whole v n → p + 8 * n ≤ len
+  whole_within v n e = within (whole v n) e
 
-  pub cut_within : (n : ℕ) → packed W len p ≡ Cut n → p + 8 * n ≤ len
-  cut_within n e = within (Cut n) e
+  pub cut_within : (n : ℕ) → packed W len p ≡ Err (Cut n) → p + 8 * n ≤ len
+  cut_within n e = within (Err (Cut n)) e
 
   -- 8 and 9 come after five bytes
-  pub goes_on_within : packed W len p ≡ GoesOn → p + 40 ≤ len
-  goes_on_within e = within GoesOn e
+  pub goes_on_within : packed W len p ≡ Err GoesOn → p + 40 ≤ len
+  goes_on_within e = within (Err GoesOn) e
 
-  pub overflows_within : packed W len p ≡ Overflows → p + 40 ≤ len
-  overflows_within e = within Overflows e
+  pub overflows_within : packed W len p ≡ Err Overflows → p + 40 ≤ len
+  overflows_within e = within (Err Overflows) e

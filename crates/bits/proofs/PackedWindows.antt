@@ -1,28 +1,28 @@
 -- Packed numbers in a window: where a number that was read lies, and what becomes of it in the window's first bits.
+use Rattle.std.specs.Prelude.{Ok, Err}
 use Prim.Native.Nat.{ℕ, zero, suc, ◌+◌, ◌*◌, ◌/◌, ◌%◌, ◌^◌, ◌≤◌, ◌<◌}
-use mathlib.Core.Path.{◌≡◌, refl}
+use mathlib.Core.Path.{◌≡◌, refl, sym, ◌∙◌}
 use mathlib.Core.Bool.{Bool, true, false}
 use native.Mathlib.Omega.{arith}
 use lib.Dec.{leb, eqb}
 use borrow.Author.Tests.{le-leb, leb-true, eqb-true, eqb-false}
 use Rattle.bits.specs.Bits.{field}
-use Rattle.bits.specs.Packed.{after, earlier_byte, fifth_byte, fifth_most, packed_from, packed}
+use Rattle.bits.specs.Packed.{Whole, Packed, after, earlier_byte, fifth_byte, fifth_most, packed_from, packed}
 use Rattle.bits.proofs.FieldLaws.{field_prefix}
-use Rattle.bits.proofs.PackedLaws.{packed_one, packed_more, byte_cut}
-use Rattle.bits.specs.declared.Packed.{Packed}
-use Rattle.bits.specs.declared.Packed.TheVariants.{Whole, Cut, GoesOn, Overflows}
+use Rattle.bits.proofs.PackedLaws.{same_value, packed_one, packed_more, byte_cut}
+use Rattle.bits.specs.declared.Broken.TheVariants.{Cut, GoesOn, Overflows}
 
 -- ---- a number that is read has a byte at least, and lies in the window
 
 pub data Lies (len p : ℕ) : Packed → Type 0 where
-  whole : {v n : ℕ} → p + 8 * n ≤ len → 0 < n → Lies len p (Whole v n)
-  cut : {n : ℕ} → Lies len p (Cut n)
-  goes_on : Lies len p GoesOn
-  overflows : Lies len p Overflows
+  whole : {x : Whole} → p + 8 * x.bytes ≤ len → 0 < x.bytes → Lies len p (Ok x)
+  cut : {n : ℕ} → Lies len p (Err (Cut n))
+  goes_on : Lies len p (Err GoesOn)
+  overflows : Lies len p (Err Overflows)
 
 lies_after : (len p g : ℕ) {r : Packed} → Lies len (p + 8) r → Lies len p (after 1 g r)
 unfolding after
-lies_after len p g (whole {n = n} h k) = whole {n = 1 + n} (omega arith) (omega arith)
+lies_after len p g (whole h k) = whole (omega arith) (omega arith)
 lies_after len p g cut = cut
 lies_after len p g goes_on = goes_on
 lies_after len p g overflows = overflows
@@ -32,7 +32,7 @@ unfolding fifth_byte
 lies_fifth len p b h = go (eqb (b % 2) 0) refl (leb (b / 2) fifth_most) refl
   where
     go : (x : Bool) → eqb (b % 2) 0 ≡ x → (y : Bool) → leb (b / 2) fifth_most ≡ y → Lies len p (fifth_byte b)
-    go true e true f = rw (e, f) (whole {n = 1} (omega arith) (omega arith))
+    go true e true f = rw (e, f) (whole {x = record { value = b / 2; bytes = 1 }} (omega arith) (omega arith))
     go true e false f = rw (e, f) overflows
     go false e y f = rw e goes_on
 
@@ -41,7 +41,7 @@ unfolding earlier_byte
 lies_earlier len p b {r} h l = go (eqb (b % 2) 0) refl
   where
     go : (x : Bool) → eqb (b % 2) 0 ≡ x → Lies len p (earlier_byte b r)
-    go true e = rw e (whole {n = 1} (omega arith) (omega arith))
+    go true e = rw e (whole {x = record { value = b / 2; bytes = 1 }} (omega arith) (omega arith))
     go false e = rw e (lies_after len p (b / 2) l)
 
 lies_from : (left W len p : ℕ) → Lies len p (packed_from left W len p)
@@ -64,14 +64,14 @@ packed_lies W len p = lies_from 4 W len p
 -- ---- in the first m bits it is the same number, inside of them; or it is not read there
 
 pub data Shortened (m p : ℕ) : Packed → Packed → Type 0 where
-  same : {v n : ℕ} → p + 8 * n ≤ m → Shortened m p (Whole v n) (Whole v n)
-  cut : {n : ℕ} {r : Packed} → Shortened m p (Cut n) r
-  goes_on : {r : Packed} → Shortened m p GoesOn r
-  overflows : {r : Packed} → Shortened m p Overflows r
+  same : {x : Whole} → p + 8 * x.bytes ≤ m → Shortened m p (Ok x) (Ok x)
+  cut : {n : ℕ} {r : Packed} → Shortened m p (Err (Cut n)) r
+  goes_on : {r : Packed} → Shortened m p (Err GoesOn) r
+  overflows : {r : Packed} → Shortened m p (Err Overflows) r
 
 shortened_after : (m p g : ℕ) {r s : Packed} → Shortened m (p + 8) r s → Shortened m p (after 1 g r) (after 1 g s)
 unfolding after
-shortened_after m p g (same {n = n} h) = same {n = 1 + n} (omega arith)
+shortened_after m p g (same h) = same (omega arith)
 shortened_after m p g cut = cut
 shortened_after m p g goes_on = goes_on
 shortened_after m p g overflows = overflows
@@ -81,7 +81,7 @@ unfolding fifth_byte
 shortened_fifth m p b h = go (eqb (b % 2) 0) refl (leb (b / 2) fifth_most) refl
   where
     go : (x : Bool) → eqb (b % 2) 0 ≡ x → (y : Bool) → leb (b / 2) fifth_most ≡ y → Shortened m p (fifth_byte b) (fifth_byte b)
-    go true e true f = rw (e, f) (same {n = 1} (omega arith))
+    go true e true f = rw (e, f) (same {x = record { value = b / 2; bytes = 1 }} (omega arith))
     go true e false f = rw (e, f) overflows
     go false e y f = rw e goes_on
 
@@ -90,7 +90,7 @@ unfolding earlier_byte
 shortened_earlier m p b {r} {s} h k = go (eqb (b % 2) 0) refl
   where
     go : (x : Bool) → eqb (b % 2) 0 ≡ x → Shortened m p (earlier_byte b r) (earlier_byte b s)
-    go true e = rw e (same {n = 1} (omega arith))
+    go true e = rw e (same {x = record { value = b / 2; bytes = 1 }} (omega arith))
     go false e = rw e (shortened_after m p (b / 2) k)
 
 shortened_from : (left W len m p : ℕ) → m ≤ len → Shortened m p (packed_from left (W % 2 ^ m) m p) (packed_from left W len p)
@@ -118,14 +118,14 @@ packed_shortened W len m p l = shortened_from 4 W len m p l
 -- ---- with eight bits left
 
 -- a number that is zero there is a zero byte
-pub zero_byte : (W len p v n : ℕ) → p + 8 ≡ len → packed W len p ≡ Whole v n → v ≡ 0 → field W p 8 ≡ 0
+pub zero_byte : (W len p v n : ℕ) → p + 8 ≡ len → packed W len p ≡ Ok (record { value = v; bytes = n }) → v ≡ 0 → field W p 8 ≡ 0
 zero_byte W len p v n fit e z = go (eqb (field W p 8 % 2) 0) refl
   where
     go : (x : Bool) → eqb (field W p 8 % 2) 0 ≡ x → field W p 8 ≡ 0
     go true t =
         let even = eqb-true _ _ t in
         let one = packed_one W len p (field W p 8) (omega arith) refl even in
-        let val : field W p 8 / 2 ≡ v = cc in
+        let val = same_value (sym one ∙ e) in
         omega arith
     go false t =
         let more = packed_more W len p (field W p 8) (omega arith) refl (eqb-false _ _ t) in

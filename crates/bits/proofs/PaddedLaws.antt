@@ -1,5 +1,6 @@
 -- The laws of padded numbers: one byte is never padded, more are exactly if the value fits without the last; two lists have as many as both; and what
 -- the code finds where a number is due tells the truth.
+use Rattle.std.specs.Prelude.{Result, Ok, Err}
 use Prim.Native.Nat.{ℕ, ◌+◌, ◌-◌, ◌*◌, ◌^◌, ◌≤◌, ◌<◌}
 use mathlib.Core.Path.{◌≡◌, refl, sym, ap, ◌∙◌}
 use mathlib.Core.Bool.{Bool, true, false}
@@ -8,12 +9,12 @@ use native.Mathlib.Nat.{add_assoc}
 use native.Mathlib.Omega.{arith}
 use lib.Dec.{ltb}
 use borrow.Author.Tests.{lt-ltb, le-ltb, ltb-true}
-use Rattle.bits.specs.Packed.{Number}
+use Rattle.bits.specs.Packed.{Packed, whole, after, packed_from, packed, Number}
 use Rattle.bits.specs.Padded.{padded, found, is_padded, once, padded_among}
-use Rattle.bits.specs.declared.Packed.{Packed}
-use Rattle.bits.specs.declared.Packed.TheVariants.{Whole, Cut, GoesOn, Overflows}
+use Rattle.bits.specs.declared.Broken.{Broken}
+use Rattle.bits.specs.declared.Broken.TheVariants.{Cut}
+use Rattle.bits.proofs.PackedLaws.{byte_cut, packed_cut}
 use Rattle.bits.specs.declared.Found.{Found}
-use Rattle.bits.specs.declared.Found.TheVariants as F
 use Rattle.bits.proofs.ChoiceLaws.{and_true}
 use Rattle.bits.proofs.Never.{never}
 
@@ -44,38 +45,45 @@ among_append (x ∷ a) b =
 
 -- ---- as the code finds them
 
-pub found_one : (v : ℕ) → F.Whole v 1 false ≡ found (Whole v 1)
+abbrev pub found_whole : (value bytes : ℕ) (padded : Bool) → Result Found Broken
+found_whole v n b = Ok (record { value = v; bytes = n; padded = b })
+
+pub found_one : (v : ℕ) → found_whole v 1 false ≡ found (whole v 1)
 unfolding found
-found_one v = ap (F.Whole v 1) (sym (one_byte v 1 (omega arith)))
+found_one v = ap (found_whole v 1) (sym (one_byte v 1 (omega arith)))
 
 -- the last of n + 1 bytes is worth nothing to a value below its weight
-pub found_more : (v n : ℕ) → 1 ≤ n → F.Whole v (n + 1) (ltb v (2 ^ (7 * n))) ≡ found (Whole v (n + 1))
+pub found_more : (v n : ℕ) → 1 ≤ n → found_whole v (n + 1) (ltb v (2 ^ (7 * n))) ≡ found (whole v (n + 1))
 unfolding found
 found_more v n h =
     let e : n + 1 - 1 ≡ n = omega arith in
-    ap (λ (k : ℕ). F.Whole v (n + 1) (ltb v (2 ^ (7 * k)))) (sym e) ∙ ap (F.Whole v (n + 1)) (sym (more_bytes v (n + 1) (omega arith)))
+    ap (λ (k : ℕ). found_whole v (n + 1) (ltb v (2 ^ (7 * k)))) (sym e) ∙ ap (found_whole v (n + 1)) (sym (more_bytes v (n + 1) (omega arith)))
+
+-- the window ends in the next byte
+pub found_cut : (n v left W len p : ℕ) {why : Broken} → (len < p + 8) × (why ≡ Cut n) → Err why ≡ found (after n v (packed_from left W len p))
+unfolding found
+found_cut n v left W len p h =
+    ap (λ (x : Broken). found (Err x)) h.1 ∙ ap found (sym (byte_cut n v W len p left h.0))
+
+pub found_first_cut : (W len p : ℕ) {why : Broken} → (len < p + 8) × (why ≡ Cut 0) → Err why ≡ found (packed W len p)
+unfolding found
+found_first_cut W len p h = ap (λ (x : Broken). found (Err x)) h.1 ∙ ap found (sym (packed_cut W len p h.0))
 
 -- what was found, without whether it is padded
-abbrev pub plain : Found → Packed
-plain (F.Whole v n b) = Whole v n
-plain (F.Cut n) = Cut n
-plain F.GoesOn = GoesOn
-plain F.Overflows = Overflows
+abbrev pub plain : Result Found Broken → Packed
+plain (Ok x) = whole x.value x.bytes
+plain (Err why) = Err why
 
-pub plain_found : (r : Packed) {x : Found} → x ≡ found r → r ≡ plain x
+pub plain_found : (r : Packed) {x : Result Found Broken} → x ≡ found r → r ≡ plain x
 unfolding found
 plain_found r e = go r ∙ sym (ap plain e)
   where
     go : (s : Packed) → s ≡ plain (found s)
-    go (Whole v n) = refl
-    go (Cut n) = refl
-    go GoesOn = refl
-    go Overflows = refl
+    go (Ok x) = refl
+    go (Err why) = refl
 
 -- and that it tells the truth
-pub found_padded : (r : Packed) {v n : ℕ} {b : Bool} → F.Whole v n b ≡ found r → b ≡ padded v n
+pub found_padded : (r : Packed) {x : Found} → Ok x ≡ found r → x.padded ≡ padded x.value x.bytes
 unfolding found
-found_padded (Whole v n) e = cc
-found_padded (Cut n) e = let z : ◌≡◌ {A = ℕ} 0 1 = cc in never z
-found_padded GoesOn e = let z : ◌≡◌ {A = ℕ} 0 1 = cc in never z
-found_padded Overflows e = let z : ◌≡◌ {A = ℕ} 0 1 = cc in never z
+found_padded (Ok x) e = cc
+found_padded (Err why) e = let z : ◌≡◌ {A = ℕ} 0 1 = cc in never z

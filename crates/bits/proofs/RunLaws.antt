@@ -1,15 +1,16 @@
 -- The laws of `put` and `store`, for elements of any type, and of `bytes_of`.
 use Prim.Native.Nat.{ℕ, zero, suc, ◌+◌, ◌-◌, ◌*◌, ◌/◌, ◌%◌, ◌^◌, ◌≤◌, ◌<◌, zero-le}
-use mathlib.Core.Path.{◌≡◌, refl, sym, ap, ap₂, ◌∙◌, subst}
+use mathlib.Core.Path.{◌≡◌, refl, sym, ap, ap₂, ◌∙◌}
 use mathlib.Core.Bool.{Bool, true, false}
 use mathlib.Core.List.{List, [], ◌∷◌, ◌++◌, append_assoc, append-nil}
 use native.Mathlib.Omega.{arith}
 use lib.Dec.{leb}
 use borrow.Author.Tests.{le-leb, lt-leb, leb-true}
-use native.Mathlib.Nat.{zero-add, add-zero, suc-add, add_assoc, div-one}
+use borrow.Rule.Slice.PartMut.{put_mid}
+use native.Mathlib.Nat.{div-div-eq-div-mul, zero-add, add-zero, suc-add, add_assoc, div-one}
 use lib.ListN.{length, take, drop, set, replicate, length-append, length-replicate, take-append-drop}
-use native.Mathlib.Numerals.{add-one, add-two, add-three, add-four, add_five, add_six, add_seven}
-use lib.Seq.{take_at, drop-drop, drop-append-add, sets, sets-eq, length-sets, length-take-le}
+use native.Mathlib.Numerals.{add-one, add-two, add-three, add-four, add_five}
+use lib.Seq.{take-suc-set, take_at, drop-drop, drop-append-add, sets, sets-eq, length-sets, length-take-le}
 use lib.Pow.{shr-shr, mod-mod-pow}
 use lib.Pow as P
 use Rattle.bits.specs.Bits as B
@@ -35,6 +36,14 @@ module _ {A : Type 0} where
   put_none d i =
       ap (λ (k : ℕ). take i d ++ [] ++ drop k d) (add-zero i) ∙ ap (λ (r : List A). r ++ drop i d) (append-nil (take i d)) ∙ take-append-drop i d
 
+  -- a part that is written anew from end to end is a run
+  pub part_run : (d part run : List A) (i k : ℕ) → part ≡ run → k ≡ length run → put_mid i k d part ≡ put d i run
+  unfolding put
+  part_run d part run i k e l =
+      ap₂ (λ (p : List A) (n : ℕ). take i d ++ (p ++ drop n (drop i d))) e l
+      ∙ ap (λ (r : List A). take i d ++ (run ++ r)) (drop-drop (length run) i d)
+      ∙ sym (append_assoc (take i d) run (drop (i + length run) d))
+
   -- single stores, one after the other, are a run
   pub put_sets : (run d : List A) (i : ℕ) → i + length run ≤ length d → sets d i run ≡ put d i run
   unfolding put
@@ -45,9 +54,6 @@ module _ {A : Type 0} where
 
   pub put_two : (d : List A) (i : ℕ) (a b : A) → i + 2 ≤ length d → set (set d i a) (i + 1) b ≡ put d i (a ∷ b ∷ [])
   put_two d i a b h = simp add-one (put_sets (a ∷ b ∷ []) d i h)
-
-  pub put_three : (d : List A) (i : ℕ) (a b c : A) → i + 3 ≤ length d → set (set (set d i a) (i + 1) b) (i + 2) c ≡ put d i (a ∷ b ∷ c ∷ [])
-  put_three d i a b c h = simp (add-one, add-two) (put_sets (a ∷ b ∷ c ∷ []) d i h)
 
   pub put_four : (d : List A) (i : ℕ) (a b c e : A) → i + 4 ≤ length d
       → set (set (set (set d i a) (i + 1) b) (i + 2) c) (i + 3) e ≡ put d i (a ∷ b ∷ c ∷ e ∷ [])
@@ -138,31 +144,22 @@ pub put_no_bytes : (d : List ℕ) (i N : ℕ) → d ≡ put d i (bytes_of 0 N)
 unfolding bytes_of
 put_no_bytes d i N = sym (put_none d i)
 
--- eight stores of one byte each are a word
-pub put_word : (d : List ℕ) (i w : ℕ) → i + 8 ≤ length d
-    → set (set (set (set (set (set (set (set d i (w % 2 ^ 8)) (i + 1) (w / 2 ^ 8 % 2 ^ 8)) (i + 2) (w / 2 ^ 8 / 2 ^ 8 % 2 ^ 8))
-    (i + 3) (w / 2 ^ 8 / 2 ^ 8 / 2 ^ 8 % 2 ^ 8)) (i + 4) (w / 2 ^ 8 / 2 ^ 8 / 2 ^ 8 / 2 ^ 8 % 2 ^ 8))
-    (i + 5) (w / 2 ^ 8 / 2 ^ 8 / 2 ^ 8 / 2 ^ 8 / 2 ^ 8 % 2 ^ 8)) (i + 6) (w / 2 ^ 8 / 2 ^ 8 / 2 ^ 8 / 2 ^ 8 / 2 ^ 8 / 2 ^ 8 % 2 ^ 8))
-    (i + 7) (w / 2 ^ 8 / 2 ^ 8 / 2 ^ 8 / 2 ^ 8 / 2 ^ 8 / 2 ^ 8 / 2 ^ 8 % 2 ^ 8)
-    ≡ put d i (bytes_of 8 w)
+-- a word's bytes, as the library has them
+pub word_run : (w : ℕ)
+    → w % 256 ∷ w / 256 % 256 ∷ w / 65536 % 256 ∷ w / 16777216 % 256 ∷ w / 4294967296 % 256 ∷ w / 1099511627776 % 256 ∷ w / 281474976710656 % 256
+    ∷ w / 72057594037927936 % 256 ∷ [] ≡ bytes_of 8 w
 unfolding bytes_of
-put_word d i w h = simp (add-one, add-two, add-three, add-four, add_five, add_six, add_seven) (put_sets (bytes_of 8 w) d i h)
+word_run w = simp div-div-eq-div-mul
 
--- one store is a byte
-pub put_byte : (d : List ℕ) (i w : ℕ) → i < length d → set d i (w % 2 ^ 8) ≡ put d i (bytes_of 1 w)
+-- one more byte of w, behind the j that stand in a part
+pub tail_step : (part : List ℕ) (j w v : ℕ) → j < length part → take j part ≡ bytes_of j w → v ≡ w / 2 ^ (8 * j)
+    → (take (j + 1) (set part j (v % 2 ^ 8)) ≡ bytes_of (j + 1) w) × (v / 2 ^ 8 ≡ w / 2 ^ (8 * (j + 1)))
 unfolding bytes_of
-put_byte d i w h = put_one d i (w % 2 ^ 8) (subst (λ (k : ℕ). k ≤ length d) (sym (add-one i)) h)
-
--- one more byte of w
-pub tail_step : (d₀ d : List ℕ) (i j w v : ℕ) → i + j < length d₀ → length d ≡ length d₀ → d ≡ put d₀ i (bytes_of j w) → v ≡ w / 2 ^ (8 * j)
-    → (set d (i + j) (v % 2 ^ 8) ≡ put d₀ i (bytes_of (j + 1) w)) × (v / 2 ^ 8 ≡ w / 2 ^ (8 * (j + 1)))
-tail_step d₀ d i j w v h l e ev =
-    let h₁ : i + j < length d = omega arith in
-    let h₂ : i ≤ length d₀ = omega arith in
+tail_step part j w v h e ev =
     let e₂ : 8 * j + 8 ≡ 8 * (j + 1) = omega arith in (
-      put_byte d (i + j) v h₁
-          ∙ ap (λ (x : List ℕ). put x (i + j) (bytes_of 1 v)) e
-          ∙ put_next d₀ i j 1 w v h₂ (ap (bytes_of 1) ev),
+      rw add-one (take-suc-set part j (v % 2 ^ 8) h)
+          ∙ ap₂ (λ (l : List ℕ) (x : ℕ). l ++ (x % 2 ^ 8 ∷ [])) e ev
+          ∙ sym (bytes_of_add j 1 w),
       ap (λ (x : ℕ). x / 2 ^ 8) ev ∙ shr-shr w (8 * j) 8 ∙ ap (λ (k : ℕ). w / 2 ^ k) e₂,
     )
 

@@ -1,9 +1,9 @@
 -- The packed number (01, Bits and numbers): bytes of eight bits. A byte's low bit says whether another follows; its upper seven bits are
 -- value, the lowest group first. There are at most five bytes, and the fifth holds at most 15. A longer form than needed is accepted.
-use Rattle.std.specs.Prelude.{ℕ, zero, suc, ◌+◌, ◌-◌, ◌*◌, ◌/◌, ◌%◌, ◌^◌, List, [], ◌∷◌, leb, eqb, if◌then◌else◌}
+use Rattle.std.specs.Prelude.{ℕ, zero, suc, ◌+◌, ◌-◌, ◌*◌, ◌/◌, ◌%◌, ◌^◌, List, [], ◌∷◌, leb, eqb, if◌then◌else◌, Result, Ok, Err}
 use Rattle.bits.specs.Bits.{field}
-use Rattle.bits.specs.declared.Packed.{Packed}
-use Rattle.bits.specs.declared.Packed.TheVariants.{Whole, Cut, GoesOn, Overflows}
+use Rattle.bits.specs.declared.Broken.{Broken}
+use Rattle.bits.specs.declared.Broken.TheVariants.{Cut, GoesOn, Overflows}
 
 abbrev pub most_bytes : ℕ
 most_bytes = 5
@@ -12,27 +12,38 @@ most_bytes = 5
 abbrev pub fifth_most : ℕ
 fifth_most = 15
 
--- What a number's rest becomes with n bytes before it whose groups are worth v. `Whole`: the value and the bytes that it takes; `Cut`: the whole
--- bytes before the window's end.
+-- a number that stands whole: its value, and how many bytes it takes
+pub record Whole : Type 0 where
+  pub value : ℕ
+  pub bytes : ℕ
+
+-- What stands where a packed number is due: a whole number, or why there is none.
+abbrev pub Packed : Type 0
+Packed = Result Whole Broken
+
+abbrev pub whole : (value bytes : ℕ) → Packed
+whole v n = Ok (record { value = v; bytes = n })
+
+-- What a number's rest becomes with n bytes before it whose groups are worth v. `Cut` has the whole bytes before the window's end.
 unfoldable pub after : (n v : ℕ) → Packed → Packed
-after n v (Whole value m) = Whole (v + 2 ^ (7 * n) * value) (n + m)
-after n v (Cut m) = Cut (n + m)
-after n v GoesOn = GoesOn
-after n v Overflows = Overflows
+after n v (Ok x) = whole (v + 2 ^ (7 * n) * x.value) (n + x.bytes)
+after n v (Err (Cut m)) = Err (Cut (n + m))
+after n v (Err GoesOn) = Err GoesOn
+after n v (Err Overflows) = Err Overflows
 
 -- one of the first four bytes, b, with what follows it
 unfoldable pub earlier_byte : (b : ℕ) (rest : Packed) → Packed
-earlier_byte b rest = if eqb (b % 2) 0 then Whole (b / 2) 1 else after 1 (b / 2) rest
+earlier_byte b rest = if eqb (b % 2) 0 then whole (b / 2) 1 else after 1 (b / 2) rest
 
 -- the fifth byte b
 unfoldable pub fifth_byte : (b : ℕ) → Packed
-fifth_byte b = if eqb (b % 2) 0 then (if leb (b / 2) fifth_most then Whole (b / 2) 1 else Overflows) else GoesOn
+fifth_byte b = if eqb (b % 2) 0 then (if leb (b / 2) fifth_most then whole (b / 2) 1 else Err Overflows) else Err GoesOn
 
 -- the number whose next byte stands at bit p of the len bits of W; `left` bytes may follow that one
 unfoldable pub packed_from : (left W len p : ℕ) → Packed
-packed_from zero W len p = if leb (p + 8) len then fifth_byte (field W p 8) else Cut 0
+packed_from zero W len p = if leb (p + 8) len then fifth_byte (field W p 8) else Err (Cut 0)
 packed_from (suc left) W len p =
-    if leb (p + 8) len then earlier_byte (field W p 8) (packed_from left W len (p + 8)) else Cut 0
+    if leb (p + 8) len then earlier_byte (field W p 8) (packed_from left W len (p + 8)) else Err (Cut 0)
 
 -- the packed number at bit p of the len bits of W
 unfoldable pub packed : (W len p : ℕ) → Packed

@@ -1,10 +1,8 @@
 -- Padded numbers (request 01): packed numbers of more bytes than their value needs, as zero in the bytes `01 00`. They are accepted like others.
-use Rattle.std.specs.Prelude.{ℕ, ◌+◌, ◌-◌, ◌*◌, ◌^◌, ◌<◌, ◌≡◌, Bool, ◌&&◌, List, [], ◌∷◌, ltb, if◌then◌else◌}
-use Rattle.bits.specs.Packed.{packed, Number}
-use Rattle.bits.specs.declared.Packed.{Packed}
-use Rattle.bits.specs.declared.Packed.TheVariants.{Whole, Cut, GoesOn, Overflows}
+use Rattle.std.specs.Prelude.{ℕ, ◌+◌, ◌-◌, ◌*◌, ◌^◌, ◌<◌, ◌≡◌, Bool, ◌&&◌, List, [], ◌∷◌, ltb, if◌then◌else◌, Result, Ok, Err}
+use Rattle.bits.specs.Packed.{Packed, whole, packed, Number}
+use Rattle.bits.specs.declared.Broken.{Broken}
 use Rattle.bits.specs.declared.Found.{Found}
-use Rattle.bits.specs.declared.Found.TheVariants as F
 
 -- A value in so many bytes: more than one, and the value fits in one byte less, so that the last byte's seven bits are 0. Asked of at most five bytes,
 -- which is what a packed number has.
@@ -15,11 +13,9 @@ abbrev pub is_padded : Number → Bool
 is_padded x = padded x.value x.bytes
 
 -- what stands where a packed number is due, a whole number with whether it is padded
-unfoldable pub found : Packed → Found
-found (Whole v n) = F.Whole v n (padded v n)
-found (Cut n) = F.Cut n
-found GoesOn = F.GoesOn
-found Overflows = F.Overflows
+unfoldable pub found : Packed → Result Found Broken
+found (Ok x) = Ok (record { value = x.value; bytes = x.bytes; padded = padded x.value x.bytes })
+found (Err why) = Err why
 
 -- 1 if so, else 0
 abbrev pub once : Bool → ℕ
@@ -36,5 +32,5 @@ pub record ShorterForm (value bytes : ℕ) : Type 0 where
   pub size : ℕ
   pub place : ℕ
   pub fewer : ℕ
-  pub reads : packed window size place ≡ Whole value fewer
+  pub reads : packed window size place ≡ whole value fewer
   pub less : fewer < bytes

@@ -10,21 +10,7 @@ pub fn store64(d: &mut [u8], i: usize, w: u64)
     requires { i + 8 ≤ length d.old }
     ensures { d.new ≡ put d.old i (bytes_of 8 w) }
 {
-    let w1 = w / 256;
-    let w2 = w1 / 256;
-    let w3 = w2 / 256;
-    let w4 = w3 / 256;
-    let w5 = w4 / 256;
-    let w6 = w5 / 256;
-    let w7 = w6 / 256;
-    d[i] = (w % 256) as u8;
-    d[i + 1] = (w1 % 256) as u8;
-    d[i + 2] = (w2 % 256) as u8;
-    d[i + 3] = (w3 % 256) as u8;
-    d[i + 4] = (w4 % 256) as u8;
-    d[i + 5] = (w5 % 256) as u8;
-    d[i + 6] = (w6 % 256) as u8;
-    d[i + 7] = (w7 % 256) as u8;
+    d[i..i + 8].copy_from_slice(&w.to_le_bytes());
 }
 
 // n bytes of w from byte i of d.
@@ -33,11 +19,9 @@ pub fn store_tail(d: &mut [u8], i: usize, n: usize, w: u64)
     ensures { d.new ≡ put d.old i (bytes_of n w) }
 {
     let mut v = w;
-    let mut j: usize = 0;
-    while j < n {
-        d[i + j] = (v % 256) as u8;
-        v = v / 256;
-        j += 1;
+    for x in &mut d[i..i + n] {
+        *x = (v % 256) as u8;
+        v /= 256;
     }
 }
 
@@ -46,12 +30,8 @@ fn copy_words(s: &[u8], at: u64, d: &mut [u8], count: u64)
     requires { (at + count ≤ 8 * length s.now) × (at + count < 2 ^ 64) × (bytes_for count ≤ length d.old) }
     ensures { d.new ≡ put d.old 0 (bytes_of (8 * (count / 64)) (field (num s.now) at count)) }
 {
-    let words = count / 64;
-    let mut k: u64 = 0;
-    while k < words {
-        let w = word_at(s, at + 64 * k);
-        store64(d, (8 * k) as usize, w);
-        k += 1;
+    for k in 0..count / 64 {
+        store64(d, (8 * k) as usize, word_at(s, at + 64 * k));
     }
 }
 

@@ -3,7 +3,8 @@ ghost use Rattle.std.specs.Prelude.{◌≡◌};
 ghost use Rattle.bits.specs.Decimals.{decimal_length_lem};
 
 // How many digits n has: one, and one more for each comparison that holds. Of three only the first is a branch, so that one digit is
-// told by one comparison, and an index, which has four digits at most, by four at most.
+// told by one comparison, and an index, which has four digits at most, by four at most. The library's `ilog10` compares once with a power
+// of ten that it reads from a table, which takes more time and instructions (docs/DECISIONS.md, 84).
 pub fn decimal_length(n: u32) -> usize
     ensures { result ≡ decimal_length_lem n }
 {

@@ -3,7 +3,7 @@ ghost use Rattle.std.specs.Prelude.{◌≡◌, ◌+◌, ◌*◌, ◌≤◌, ◌<
 ghost use Rattle.bits.specs.Bits.{num, field};
 ghost use Rattle.bits.specs.Sizes.{longest_window};
 
-use crate::load::{load, load8, load16, load64};
+use crate::load::{load, load_bytes, load_two};
 
 // count bits from bit at.
 pub fn field_at(s: &[u8], at: u64, count: u64) -> u64
@@ -17,7 +17,7 @@ pub fn field_at(s: &[u8], at: u64, count: u64) -> u64
     if off + count <= 64 {
         low & mask
     } else {
-        let high = load8(s, i + 8);
+        let high = load_bytes(s, i + 8, 1);
         (low | (high << (64 - off))) & mask
     }
 }
@@ -34,7 +34,8 @@ pub fn field_of(s: &[u8], at: u64, count: u64) -> u64
     }
 }
 
-// The byte from bit at.
+// The byte from bit at. This and the two below are `field_at` of their counts, each in the fewest loads that hold so many bits: the place of
+// the bits decides between other loads in each, so that one function of the count has a branch for every count.
 pub fn byte_at(s: &[u8], at: u64) -> u64
     requires { at + 8 ≤ 8 * length s.now }
     ensures { result ≡ field (num s.now) at 8 }
@@ -42,9 +43,9 @@ pub fn byte_at(s: &[u8], at: u64) -> u64
     let i = (at / 8) as usize;
     let off = at % 8;
     if off == 0 {
-        load8(s, i)
+        load_bytes(s, i, 1)
     } else {
-        (load16(s, i) >> off) % 256
+        (load_two(s, i) >> off) % 256
     }
 }
 
@@ -55,8 +56,8 @@ pub fn two_bytes_at(s: &[u8], at: u64) -> u64
 {
     let i = (at / 8) as usize;
     let last = ((at + 15) / 8) as usize;
-    let low = load16(s, i);
-    let high = load8(s, last);
+    let low = load_bytes(s, i, 2);
+    let high = load_bytes(s, last, 1);
     let three = low + 0x1_0000 * high;
     let off = at % 8;
     (three >> off) % 65536
@@ -69,10 +70,10 @@ pub fn word_at(s: &[u8], at: u64) -> u64
 {
     let i = (at / 8) as usize;
     let off = at % 8;
-    let low = load64(s, i);
+    let low = load_bytes(s, i, 8);
     if off == 0 {
         low
     } else {
-        (low >> off) | (load8(s, i + 8) << (64 - off))
+        (low >> off) | (load_bytes(s, i + 8, 1) << (64 - off))
     }
 }

@@ -16,24 +16,21 @@ pub mod load;
 pub mod number;
 pub mod sizes;
 
-// What stands where a packed number is due, as the definitions have it; the code has `Found`.
+// A packed number that was found: its value, how many bytes it takes, and whether it is padded.
 #[derive(Clone, Copy)]
-pub enum Packed {
-    // The number, and how many bytes it takes.
-    Whole(u32, u64),
+pub struct Found {
+    pub value: u32,
+    pub bytes: u64,
+    pub padded: bool,
+}
+
+// Why no packed number stands where one is due.
+#[derive(Clone, Copy)]
+pub enum Broken {
     // The window ends inside the byte after so many whole ones.
     Cut(u64),
     // The fifth byte says that another follows.
     GoesOn,
     // The fifth byte holds more than 15.
-    Overflows,
-}
-
-// The same as the code finds it: with a whole number, whether it is padded.
-#[derive(Clone, Copy)]
-pub enum Found {
-    Whole(u32, u64, bool),
-    Cut(u64),
-    GoesOn,
     Overflows,
 }

@@ -1,31 +1,10 @@
 -- A cursor from a test, and the bit reader's answers as the struct that tests are given: the refusal's number and values, or zeros; the value, as
 -- its type has it; where the cursor stands, refused or not; the reader that was made. The rest is 0 and false.
-use Rattle.std.specs.Prelude.{ℕ, ◌%◌, ◌^◌, Bool, false, ℤ, pos}
+use Rattle.std.specs.Prelude.{◌≡◌, ℕ, ◌%◌, ◌^◌, Bool, false, ℤ, pos, Result, Ok, Err}
 use Rattle.bitio.specs.Refusals.{numbered, stands_after_lem}
 use Rattle.bitio.specs.declared.Cursor.{Cursor}
 use Rattle.bitio.specs.declared.Refusal.{Refusal}
-use Rattle.bitio.specs.declared.Opened.{Opened}
-use Rattle.bitio.specs.declared.Opened.TheVariants as Open
-use Rattle.bitio.specs.declared.Measured.{Measured}
-use Rattle.bitio.specs.declared.Measured.TheVariants as Measure
-use Rattle.bitio.specs.declared.Ended.{Ended}
-use Rattle.bitio.specs.declared.Ended.TheVariants as End
-use Rattle.bitio.specs.declared.Skipped.{Skipped}
-use Rattle.bitio.specs.declared.Skipped.TheVariants as Skip
-use Rattle.bitio.specs.declared.SubReader.{SubReader}
-use Rattle.bitio.specs.declared.SubReader.TheVariants as Sub
-use Rattle.bitio.specs.declared.BitRead.{BitRead}
-use Rattle.bitio.specs.declared.BitRead.TheVariants as B1
-use Rattle.bitio.specs.declared.U8Read.{U8Read}
-use Rattle.bitio.specs.declared.U8Read.TheVariants as U8
-use Rattle.bitio.specs.declared.U16Read.{U16Read}
-use Rattle.bitio.specs.declared.U16Read.TheVariants as U16
-use Rattle.bitio.specs.declared.U32Read.{U32Read}
-use Rattle.bitio.specs.declared.U32Read.TheVariants as U32
-use Rattle.bitio.specs.declared.I32Read.{I32Read}
-use Rattle.bitio.specs.declared.I32Read.TheVariants as I32
-use Rattle.bitio.specs.declared.U64Read.{U64Read}
-use Rattle.bitio.specs.declared.U64Read.TheVariants as U64
+use Rattle.bitio.specs.declared.Read.{Read}
 use Rattle.probes.specs.declared.VrfProbeCursor.{VrfProbeCursor}
 use Rattle.probes.specs.declared.VrfProbe.{VrfProbe}
 
@@ -62,48 +41,38 @@ abbrev pub refusal_given : (at : ℕ) → Refusal → VrfProbe
 refusal_given at r =
     refused_at (numbered r).number (numbered r).first (numbered r).second (numbered r).third (stands_after_lem at r % 2 ^ 64)
 
--- ---- the answers of calls at a cursor that stood at `at`; a reader that is opened stands at 0
+-- the answer of a call at a cursor that stood at `at`: what was given, as `shown` has it, or the refusal
+abbrev pub gives_lem : {A : Type 0} → (shown : A → VrfProbe) → (at : ℕ) → Result A Refusal → VrfProbe
+gives_lem shown at (Ok x) = shown x
+gives_lem shown at (Err r) = refusal_given at r
 
-abbrev pub opened_gives_lem : Opened → VrfProbe
-opened_gives_lem (Open.Reader c) = reader_given_lem c 0
-opened_gives_lem (Open.Refused r) = refusal_given 0 r
+-- ---- a reader that is opened stands at 0
 
-abbrev pub measured_gives_lem : (at : ℕ) → Measured → VrfProbe
-measured_gives_lem at (Measure.Value x) = value_given_lem x (pos 0) false at
-measured_gives_lem at (Measure.Refused r) = refusal_given at r
+abbrev pub opened_gives_lem : Result Cursor Refusal → VrfProbe
+opened_gives_lem a = gives_lem (λ c. reader_given_lem c 0) 0 a
 
-abbrev pub ended_gives_lem : (at : ℕ) → Ended → VrfProbe
-ended_gives_lem at (End.Value b) = value_given_lem 0 (pos 0) b at
-ended_gives_lem at (End.Refused r) = refusal_given at r
+abbrev pub measured_gives_lem : (at : ℕ) → Result ℕ Refusal → VrfProbe
+measured_gives_lem at a = gives_lem (λ x. value_given_lem x (pos 0) false at) at a
 
-abbrev pub skipped_gives_lem : (at : ℕ) → Skipped → VrfProbe
-skipped_gives_lem at (Skip.Done p) = value_given_lem 0 (pos 0) false p
-skipped_gives_lem at (Skip.Refused r) = refusal_given at r
+abbrev pub ended_gives_lem : (at : ℕ) → Result Bool Refusal → VrfProbe
+ended_gives_lem at a = gives_lem (λ b. value_given_lem 0 (pos 0) b at) at a
 
-abbrev pub sub_gives : (at : ℕ) → SubReader → VrfProbe
-sub_gives at (Sub.Window c p) = reader_given_lem c p
-sub_gives at (Sub.Refused r) = refusal_given at r
+abbrev pub skipped_gives_lem : (at : ℕ) → Result ℕ Refusal → VrfProbe
+skipped_gives_lem at a = gives_lem (λ p. value_given_lem 0 (pos 0) false p) at a
 
-abbrev pub bit_gives_lem : (at : ℕ) → BitRead → VrfProbe
-bit_gives_lem at (B1.Value x p) = value_given_lem 0 (pos 0) x p
-bit_gives_lem at (B1.Refused r) = refusal_given at r
+abbrev pub sub_gives : (at : ℕ) → Result (Read Cursor) Refusal → VrfProbe
+sub_gives at a = gives_lem (λ x. reader_given_lem x.value x.next) at a
 
-abbrev pub u8_gives_lem : (at : ℕ) → U8Read → VrfProbe
-u8_gives_lem at (U8.Value x p) = value_given_lem x (pos 0) false p
-u8_gives_lem at (U8.Refused r) = refusal_given at r
+abbrev pub bit_gives_lem : (at : ℕ) → Result (Read Bool) Refusal → VrfProbe
+bit_gives_lem at a = gives_lem (λ x. value_given_lem 0 (pos 0) x.value x.next) at a
 
-abbrev pub u16_gives_lem : (at : ℕ) → U16Read → VrfProbe
-u16_gives_lem at (U16.Value x p) = value_given_lem x (pos 0) false p
-u16_gives_lem at (U16.Refused r) = refusal_given at r
+-- of `read_u8`, `read_u16`, `read_u32` and `read_u64`
+abbrev pub number_gives_lem : (at : ℕ) → Result (Read ℕ) Refusal → VrfProbe
+number_gives_lem at a = gives_lem (λ x. value_given_lem x.value (pos 0) false x.next) at a
 
-abbrev pub u32_gives_lem : (at : ℕ) → U32Read → VrfProbe
-u32_gives_lem at (U32.Value x p) = value_given_lem x (pos 0) false p
-u32_gives_lem at (U32.Refused r) = refusal_given at r
+abbrev pub i32_gives_lem : (at : ℕ) → Result (Read ℤ) Refusal → VrfProbe
+i32_gives_lem at a = gives_lem (λ x. value_given_lem 0 x.value false x.next) at a
 
-abbrev pub i32_gives_lem : (at : ℕ) → I32Read → VrfProbe
-i32_gives_lem at (I32.Value x p) = value_given_lem 0 x false p
-i32_gives_lem at (I32.Refused r) = refusal_given at r
-
-abbrev pub u64_gives_lem : (at : ℕ) → U64Read → VrfProbe
-u64_gives_lem at (U64.Value x p) = value_given_lem x (pos 0) false p
-u64_gives_lem at (U64.Refused r) = refusal_given at r
+-- a number that a value converts to
+abbrev pub NumberGiven : (converts : ℕ → Type 0) → (next : ℕ) → VrfProbe → Type 0
+NumberGiven converts next r = (n : ℕ) × converts n × (r ≡ value_given_lem n (pos 0) false next)

@@ -1,13 +1,10 @@
 // Answers of the bit reader as the one struct that tests are given.
-ghost use Rattle.std.specs.Prelude.{◌≡◌};
-ghost use Rattle.probes.specs.Answers.{cursor_of_lem, value_given_lem, reader_given_lem, refusal_given, opened_gives_lem, measured_gives_lem, ended_gives_lem, skipped_gives_lem, sub_gives, bit_gives_lem, u8_gives_lem, u16_gives_lem, u32_gives_lem, i32_gives_lem, u64_gives_lem};
+ghost use Rattle.std.specs.Prelude.{◌≡◌, MatchResult};
+ghost use Rattle.probes.specs.Answers.{cursor_of_lem, value_given_lem, reader_given_lem, refusal_given, opened_gives_lem, measured_gives_lem, ended_gives_lem, skipped_gives_lem, sub_gives, bit_gives_lem, NumberGiven, i32_gives_lem};
 
 use crate::{VrfProbe, VrfProbeCursor};
 use bitio::said::{said, stands_after};
-use bitio::{
-    BitRead, Cursor, Ended, I32Read, Measured, Opened, Refusal, Skipped, SubReader, U8Read,
-    U16Read, U32Read, U64Read,
-};
+use bitio::{Cursor, Read, Refusal};
 
 pub fn cursor_of(c: VrfProbeCursor) -> Cursor
     ensures { result ≡ cursor_of_lem c }
@@ -83,101 +80,65 @@ fn refused(why: Refusal, at: u64) -> VrfProbe
     }
 }
 
-pub fn opened_gives(a: Opened) -> VrfProbe
+// What was given, as `shown` has it, or what the refusal says.
+fn gives<T, F: FnOnce(T) -> VrfProbe>(a: Result<T, Refusal>, at: u64, shown: F) -> VrfProbe
+    requires { F.IsAlwaysCallable shown }
+    ensures { MatchResult a (λ x. F.post shown x result) (λ r. result ≡ refusal_given at r) }
+{
+    match a {
+        Ok(x) => shown(x),
+        Err(r) => refused(r, at),
+    }
+}
+
+pub fn opened_gives(a: Result<Cursor, Refusal>) -> VrfProbe
     ensures { result ≡ opened_gives_lem a }
 {
-    match a {
-        Opened::Reader(c) => reader_given(c, 0),
-        Opened::Refused(r) => refused(r, 0),
-    }
+    gives(a, 0, |c| reader_given(c, 0))
 }
 
-pub fn measured_gives(a: Measured, at: u64) -> VrfProbe
+pub fn measured_gives(a: Result<u64, Refusal>, at: u64) -> VrfProbe
     ensures { result ≡ measured_gives_lem at a }
 {
-    match a {
-        Measured::Value(value) => value_given(value, 0, false, at),
-        Measured::Refused(r) => refused(r, at),
-    }
+    gives(a, at, |x| value_given(x, 0, false, at))
 }
 
-pub fn ended_gives(a: Ended, at: u64) -> VrfProbe
+pub fn ended_gives(a: Result<bool, Refusal>, at: u64) -> VrfProbe
     ensures { result ≡ ended_gives_lem at a }
 {
-    match a {
-        Ended::Value(value) => value_given(0, 0, value, at),
-        Ended::Refused(r) => refused(r, at),
-    }
+    gives(a, at, |b| value_given(0, 0, b, at))
 }
 
-pub fn skipped_gives(a: Skipped, at: u64) -> VrfProbe
+pub fn skipped_gives(a: Result<u64, Refusal>, at: u64) -> VrfProbe
     ensures { result ≡ skipped_gives_lem at a }
 {
-    match a {
-        Skipped::Done(next) => value_given(0, 0, false, next),
-        Skipped::Refused(r) => refused(r, at),
-    }
+    gives(a, at, |next| value_given(0, 0, false, next))
 }
 
-pub fn sub_gives(a: SubReader, at: u64) -> VrfProbe
+pub fn sub_gives(a: Result<Read<Cursor>, Refusal>, at: u64) -> VrfProbe
     ensures { result ≡ sub_gives at a }
 {
-    match a {
-        SubReader::Window(c, next) => reader_given(c, next),
-        SubReader::Refused(r) => refused(r, at),
-    }
+    gives(a, at, |x| reader_given(x.value, x.next))
 }
 
-pub fn bit_gives(a: BitRead, at: u64) -> VrfProbe
+pub fn bit_gives(a: Result<Read<bool>, Refusal>, at: u64) -> VrfProbe
     ensures { result ≡ bit_gives_lem at a }
 {
-    match a {
-        BitRead::Value(value, next) => value_given(0, 0, value, next),
-        BitRead::Refused(r) => refused(r, at),
-    }
+    gives(a, at, |x| value_given(0, 0, x.value, x.next))
 }
 
-pub fn u8_gives(a: U8Read, at: u64) -> VrfProbe
-    ensures { result ≡ u8_gives_lem at a }
-{
-    match a {
-        U8Read::Value(value, next) => value_given(value as u64, 0, false, next),
-        U8Read::Refused(r) => refused(r, at),
-    }
-}
-
-pub fn u16_gives(a: U16Read, at: u64) -> VrfProbe
-    ensures { result ≡ u16_gives_lem at a }
-{
-    match a {
-        U16Read::Value(value, next) => value_given(value as u64, 0, false, next),
-        U16Read::Refused(r) => refused(r, at),
-    }
-}
-
-pub fn u32_gives(a: U32Read, at: u64) -> VrfProbe
-    ensures { result ≡ u32_gives_lem at a }
-{
-    match a {
-        U32Read::Value(value, next) => value_given(value as u64, 0, false, next),
-        U32Read::Refused(r) => refused(r, at),
-    }
-}
-
-pub fn i32_gives(a: I32Read, at: u64) -> VrfProbe
+pub fn i32_gives(a: Result<Read<i32>, Refusal>, at: u64) -> VrfProbe
     ensures { result ≡ i32_gives_lem at a }
 {
-    match a {
-        I32Read::Value(value, next) => value_given(0, value, false, next),
-        I32Read::Refused(r) => refused(r, at),
-    }
+    gives(a, at, |x| value_given(0, x.value, false, x.next))
 }
 
-pub fn u64_gives(a: U64Read, at: u64) -> VrfProbe
-    ensures { result ≡ u64_gives_lem at a }
+// A number of any width.
+pub fn number_gives<T: Into<u64>>(a: Result<Read<T>, Refusal>, at: u64) -> VrfProbe
+    ensures { MatchResult a (λ x. NumberGiven (T.converts x.value) x.next result) (λ r. result ≡ refusal_given at r) }
 {
     match a {
-        U64Read::Value(value, next) => value_given(value, 0, false, next),
-        U64Read::Refused(r) => refused(r, at),
+        Ok(x) => value_given(x.value.into(), 0, false, x.next),
+        Err(r) => refused(r, at),
     }
 }

@@ -9,7 +9,7 @@ mod answers;
 ghost use Rattle.std.specs.Prelude.{◌≡◌};
 ghost use Rattle.bitio.specs.Cursors.{opened, whole_of, position_of, length_of, remaining_of, end_of, skipped, skipped_all, sub_reader_lem};
 ghost use Rattle.bitio.specs.Reads.{read_bit_lem, read_u8_lem, read_u16_lem, read_u32_lem, read_i32_lem, read_u64_lem};
-ghost use Rattle.probes.specs.Answers.{cursor_of_lem, reader_given_lem, opened_gives_lem, measured_gives_lem, ended_gives_lem, skipped_gives_lem, sub_gives, bit_gives_lem, u8_gives_lem, u16_gives_lem, u32_gives_lem, i32_gives_lem, u64_gives_lem};
+ghost use Rattle.probes.specs.Answers.{cursor_of_lem, reader_given_lem, opened_gives_lem, measured_gives_lem, ended_gives_lem, skipped_gives_lem, sub_gives, bit_gives_lem, number_gives_lem, i32_gives_lem};
 
 // A cursor: its window's first bit, the next bit of the window, the window's length.
 #[repr(C)]
@@ -130,29 +130,29 @@ pub extern "C" fn vrf_probe_read_bit(bytes: &[u8], cursor: VrfProbeCursor) -> Vr
 
 #[unsafe(no_mangle)]
 pub extern "C" fn vrf_probe_read_u8(bytes: &[u8], cursor: VrfProbeCursor) -> VrfProbe
-    ensures { result ≡ u8_gives_lem cursor.pos (read_u8_lem bytes.now (cursor_of_lem cursor)) }
+    ensures { result ≡ number_gives_lem cursor.pos (read_u8_lem bytes.now (cursor_of_lem cursor)) }
 {
     let c = answers::cursor_of(cursor);
     let answer = bitio::read_u8(bytes, c);
-    answers::u8_gives(answer, c.pos)
+    answers::number_gives(answer, c.pos)
 }
 
 #[unsafe(no_mangle)]
 pub extern "C" fn vrf_probe_read_u16(bytes: &[u8], cursor: VrfProbeCursor) -> VrfProbe
-    ensures { result ≡ u16_gives_lem cursor.pos (read_u16_lem bytes.now (cursor_of_lem cursor)) }
+    ensures { result ≡ number_gives_lem cursor.pos (read_u16_lem bytes.now (cursor_of_lem cursor)) }
 {
     let c = answers::cursor_of(cursor);
     let answer = bitio::read_u16(bytes, c);
-    answers::u16_gives(answer, c.pos)
+    answers::number_gives(answer, c.pos)
 }
 
 #[unsafe(no_mangle)]
 pub extern "C" fn vrf_probe_read_u32(bytes: &[u8], cursor: VrfProbeCursor) -> VrfProbe
-    ensures { result ≡ u32_gives_lem cursor.pos (read_u32_lem bytes.now (cursor_of_lem cursor)) }
+    ensures { result ≡ number_gives_lem cursor.pos (read_u32_lem bytes.now (cursor_of_lem cursor)) }
 {
     let c = answers::cursor_of(cursor);
     let answer = bitio::read_u32(bytes, c);
-    answers::u32_gives(answer, c.pos)
+    answers::number_gives(answer, c.pos)
 }
 
 #[unsafe(no_mangle)]
@@ -166,9 +166,9 @@ pub extern "C" fn vrf_probe_read_i32(bytes: &[u8], cursor: VrfProbeCursor) -> Vr
 
 #[unsafe(no_mangle)]
 pub extern "C" fn vrf_probe_read_u64(bytes: &[u8], cursor: VrfProbeCursor) -> VrfProbe
-    ensures { result ≡ u64_gives_lem cursor.pos (read_u64_lem bytes.now (cursor_of_lem cursor)) }
+    ensures { result ≡ number_gives_lem cursor.pos (read_u64_lem bytes.now (cursor_of_lem cursor)) }
 {
     let c = answers::cursor_of(cursor);
     let answer = bitio::read_u64(bytes, c);
-    answers::u64_gives(answer, c.pos)
+    answers::number_gives(answer, c.pos)
 }

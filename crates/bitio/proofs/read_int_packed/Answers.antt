@@ -1,150 +1,69 @@
 -- `bitio::read_int_packed` meets its contract: the window's number is one of the bytes, and each of its cases has its answer.
-use Rattle.std.proofs.Common.{◌≡◌, ℕ, ◌+◌, ◌*◌, ◌≤◌, Bool, true, sym, ap, ◌∙◌, arith}
-use Rattle.bitio.proofs.CursorLaws.{bad_way, at_good, passed, good_le}
+use Rattle.std.proofs.Common.{◌≡◌, ℕ, ◌+◌, Bool, List, sym, ap, ◌∙◌, arith, Result, Ok, Err}
+use Rattle.bitio.proofs.CursorLaws.{good_way}
 use Rattle.bitio.proofs.ReadLaws.{packed_here}
 use Rattle.bits.proofs.PackedLaws.{whole_within, whole_bytes, cut_within}
-use Rattle.bits.specs.Packed.{most_bytes}
-use Rattle.bits.specs.Padded.{padded}
+use Rattle.bits.specs.Bits.{num}
+use Rattle.bits.specs.Packed.{packed}
+use Rattle.bits.specs.Padded.{padded, found}
 use Rattle.bits.proofs.PaddedLaws.{plain, plain_found, found_padded}
 use Rattle.bits.specs.declared.Found.{Found}
-use Rattle.bits.specs.declared.Found.TheVariants.{Whole, Cut}
-use Rattle.bitio.specs.Cursors.{good, bits_of}
+use Rattle.bits.specs.declared.Broken.{Broken}
+use Rattle.bitio.specs.Cursors.{good_or_refused_lem}
 use Rattle.bitio.specs.Numbers.{packed_number, packed_answer, read_int_packed_lem}
-use Rattle.bitio.specs.declared.PackedRead.TheVariants.{Value, Refused}
+use Rattle.bitio.specs.declared.Cursor.{Cursor}
+use Rattle.bitio.specs.declared.Read.{Read}
+use Rattle.bitio.specs.declared.PackedNumber.{PackedNumber}
+use Rattle.bitio.specs.declared.Refusal.{Refusal}
 use Rattle.bitio.proofs.read_int_packed.Goals as goal
 
 -- whether it is padded, as it was found out
-told : (v n p : ℕ) {b : Bool} → b ≡ padded v n → Value (record { value = v; bytes = n; padded = b }) p ≡ Value (packed_number v n) p
-told v n p e = ap (λ (b : Bool). Value (record { value = v; bytes = n; padded = b }) p) e
+told : (v n p : ℕ) {b : Bool} → b ≡ padded v n
+    → ◌≡◌ {A = Result (Read PackedNumber) Refusal} (Ok (record { value = record { value = v; bytes = n; padded = b }; next = p })) (Ok (record { value = packed_number v n; next = p }))
+told v n p e = ap (λ (b : Bool). Ok (record { value = record { value = v; bytes = n; padded = b }; next = p })) e
 
-pub returns-then-not-is_good : goal.returns-then-not-is_good
-returns-then-not-is_good c = bad_way _ _ Refused _ _ _ c.is_good.ensures c.if-not-is_good.true c.bad_cursor.ensures
-
-pub overflow_add-at : goal.overflow_add-at
-overflow_add-at c =
-    let fine : good c.args.bytes.now c.args.c ≡ true =
-    passed _ _ _ c.is_good.ensures c.if-not-is_good.false in
-    let l = good_le _ _ fine in omega arith
-
-pub overflow_add-end : goal.overflow_add-end
-overflow_add-end c =
-    let fine : good c.args.bytes.now c.args.c ≡ true =
-    passed _ _ _ c.is_good.ensures c.if-not-is_good.false in
-    let l = good_le _ _ fine in omega arith
-
-pub packed_at-found-requires : goal.packed_at-found-requires
-packed_at-found-requires c =
-    let fine : good c.args.bytes.now c.args.c ≡ true =
-    passed _ _ _ c.is_good.ensures c.if-not-is_good.false in
-    let l = good_le _ _ fine in omega arith
+-- what was found at the cursor is what the contract names
+found_here : (s : List ℕ) (c : Cursor) (u : Unit {0}) (x : Result Found Broken) → Ok u ≡ good_or_refused_lem s c
+    → x ≡ found (packed (num s) (c.start + c.len) (c.start + c.pos)) → packed_answer c.len c.pos (plain x) ≡ read_int_packed_lem s c
+found_here s c u x g e = sym (good_way s c _ u g ∙ ap (packed_answer c.len c.pos) (packed_here s c ∙ plain_found _ e))
 
 pub overflow_mul-next : goal.overflow_mul-next
 overflow_mul-next c =
-    let fine : good c.args.bytes.now c.args.c ≡ true =
-    passed _ _ _ c.is_good.ensures c.if-not-is_good.false in
-    let ends : (n : ℕ) →
-    let a = c.args in
-    a.c.start + a.c.pos + 8 * n ≤ a.c.start + a.c.len → a.c.pos + 8 * n ≤ bits_of a.bytes.now =
-    λ n h. let l = good_le _ _ fine in omega arith in
-    let whole-ends : (v n : ℕ) (b : Bool) → c.packed_at-found.result ≡ Whole v n b →
-    let a = c.args in
-    a.c.pos + 8 * n ≤ bits_of a.bytes.now =
-    λ v n b e. let l = good_le _ _ fine in
-    ends n (whole_within _ _ _ (omega arith) v n (plain_found _ (sym e ∙ c.packed_at-found.ensures))) in
-    omega (arith, whole-ends _ _ _ c.in-Whole.is)
+    let w = c.in_ok-good_or_refused.ensures in
+    omega (arith, whole_within _ _ _ (omega arith) _ _ (plain_found _ c.in-Ok.ensures))
 
 pub overflow_add-next : goal.overflow_add-next
 overflow_add-next c =
-    let fine : good c.args.bytes.now c.args.c ≡ true =
-    passed _ _ _ c.is_good.ensures c.if-not-is_good.false in
-    let ends : (n : ℕ) →
-    let a = c.args in
-    a.c.start + a.c.pos + 8 * n ≤ a.c.start + a.c.len → a.c.pos + 8 * n ≤ bits_of a.bytes.now =
-    λ n h. let l = good_le _ _ fine in omega arith in
-    let whole-ends : (v n : ℕ) (b : Bool) → c.packed_at-found.result ≡ Whole v n b →
-    let a = c.args in
-    a.c.pos + 8 * n ≤ bits_of a.bytes.now =
-    λ v n b e. let l = good_le _ _ fine in
-    ends n (whole_within _ _ _ (omega arith) v n (plain_found _ (sym e ∙ c.packed_at-found.ensures))) in
-    omega (arith, whole-ends _ _ _ c.in-Whole.is)
+    let w = c.in_ok-good_or_refused.ensures in
+    omega (arith, whole_within _ _ _ (omega arith) _ _ (plain_found _ c.in-Ok.ensures))
 
 pub overflow_cast-taken : goal.overflow_cast-taken
-overflow_cast-taken c =
-    let few_bytes : (v n : ℕ) (b : Bool) → c.packed_at-found.result ≡ Whole v n b → n ≤ most_bytes =
-    λ v n b e. whole_bytes _ _ _ v n (plain_found _ (sym e ∙ c.packed_at-found.ensures)) in
-    omega (arith, few_bytes _ _ _ c.in-Whole.is)
+overflow_cast-taken c = omega (arith, whole_bytes _ _ _ _ _ (plain_found _ c.in-Ok.ensures))
 
 pub overflow_mul-stop : goal.overflow_mul-stop
 overflow_mul-stop c =
-    let fine : good c.args.bytes.now c.args.c ≡ true =
-    passed _ _ _ c.is_good.ensures c.if-not-is_good.false in
-    let ends : (n : ℕ) →
-    let a = c.args in
-    a.c.start + a.c.pos + 8 * n ≤ a.c.start + a.c.len → a.c.pos + 8 * n ≤ bits_of a.bytes.now =
-    λ n h. let l = good_le _ _ fine in omega arith in
-    let cut-ends : (n : ℕ) → c.packed_at-found.result ≡ Cut n →
-    let a = c.args in
-    a.c.pos + 8 * n ≤ bits_of a.bytes.now =
-    λ n e. let l = good_le _ _ fine in
-    ends n (cut_within _ _ _ (omega arith) n (plain_found _ (sym e ∙ c.packed_at-found.ensures))) in
-    omega (arith, cut-ends _ c.in-Cut.is)
+    let w = c.in_ok-good_or_refused.ensures in
+    omega (arith, cut_within _ _ _ (omega arith) _ (plain_found _ (sym (c.in-Err-Cut.is ∙ ap Err (rw c.in-Err-Cut.is at c.in-Err-Cut.field-0-is)) ∙ c.packed_at-found.ensures)))
 
 pub overflow_add-stop : goal.overflow_add-stop
 overflow_add-stop c =
-    let fine : good c.args.bytes.now c.args.c ≡ true =
-    passed _ _ _ c.is_good.ensures c.if-not-is_good.false in
-    let ends : (n : ℕ) →
-    let a = c.args in
-    a.c.start + a.c.pos + 8 * n ≤ a.c.start + a.c.len → a.c.pos + 8 * n ≤ bits_of a.bytes.now =
-    λ n h. let l = good_le _ _ fine in omega arith in
-    let cut-ends : (n : ℕ) → c.packed_at-found.result ≡ Cut n →
-    let a = c.args in
-    a.c.pos + 8 * n ≤ bits_of a.bytes.now =
-    λ n e. let l = good_le _ _ fine in
-    ends n (cut_within _ _ _ (omega arith) n (plain_found _ (sym e ∙ c.packed_at-found.ensures))) in
-    omega (arith, cut-ends _ c.in-Cut.is)
+    let w = c.in_ok-good_or_refused.ensures in
+    omega (arith, cut_within _ _ _ (omega arith) _ (plain_found _ (sym (c.in-Err-Cut.is ∙ ap Err (rw c.in-Err-Cut.is at c.in-Err-Cut.field-0-is)) ∙ c.packed_at-found.ensures)))
 
-pub returns-in-Whole : goal.returns-in-Whole
+pub returns-in-Ok : goal.returns-in-Ok
 unfolding packed_answer
-returns-in-Whole c =
-    let fine : good c.args.bytes.now c.args.c ≡ true =
-    passed _ _ _ c.is_good.ensures c.if-not-is_good.false in
-    let found_is : (x : Found) → c.packed_at-found.result ≡ x →
-    let a = c.args in
-    packed_answer a.c.len a.c.pos (plain x) ≡ read_int_packed_lem a.bytes.now a.c =
-    λ x e. sym (at_good _ _ Refused _ fine ∙ ap (packed_answer _ _) (packed_here _ _ ∙ plain_found _ (sym e ∙ c.packed_at-found.ensures))) in
-    let e = c.in-Whole.is in
-    told _ _ _ (found_padded _ (sym e ∙ c.packed_at-found.ensures)) ∙ found_is _ e
+returns-in-Ok c =
+    let e = c.in-Ok.ensures in
+    told _ _ _ (found_padded _ e) ∙ found_here _ _ _ _ c.in_ok-good_or_refused.ensures.value e
 
-pub returns-in-Cut : goal.returns-in-Cut
+pub returns-in-Err-Cut : goal.returns-in-Err-Cut
 unfolding packed_answer
-returns-in-Cut c =
-    let fine : good c.args.bytes.now c.args.c ≡ true =
-    passed _ _ _ c.is_good.ensures c.if-not-is_good.false in
-    let found_is : (x : Found) → c.packed_at-found.result ≡ x →
-    let a = c.args in
-    packed_answer a.c.len a.c.pos (plain x) ≡ read_int_packed_lem a.bytes.now a.c =
-    λ x e. sym (at_good _ _ Refused _ fine ∙ ap (packed_answer _ _) (packed_here _ _ ∙ plain_found _ (sym e ∙ c.packed_at-found.ensures))) in
-    found_is _ c.in-Cut.is
+returns-in-Err-Cut c = found_here _ _ _ _ c.in_ok-good_or_refused.ensures.value (sym (c.in-Err-Cut.is ∙ ap Err (rw c.in-Err-Cut.is at c.in-Err-Cut.field-0-is)) ∙ c.packed_at-found.ensures)
 
-pub returns-in-GoesOn : goal.returns-in-GoesOn
+pub returns-in-Err-GoesOn : goal.returns-in-Err-GoesOn
 unfolding packed_answer
-returns-in-GoesOn c =
-    let fine : good c.args.bytes.now c.args.c ≡ true =
-    passed _ _ _ c.is_good.ensures c.if-not-is_good.false in
-    let found_is : (x : Found) → c.packed_at-found.result ≡ x →
-    let a = c.args in
-    packed_answer a.c.len a.c.pos (plain x) ≡ read_int_packed_lem a.bytes.now a.c =
-    λ x e. sym (at_good _ _ Refused _ fine ∙ ap (packed_answer _ _) (packed_here _ _ ∙ plain_found _ (sym e ∙ c.packed_at-found.ensures))) in
-    found_is _ c.in-GoesOn.is
+returns-in-Err-GoesOn c = found_here _ _ _ _ c.in_ok-good_or_refused.ensures.value (sym (c.in-Err-GoesOn.is ∙ ap Err (rw c.in-Err-GoesOn.is at c.in-Err-GoesOn.field-0-is)) ∙ c.packed_at-found.ensures)
 
-pub returns-in-Overflows : goal.returns-in-Overflows
+pub returns-in-Err-Overflows : goal.returns-in-Err-Overflows
 unfolding packed_answer
-returns-in-Overflows c =
-    let fine : good c.args.bytes.now c.args.c ≡ true =
-    passed _ _ _ c.is_good.ensures c.if-not-is_good.false in
-    let found_is : (x : Found) → c.packed_at-found.result ≡ x →
-    let a = c.args in
-    packed_answer a.c.len a.c.pos (plain x) ≡ read_int_packed_lem a.bytes.now a.c =
-    λ x e. sym (at_good _ _ Refused _ fine ∙ ap (packed_answer _ _) (packed_here _ _ ∙ plain_found _ (sym e ∙ c.packed_at-found.ensures))) in
-    found_is _ c.in-Overflows.is
+returns-in-Err-Overflows c = found_here _ _ _ _ c.in_ok-good_or_refused.ensures.value (sym (c.in-Err-Overflows.is ∙ ap Err (rw c.in-Err-Overflows.is at c.in-Err-Overflows.field-0-is)) ∙ c.packed_at-found.ensures)

@@ -4,11 +4,11 @@ use mathlib.Core.Path.{refl, sym}
 use mathlib.Core.List.{[], append-nil}
 use lib.ListN.{length-set}
 use Rattle.bits.proofs.RunLaws.{put_none}
-use Rattle.bits.proofs.DecimalLaws.{digit_there, written_more, written_last}
+use Rattle.bits.proofs.DecimalLaws.{digit_there, digits_left, digit_left, written_more, written_last}
 use Rattle.bits.proofs.decimal.put_digits.Goals as goal
 
-pub loop-v-init : goal.loop-v-init
-loop-v-init c =
+pub loop-j-init : goal.loop-j-init
+loop-j-init c =
     record {
       run = [];
       whole = append-nil _;
@@ -20,23 +20,21 @@ loop-v-init c =
       small = omega arith;
     }
 
-pub overflow_sub-j : goal.overflow_sub-j
-overflow_sub-j c = let t = digit_there _ _ _ _ _ _ c.loop-v.invariant in omega arith
+pub loop-j-preserved : goal.loop-j-preserved
+loop-j-preserved c =
+    let w = c.loop-j.invariant in
+    written_more _ _ _ _ _ _ w (digits_left _ _ _ _ _ _ w c.loop-j-test.true) _ refl (simp length-set)
 
-pub bounds-d-j : goal.bounds-d-j
-bounds-d-j c = let t = digit_there _ _ _ _ _ _ c.loop-v.invariant in omega arith
+pub overflow_add-d-2 : goal.overflow_add-d-2
+overflow_add-d-2 c = let l = digit_left _ _ _ _ _ _ c.loop-j.invariant c.loop-j-test.false in omega arith
 
-pub loop-v-smaller : goal.loop-v-smaller
-loop-v-smaller c = omega arith
-
-pub loop-v-preserved : goal.loop-v-preserved
-loop-v-preserved c = written_more _ _ _ _ _ _ c.loop-v.invariant c.loop-v-test.true _ refl (simp length-set)
+pub overflow_cast-d-2 : goal.overflow_cast-d-2
+overflow_cast-d-2 c = let l = digit_left _ _ _ _ _ _ c.loop-j.invariant c.loop-j-test.false in omega arith
 
 pub bounds-d-at : goal.bounds-d-at
-bounds-d-at c = let t = digit_there _ _ _ _ _ _ c.loop-v.invariant in omega arith
-
-pub shape_of-d : goal.shape_of-d
-shape_of-d c = simp length-set c.loop-v.invariant.same
+bounds-d-at c = let t = digit_there _ _ _ _ _ _ c.loop-j.invariant in omega arith
 
 pub returns : goal.returns
-returns c = written_last _ _ _ _ _ _ c.loop-v.invariant (omega arith)
+returns c =
+    let w = c.loop-j.invariant in
+    written_last _ _ _ _ _ _ w (digit_left _ _ _ _ _ _ w c.loop-j-test.false)

@@ -2,8 +2,5 @@
 use Rattle.bits.proofs.DecimalLaws.{Written}
 use Rattle.bits.proofs.decimal.put_digits.Given as goal
 
-abbrev pub invariant-loop-v : goal.invariant-loop-v
-invariant-loop-v l = Written l.initial.d l.d l.at l.n l.v l.j
-
-abbrev pub decreases-loop-v : goal.decreases-loop-v
-decreases-loop-v l = l.v
+abbrev pub invariant-loop-j : goal.invariant-loop-j
+invariant-loop-j l = Written l.initial.d l.d l.at l.n l.v l.j

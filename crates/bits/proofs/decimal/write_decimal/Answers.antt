@@ -8,12 +8,12 @@ use Rattle.bits.proofs.decimal.write_decimal.Goals as goal
 pub returns-then-d-k : goal.returns-then-d-k
 returns-then-d-k c =
     let k = c.decimal_length-k.ensures in
-    (c.place_after-end.ensures ∙ ap (place_after_lem _) k, sym (store_out _ _ _ (omega arith)))
+    (c.saturating_add-end.ensures ∙ ap (place_after_lem _) k, sym (store_out _ _ _ (omega arith)))
 
 pub returns-then-d-k-2 : goal.returns-then-d-k-2
 returns-then-d-k-2 c =
     let k = c.decimal_length-k.ensures in
-    (c.place_after-end.ensures ∙ ap (place_after_lem _) k, sym (store_out _ _ _ (omega arith)))
+    (c.saturating_add-end.ensures ∙ ap (place_after_lem _) k, sym (store_out _ _ _ (omega arith)))
 
 pub put_digits-requires : goal.put_digits-requires
 put_digits-requires c = let k = c.decimal_length-k.ensures in omega arith
@@ -21,4 +21,4 @@ put_digits-requires c = let k = c.decimal_length-k.ensures in omega arith
 pub returns : goal.returns
 returns c =
     let k = c.decimal_length-k.ensures in
-    (c.place_after-end.ensures ∙ ap (place_after_lem _) k, c.put_digits.ensures ∙ sym (store_fits _ _ _ (omega arith)))
+    (c.saturating_add-end.ensures ∙ ap (place_after_lem _) k, c.put_digits.ensures ∙ sym (store_fits _ _ _ (omega arith)))

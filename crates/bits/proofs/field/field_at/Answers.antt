@@ -8,4 +8,4 @@ pub returns-then-off-count-le64 : goal.returns-then-off-count-le64
 returns-then-off-count-le64 c = one_word _ _ _ _ (omega arith) (omega arith) _ _ (omega arith) c.load.ensures
 
 pub returns-else-off-count-le64 : goal.returns-else-off-count-le64
-returns-else-off-count-le64 c = two_words _ _ _ _ (omega arith) (omega arith) _ _ _ (omega arith) c.load.ensures c.load8-high.ensures
+returns-else-off-count-le64 c = two_words _ _ _ _ (omega arith) (omega arith) _ _ _ (omega arith) c.load.ensures c.load_bytes-high.ensures

@@ -5,7 +5,7 @@ use Rattle.bits.proofs.WordLaws.{whole}
 use Rattle.bits.proofs.field.word_at.Goals as goal
 
 pub returns-then-off-eq0 : goal.returns-then-off-eq0
-returns-then-off-eq0 c = placed _ _ _ _ _ (omega arith) c.load64-low.ensures
+returns-then-off-eq0 c = placed _ _ _ _ _ (omega arith) c.load_bytes-low.ensures
 
 pub returns-else-off-eq0 : goal.returns-else-off-eq0
-returns-else-off-eq0 c = whole _ _ _ _ (omega arith) (omega arith) _ _ c.load64-low.ensures c.load8.ensures
+returns-else-off-eq0 c = whole _ _ _ _ (omega arith) (omega arith) _ _ c.load_bytes-low.ensures c.load_bytes.ensures

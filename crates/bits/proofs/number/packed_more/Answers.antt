@@ -1,7 +1,8 @@
 -- `bits::packed_more` meets its contract. The loop's invariant: the bytes that are taken, with the rest of the number after them, are the
 -- number.
+use Rattle.std.proofs.lemmas.Result.{err_from_is_err_and}
 use borrow.Author.Rules.{rules}
-use mathlib.Core.Path.{◌≡◌, refl, sym, ap, ap₂, ◌∙◌, subst}
+use mathlib.Core.Path.{◌≡◌, sym, ap, ap₂, ◌∙◌, subst}
 use Prim.Native.Nat.{ℕ, ◌+◌, ◌-◌, ◌*◌, ◌/◌, ◌%◌, ◌^◌, ◌≤◌, ◌<◌}
 use native.Mathlib.Nat.{one-mul, mul-le-mul_right, lt_of_lt_of_le}
 use native.Mathlib.Omega.{arith}
@@ -9,8 +10,8 @@ use lib.Pow.{shl_exact, pow_mono, pow-add}
 use Rattle.bits.specs.Bits.{field}
 use Rattle.bits.specs.Packed.{after, packed_from}
 use Rattle.bits.proofs.FieldLaws.{bound}
-use Rattle.bits.proofs.PackedLaws.{byte_cut, byte_ends, byte_follows}
-use Rattle.bits.proofs.PaddedLaws.{found_more}
+use Rattle.bits.proofs.PackedLaws.{byte_ends, byte_follows}
+use Rattle.bits.proofs.PaddedLaws.{found_cut, found_more}
 use Rattle.bits.specs.Padded.{found}
 use Rattle.bits.proofs.number.packed_more.Goals as goal
 
@@ -48,71 +49,41 @@ next N at end value taken b t h eb odd =
     ap₂ (λ (k p : ℕ). after (taken + 1) (value + b / 2 * 2 ^ (7 * taken)) (packed_from k N end p)) e₁ e₂
     ∙ sym (byte_follows taken value N end (at + 8 * taken) b h eb (4 - taken) (omega arith) odd)
 
-pub loop-taken-init : goal.loop-taken-init
-loop-taken-init c = record { some = omega arith; below = omega arith; within = omega arith; small = c.requires.2; same = refl }
-
-pub overflow_mul-pos : goal.overflow_mul-pos
-overflow_mul-pos c = omega arith
-
-pub overflow_add-pos : goal.overflow_add-pos
-overflow_add-pos c = omega arith
-
-pub overflow_sub-end : goal.overflow_sub-end
-overflow_sub-end c = omega arith
-
-pub returns-then-end-pos-lt8 : goal.returns-then-end-pos-lt8
-unfolding found
-returns-then-end-pos-lt8 c =
-    let v = c.loop-taken.invariant in
-    ap found (sym (byte_cut _ _ _ _ _ _ (omega arith)) ∙ v.same)
-
-pub byte_at-b-requires : goal.byte_at-b-requires
-byte_at-b-requires c = omega arith
-
-pub overflow_mul-weight : goal.overflow_mul-weight
-overflow_mul-weight c = omega arith
-
-pub overflow_shl-weight : goal.overflow_shl-weight
-overflow_shl-weight c = omega arith
+pub returns-in_err-b : goal.returns-in_err-b
+returns-in_err-b c =
+    let p = err_from_is_err_and c.from_residual.result c.from_residual.ensures.1 in
+    rw (p.1, p.2) (found_cut _ _ _ _ _ _ c.in_err-b.ensures ∙ ap found c.loop-taken.invariant.same)
 
 pub overflow_mul-value : goal.overflow_mul-value
-overflow_mul-value c = rw (of_byte _ _ _ _ _ c.byte_at-b.ensures c.loop-taken-test.true c.loop-taken.invariant.small).0 (omega (arith, (of_byte _ _ _ _ _ c.byte_at-b.ensures c.loop-taken-test.true c.loop-taken.invariant.small).2))
+overflow_mul-value c =
+    let k = of_byte _ _ _ _ _ c.in_ok-b.ensures.1 c.loop-taken-test.true c.loop-taken.invariant.small in
+    rw k.0 (omega (arith, k.2))
 
 pub overflow_add-value : goal.overflow_add-value
-overflow_add-value c = rw (of_byte _ _ _ _ _ c.byte_at-b.ensures c.loop-taken-test.true c.loop-taken.invariant.small).0 (omega (arith, (of_byte _ _ _ _ _ c.byte_at-b.ensures c.loop-taken-test.true c.loop-taken.invariant.small).2))
+overflow_add-value c =
+    let k = of_byte _ _ _ _ _ c.in_ok-b.ensures.1 c.loop-taken-test.true c.loop-taken.invariant.small in
+    rw k.0 (omega (arith, k.2))
 
-pub overflow_add-taken : goal.overflow_add-taken
-overflow_add-taken c = omega arith
-
-pub overflow_cast-whole : goal.overflow_cast-whole
-overflow_cast-whole c = rw (of_byte _ _ _ _ _ c.byte_at-b.ensures c.loop-taken-test.true c.loop-taken.invariant.small).0 (omega (arith, (of_byte _ _ _ _ _ c.byte_at-b.ensures c.loop-taken-test.true c.loop-taken.invariant.small).2))
+pub overflow_cast-result : goal.overflow_cast-result
+overflow_cast-result c =
+    let k = of_byte _ _ _ _ _ c.in_ok-b.ensures.1 c.loop-taken-test.true c.loop-taken.invariant.small in
+    rw k.0 (omega (arith, k.2))
 
 pub returns-then-b-eq0 : goal.returns-then-b-eq0
 unfolding found
 returns-then-b-eq0 c =
     let v = c.loop-taken.invariant in
-    rw (of_byte _ _ _ _ _ c.byte_at-b.ensures c.loop-taken-test.true c.loop-taken.invariant.small).0
-    (found_more _ _ v.some
-    ∙ ap found (sym (byte_ends _ _ _ _ _ _ (omega arith) c.byte_at-b.ensures _ (omega arith) c.if-b-eq0.true) ∙ v.same))
-
-pub loop-taken-smaller : goal.loop-taken-smaller
-loop-taken-smaller c = omega arith
+    let b = c.in_ok-b.ensures in
+    rw (of_byte _ _ _ _ _ b.1 c.loop-taken-test.true v.small).0
+    (found_more _ _ c.loop-taken.auto.taken
+    ∙ ap found (sym (byte_ends _ _ _ _ _ _ b.0 b.1 _ (omega arith) c.if-b-eq0.true) ∙ v.same))
 
 pub loop-taken-preserved : goal.loop-taken-preserved
 loop-taken-preserved c =
     let v = c.loop-taken.invariant in
-    let t = c.loop-taken-test.true in
-    rw (of_byte _ _ _ _ _ c.byte_at-b.ensures c.loop-taken-test.true c.loop-taken.invariant.small).0
-    (record {
-      some = omega arith;
-      below = omega arith;
-      within = omega arith;
-      small = (of_byte _ _ _ _ _ c.byte_at-b.ensures c.loop-taken-test.true c.loop-taken.invariant.small).1;
-      same = next _ _ _ _ _ _ t (omega arith) c.byte_at-b.ensures c.if-b-eq0.false ∙ v.same;
-    })
-
-pub overflow_add-at : goal.overflow_add-at
-overflow_add-at c = omega arith
+    let b = c.in_ok-b.ensures in
+    let k = of_byte _ _ _ _ _ b.1 c.loop-taken-test.true v.small in
+    rw k.0 (record { within = omega (arith, b.0); small = k.1; same = next _ _ _ _ _ _ c.loop-taken-test.true b.0 b.1 c.if-b-eq0.false ∙ v.same })
 
 pub packed_fifth-requires : goal.packed_fifth-requires
 packed_fifth-requires c =
