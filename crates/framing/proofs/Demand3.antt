@@ -12,11 +12,10 @@ use borrow.Author.Tests.{lt-ltb, le-ltb, eqb-true, eqb-false, eq-eqb, ne_eqb}
 use Rattle.bits.proofs.ChoiceLaws.{and_true}
 use Rattle.bits.proofs.Never.{never}
 use Rattle.bits.specs.Bits.{num, field}
-use Rattle.bits.specs.Packed.{packed}
+use Rattle.bits.specs.Packed.{Packed, packed}
 use Rattle.bits.proofs.FieldLaws.{field_low, field_same}
 use Rattle.bits.proofs.PackedWindows as PW
-use Rattle.bits.specs.declared.Packed.{Packed}
-use Rattle.bits.specs.declared.Packed.TheVariants.{Whole, Cut, GoesOn, Overflows}
+use Rattle.std.specs.Prelude.{Ok, Err}
 use Rattle.bits.specs.Sizes.{trailer_bits}
 use Rattle.framing.specs.Windows.{Window, window_of, opening, Reading, got, failed, reading_of, reading}
 use Rattle.framing.specs.Events.{Leaf, raw_handle, Event, number, element, array, leaf, pair, truncation, error, implicit, nested, root, leaves, pairs, Trace}
@@ -95,10 +94,9 @@ unfolding reading
 zero_byte w q v b fit e z = go (packed w.bits w.size q) refl e
   where
     go : (r : Packed) → packed w.bits w.size q ≡ r → reading_of r ≡ got v b → field w.bits q trailer_bits ≡ 0
-    go (Whole x n) p f = let val : x ≡ 0 = (let f' : x ≡ v = cc in f' ∙ z) in PW.zero_byte w.bits w.size q x n fit p val
-    go (Cut n) p f = let no_way : ◌≡◌ {A = ℕ} 0 1 = cc in omega arith
-    go GoesOn p f = let no_way : ◌≡◌ {A = ℕ} 0 1 = cc in omega arith
-    go Overflows p f = let no_way : ◌≡◌ {A = ℕ} 0 1 = cc in omega arith
+    go (Ok x) p f =
+        let val : x.value ≡ 0 = (let f' : x.value ≡ v = cc in f' ∙ z) in PW.zero_byte w.bits w.size q x.value x.bytes fit p val
+    go (Err why) p f = let no_way : ◌≡◌ {A = ℕ} 0 1 = cc in omega arith
 
 -- the shorter's end took a trailer, or left bits; the sink counts them at the root
 module _ (s : Sink) (w : Window) (m : ℕ) (mn : m ≤ w.size) (tells : (n : ℕ) → s.leftover n ≡ root n) where

@@ -8,9 +8,8 @@ use lib.Dec.{leb}
 use lib.Pow.{pow_mono}
 use borrow.Author.Tests.{leb-true, leb-false}
 use Rattle.bits.specs.Bits.{field}
-use Rattle.bits.specs.Packed.{packed}
-use Rattle.bits.specs.declared.Packed.{Packed}
-use Rattle.bits.specs.declared.Packed.TheVariants.{Whole, Cut, GoesOn, Overflows}
+use Rattle.bits.specs.Packed.{Packed, whole, packed}
+use Rattle.std.specs.Prelude.{Ok, Err}
 use Rattle.bits.proofs.FieldLaws.{field_none, field_split, field_low, field_high}
 use Rattle.framing.specs.Windows.{Window, got, reading_of, reading}
 use Rattle.framing.specs.Grammar.{Bits, no_bits_lem, ◌then◌, Num, num_bits, IsNum}
@@ -74,15 +73,13 @@ span_second w p r a b h s =
 -- ---- packed numbers
 
 module _ (w : Window) (p : ℕ) where
-  got_whole : (v b : ℕ) → reading w p ≡ got v b → packed w.bits w.size p ≡ Whole v b
+  got_whole : (v b : ℕ) → reading w p ≡ got v b → packed w.bits w.size p ≡ whole v b
   unfolding reading
   got_whole v b e = go (packed w.bits w.size p) refl e
     where
-      go : (r : Packed) → packed w.bits w.size p ≡ r → reading_of r ≡ got v b → packed w.bits w.size p ≡ Whole v b
-      go (Whole x n) f g = f ∙ ap₂ Whole (cc) (cc)
-      go (Cut n) f g = let z : ◌≡◌ {A = ℕ} 0 1 = cc in absurd (omega arith)
-      go GoesOn f g = let z : ◌≡◌ {A = ℕ} 0 1 = cc in absurd (omega arith)
-      go Overflows f g = let z : ◌≡◌ {A = ℕ} 0 1 = cc in absurd (omega arith)
+      go : (r : Packed) → packed w.bits w.size p ≡ r → reading_of r ≡ got v b → packed w.bits w.size p ≡ whole v b
+      go (Ok x) f g = f ∙ ap₂ whole (cc) (cc)
+      go (Err why) f g = let z : ◌≡◌ {A = ℕ} 0 1 = cc in absurd (omega arith)
 
   -- a number that is read stands there
   pub read_num : (v b : ℕ) → reading w p ≡ got v b → IsNum (record { value = v; bytes = b }) × Span w p (p + 8 * b) (num_bits (record { value = v; bytes = b }))

@@ -1,5 +1,6 @@
 -- The leaves, pairs and element count of a walk without fault are those of the array that it walked: they are read off the trace that GrammarWalked
 -- finds, part by part.
+use Rattle.std.specs.Prelude.{Option, Some, None}
 use Prim.Native.Nat.{ℕ, zero, suc, ◌+◌, ◌-◌, ◌*◌}
 use mathlib.Core.Path.{◌≡◌, refl, ap, ap₂, ◌∙◌}
 use mathlib.Core.Bool.{Bool, true, false, ◌&&◌}
@@ -9,7 +10,6 @@ use lib.Dec.{eqb}
 use borrow.Author.Tests.{eq-eqb, ne_eqb}
 use Rattle.schema.specs.Tables.{Tables, child}
 use Rattle.schema.specs.Labels.{at_index}
-use Rattle.schema.specs.declared.Child.{Child}
 use Rattle.framing.specs.Windows.{Window}
 use Rattle.framing.specs.Events as Ev
 use Rattle.framing.specs.Events.{Leaf, Pair, Event, number, nested, leaves, pairs, Trace}
@@ -85,21 +85,21 @@ module _ (s : Sink) (flat : s.flattens ≡ true) {P : Type 0} (bits_of : P → B
 
 -- ---- the struct walk
 
-plain_given : (t : Tables) (lvl : ℕ) (into : ℕ → List ℕ → ℕ → Window → Trace) (path : List ℕ) (h : ℕ) (b : Bits) (o p : ℕ) (c : Child) → PlainOk b c
+plain_given : (t : Tables) (lvl : ℕ) (into : ℕ → List ℕ → ℕ → Window → Trace) (path : List ℕ) (h : ℕ) (b : Bits) (o p : ℕ) (c : Option ℕ) → PlainOk b c
     → leaves (on_child t lvl into path h (window_at o p b) c) ≡ plain_leaves t lvl path h (o + p) b c
-plain_given t lvl into path h b o p Child.Leaf ok = refl
-plain_given t lvl into path h b o p (Child.Array below) (G.empty z) = rw (eq-eqb b.size 0 z) refl
+plain_given t lvl into path h b o p None ok = refl
+plain_given t lvl into path h b o p (Some below) (G.empty z) = rw (eq-eqb b.size 0 z) refl
 
 nested_given : (deeper : ℕ) (t : Tables) (takes : Bool) (lvl : ℕ) (a : Array (G.Content deeper)) (path : List ℕ) (h o p : ℕ)
     → Below (array_bits (content_bits deeper) a)
     → ((below : ℕ) → IsStructArray deeper t.rows takes below a → (v : Window) → Span v 0 v.size (array_bits (content_bits deeper) a) → (place : List ℕ)
     → leaves (level (struct_sink deeper t takes nested below) v place) ≡ struct_leaves deeper t below v.origin place a)
-    → (c : Child) → NestedOk (array_bits (content_bits deeper) a).size (λ below. IsStructArray deeper t.rows takes below a) c
+    → (c : Option ℕ) → NestedOk (array_bits (content_bits deeper) a).size (λ below. IsStructArray deeper t.rows takes below a) c
     → leaves (on_child t lvl (λ below path handle w. Ev.array (entered_at path w) ∷ level (struct_sink deeper t takes nested below) w path) path h
     (window_at o p (array_bits (content_bits deeper) a)) c)
     ≡ nested_leaves (λ below longer. struct_leaves deeper t below (o + p) longer a) t lvl path h c
-nested_given deeper t takes lvl a path h o p b inside Child.Leaf k = elim k [ ]
-nested_given deeper t takes lvl a path h o p b inside (Child.Array below) (array some inner) =
+nested_given deeper t takes lvl a path h o p b inside None k = elim k [ ]
+nested_given deeper t takes lvl a path h o p b inside (Some below) (array some inner) =
     let v = window_at o p (array_bits (content_bits deeper) a) in
     rw (ne_eqb (array_bits (content_bits deeper) a).size 0 (λ z. omega arith))
     (inside below inner v (whole_span v (array_bits (content_bits deeper) a) b refl) (array_path t lvl path h))
@@ -195,21 +195,21 @@ module _ (s : Sink) {P : Type 0} (bits_of : P → Bits) (allowed : Bool → ℕ 
       let z = end_count a.trailer (q + 8 * a.close.bytes) in
       omega arith
 
-plain_count : (t : Tables) (lvl : ℕ) (into : ℕ → List ℕ → ℕ → Window → Trace) (path : List ℕ) (h : ℕ) (b : Bits) (o p : ℕ) (c : Child) → PlainOk b c
+plain_count : (t : Tables) (lvl : ℕ) (into : ℕ → List ℕ → ℕ → Window → Trace) (path : List ℕ) (h : ℕ) (b : Bits) (o p : ℕ) (c : Option ℕ) → PlainOk b c
     → entered (on_child t lvl into path h (window_at o p b) c) ≡ 0
-plain_count t lvl into path h b o p Child.Leaf ok = refl
-plain_count t lvl into path h b o p (Child.Array below) (G.empty z) = rw (eq-eqb b.size 0 z) refl
+plain_count t lvl into path h b o p None ok = refl
+plain_count t lvl into path h b o p (Some below) (G.empty z) = rw (eq-eqb b.size 0 z) refl
 
 nested_count : (deeper : ℕ) (t : Tables) (takes : Bool) (lvl : ℕ) (a : Array (G.Content deeper)) (path : List ℕ) (h o p : ℕ)
     → Below (array_bits (content_bits deeper) a)
     → ((below : ℕ) → IsStructArray deeper t.rows takes below a → (v : Window) → Span v 0 v.size (array_bits (content_bits deeper) a) → (place : List ℕ)
     → entered (level (struct_sink deeper t takes nested below) v place) ≡ array_count_lem (content_count deeper) a)
-    → (c : Child) → NestedOk (array_bits (content_bits deeper) a).size (λ below. IsStructArray deeper t.rows takes below a) c
+    → (c : Option ℕ) → NestedOk (array_bits (content_bits deeper) a).size (λ below. IsStructArray deeper t.rows takes below a) c
     → entered (on_child t lvl (λ below path handle w. Ev.array (entered_at path w) ∷ level (struct_sink deeper t takes nested below) w path) path h
     (window_at o p (array_bits (content_bits deeper) a)) c)
     ≡ array_count_lem (content_count deeper) a
-nested_count deeper t takes lvl a path h o p b inside Child.Leaf k = elim k [ ]
-nested_count deeper t takes lvl a path h o p b inside (Child.Array below) (array some inner) =
+nested_count deeper t takes lvl a path h o p b inside None k = elim k [ ]
+nested_count deeper t takes lvl a path h o p b inside (Some below) (array some inner) =
     let v = window_at o p (array_bits (content_bits deeper) a) in
     let z = inside below inner v (whole_span v (array_bits (content_bits deeper) a) b refl) (array_path t lvl path h) in
     rw (ne_eqb (array_bits (content_bits deeper) a).size 0 (λ z. omega arith)) (omega arith)

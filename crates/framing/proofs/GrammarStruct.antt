@@ -1,5 +1,6 @@
 -- Struct and exact walks: a level is walked without fault exactly if its window is the bits of a struct array. By induction over the levels that
 -- may stand below: a field without fault is a leaf, an empty array, or a level without fault.
+use Rattle.std.specs.Prelude.{Option, Some, None}
 use Prim.Native.Nat.{ℕ, zero, suc, ◌+◌, ◌-◌, ◌*◌, ◌%◌, ◌^◌, ◌≤◌, ◌<◌}
 use mathlib.Core.Path.{◌≡◌, refl, sym, ap, ◌∙◌, subst}
 use mathlib.Core.Bool.{Bool, true, false, ◌&&◌}
@@ -10,7 +11,6 @@ use lib.Dec.{eqb}
 use borrow.Author.Tests.{eqb-true, eqb-false, eq-eqb, ne_eqb}
 use Rattle.bits.specs.Bits.{field}
 use Rattle.schema.specs.Tables.{Tables, child}
-use Rattle.schema.specs.declared.Child.{Child}
 use Rattle.framing.specs.Windows.{Window}
 use Rattle.framing.specs.Events as Ev
 use Rattle.framing.specs.Events.{Event, number, element, truncation, nested, Trace}
@@ -64,7 +64,7 @@ plain_more : (deeper : ℕ) (rows : List ℕ) (takes : Bool) (lvl : ℕ) (first 
 plain_more deeper rows takes lvl first h v b ok = record { it = plain (bits_in_lem v); same = refl; ok = (b, ok) }
 
 nested_more : (deeper : ℕ) (rows : List ℕ) (takes : Bool) (lvl : ℕ) (first : Bool) (h below : ℕ) (v : Window) → v.bits < 2 ^ v.size → (v.size ≡ 0 → ⊥)
-    → child rows lvl h ≡ Child.Array below → InStruct deeper rows takes below v
+    → child rows lvl h ≡ Some below → InStruct deeper rows takes below v
     → Content (G.Content (suc deeper)) (content_bits (suc deeper)) (λ f k x. allowed_in (suc deeper) rows takes lvl f k x) first h v
 nested_more deeper rows takes lvl first h below v b some e r =
     let whole = span_whole v (array_bits (content_bits deeper) r.it) b r.span in
@@ -74,7 +74,7 @@ nested_more deeper rows takes lvl first h below v b some e r =
       it = G.nested r.it;
       same = whole;
       ok =
-          subst (λ (c : Child). NestedOk (array_bits (content_bits deeper) r.it).size (λ below. IsStructArray deeper rows takes below r.it) c) (sym e)
+          subst (λ (c : Option ℕ). NestedOk (array_bits (content_bits deeper) r.it).size (λ below. IsStructArray deeper rows takes below r.it) c) (sym e)
           (array large r.ok);
     }
   where
@@ -89,13 +89,13 @@ found_struct zero t takes leftover lvl tells w path g =
     let f = level_found (struct_sink zero t takes leftover lvl) (G.Content zero) (content_bits zero) (λ f k x. allowed_in zero t.rows takes lvl f k x) find w tells path g in
     record { it = f.array; ok = f.ok; span = f.span }
   where
-    look : (i : ℕ) (path : List ℕ) (first : Bool) (h : ℕ) (v : Window) → v.bits < 2 ^ v.size → (c : Child) → child t.rows lvl h ≡ c
+    look : (i : ℕ) (path : List ℕ) (first : Bool) (h : ℕ) (v : Window) → v.bits < 2 ^ v.size → (c : Option ℕ) → child t.rows lvl h ≡ c
         → Fine (on_child t lvl too_deep path h v c) → Content (G.Content zero) (content_bits zero) (λ f k x. allowed_in zero t.rows takes lvl f k x) first h v
-    look i path first h v b Child.Leaf e g = plain_zero t.rows takes lvl first h v b (subst (λ (c : Child). PlainOk (bits_in_lem v) c) (sym e) G.leaf)
-    look i path first h v b (Child.Array below) e g = go (eqb v.size 0) refl
+    look i path first h v b None e g = plain_zero t.rows takes lvl first h v b (subst (λ (c : Option ℕ). PlainOk (bits_in_lem v) c) (sym e) G.leaf)
+    look i path first h v b (Some below) e g = go (eqb v.size 0) refl
       where
         go : (x : Bool) → eqb v.size 0 ≡ x → Content (G.Content zero) (content_bits zero) (λ f k x. allowed_in zero t.rows takes lvl f k x) first h v
-        go true k = plain_zero t.rows takes lvl first h v b (subst (λ (c : Child). PlainOk (bits_in_lem v) c) (sym e) (G.empty (eqb-true _ _ k)))
+        go true k = plain_zero t.rows takes lvl first h v b (subst (λ (c : Option ℕ). PlainOk (bits_in_lem v) c) (sym e) (G.empty (eqb-true _ _ k)))
         go false k =
             let g' : Fine (truncation ∷ Ev.leaf (leaf_of (array_path t lvl path h) h v) ∷ []) = rw k at g in
             absurd (omega arith)
@@ -111,14 +111,14 @@ found_struct (suc deeper) t takes leftover lvl tells w path g =
     Inside : Type 0
     Inside = (below : ℕ) (v : Window) (place : List ℕ) → Fine (level (struct_sink deeper t takes nested below) v place) → InStruct deeper t.rows takes below v
 
-    look : Inside → (i : ℕ) (path : List ℕ) (first : Bool) (h : ℕ) (v : Window) → v.bits < 2 ^ v.size → (c : Child) → child t.rows lvl h ≡ c
+    look : Inside → (i : ℕ) (path : List ℕ) (first : Bool) (h : ℕ) (v : Window) → v.bits < 2 ^ v.size → (c : Option ℕ) → child t.rows lvl h ≡ c
         → Fine (on_child t lvl (λ below path handle w. Ev.array (entered_at path w) ∷ level (struct_sink deeper t takes nested below) w path) path h v c)
         → Content (G.Content (suc deeper)) (content_bits (suc deeper)) (λ f k x. allowed_in (suc deeper) t.rows takes lvl f k x) first h v
-    look inside i path first h v b Child.Leaf e g = plain_more deeper t.rows takes lvl first h v b (subst (λ (c : Child). PlainOk (bits_in_lem v) c) (sym e) G.leaf)
-    look inside i path first h v b (Child.Array below) e g = go (eqb v.size 0) refl
+    look inside i path first h v b None e g = plain_more deeper t.rows takes lvl first h v b (subst (λ (c : Option ℕ). PlainOk (bits_in_lem v) c) (sym e) G.leaf)
+    look inside i path first h v b (Some below) e g = go (eqb v.size 0) refl
       where
         go : (x : Bool) → eqb v.size 0 ≡ x → Content (G.Content (suc deeper)) (content_bits (suc deeper)) (λ f k x. allowed_in (suc deeper) t.rows takes lvl f k x) first h v
-        go true k = plain_more deeper t.rows takes lvl first h v b (subst (λ (c : Child). PlainOk (bits_in_lem v) c) (sym e) (G.empty (eqb-true _ _ k)))
+        go true k = plain_more deeper t.rows takes lvl first h v b (subst (λ (c : Option ℕ). PlainOk (bits_in_lem v) c) (sym e) (G.empty (eqb-true _ _ k)))
         go false k =
             let q = array_path t lvl path h in
             let u = level (struct_sink deeper t takes nested below) v q in
@@ -178,7 +178,7 @@ module _ (s : Sink) {P : Type 0} (bits_of : P → Bits) (allowed : Bool → ℕ 
 -- what is allowed has as many bits as its size says
 nested_below : (deeper : ℕ) (rows : List ℕ) (takes : Bool) (a : Array (G.Content deeper))
     → ((lvl : ℕ) (first : Bool) (h : ℕ) (x : G.Content deeper) → allowed_in deeper rows takes lvl first h x → Below (content_bits deeper x))
-    → {c : Child} → NestedOk (array_bits (content_bits deeper) a).size (λ below. IsStructArray deeper rows takes below a) c → Below (array_bits (content_bits deeper) a)
+    → {c : Option ℕ} → NestedOk (array_bits (content_bits deeper) a).size (λ below. IsStructArray deeper rows takes below a) c → Below (array_bits (content_bits deeper) a)
 nested_below deeper rows takes a inside (array {below = below} some inner) =
     array_below (content_bits deeper) (λ f k x. allowed_in deeper rows takes below f k x) (λ f k x y. inside below f k x y) takes a inner
 
@@ -191,15 +191,15 @@ allowed_below (suc deeper) rows takes lvl first h (G.nested a) ok =
     nested_below deeper rows takes a (λ l f k x y. allowed_below deeper rows takes l f k x y) ok
 
 -- a plain payload and a nested array as the sink takes them
-plain_fine : (t : Tables) (lvl : ℕ) (into : ℕ → List ℕ → ℕ → Window → Trace) (path : List ℕ) (h : ℕ) (v : Window) (c : Child) → PlainOk (bits_in_lem v) c
+plain_fine : (t : Tables) (lvl : ℕ) (into : ℕ → List ℕ → ℕ → Window → Trace) (path : List ℕ) (h : ℕ) (v : Window) (c : Option ℕ) → PlainOk (bits_in_lem v) c
     → Fine (on_child t lvl into path h v c)
-plain_fine t lvl into path h v Child.Leaf ok = refl
-plain_fine t lvl into path h v (Child.Array below) (G.empty e) = rw (eq-eqb v.size 0 e) refl
+plain_fine t lvl into path h v None ok = refl
+plain_fine t lvl into path h v (Some below) (G.empty e) = rw (eq-eqb v.size 0 e) refl
 
 nested_fine : (deeper : ℕ) (t : Tables) (takes : Bool) (lvl : ℕ) (a : Array (G.Content deeper))
     → ((below : ℕ) → IsStructArray deeper t.rows takes below a → (v : Window) → Span v 0 v.size (array_bits (content_bits deeper) a) → (path : List ℕ)
     → Fine (level (struct_sink deeper t takes nested below) v path))
-    → (path : List ℕ) (h o p : ℕ) {c : Child} → NestedOk (array_bits (content_bits deeper) a).size (λ below. IsStructArray deeper t.rows takes below a) c
+    → (path : List ℕ) (h o p : ℕ) {c : Option ℕ} → NestedOk (array_bits (content_bits deeper) a).size (λ below. IsStructArray deeper t.rows takes below a) c
     → Below (array_bits (content_bits deeper) a)
     → Fine (on_child t lvl (λ below path handle w. Ev.array (entered_at path w) ∷ level (struct_sink deeper t takes nested below) w path) path h
     (window_at o p (array_bits (content_bits deeper) a)) c)

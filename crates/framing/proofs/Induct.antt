@@ -6,12 +6,10 @@ use Prim.Native.Nat.{ℕ, zero, suc, ◌+◌, ◌-◌, ◌*◌, ◌≤◌, ◌<�
 use native.Mathlib.Omega.{arith}
 use lib.Dec.{ltb, leb, eqb}
 use borrow.Author.Tests.{ltb-false, leb-true, leb-false, eqb-true, eqb-false}
-use Rattle.bits.specs.declared.Packed.{Packed}
-use Rattle.bits.specs.declared.Packed.TheVariants.{Whole}
 use Rattle.bits.proofs.PackedLaws.{whole_bytes}
 use Rattle.bits.proofs.PackedWindows as PW
 use Rattle.bits.proofs.PackedWindows.{Lies, packed_lies}
-use Rattle.bits.specs.Packed.{Number, most_bytes}
+use Rattle.bits.specs.Packed.{Packed, whole, Number, most_bytes}
 use Rattle.bits.specs.Sizes.{max_fields, max_elements, trailer_bits}
 use Rattle.framing.specs.Windows.{Window, part, Reading, got, failed, reading_of, reading}
 use Rattle.framing.specs.Events.{raw_handle, number, element, truncation, error, implicit, Trace}
@@ -26,8 +24,8 @@ pub data Inside (n start : ℕ) : Reading → Type 0 where
   inside : {v b : ℕ} → start + 8 * b ≤ n → 0 < b → b ≤ most_bytes → Inside n start (got v b)
   nothing : Inside n start failed
 
-inside_of : (n p : ℕ) {r : Packed} → ((v b : ℕ) → r ≡ Whole v b → b ≤ most_bytes) → Lies n p r → Inside n p (reading_of r)
-inside_of n p few (PW.whole {v = v} {n = b} h k) = inside h k (few v b refl)
+inside_of : (n p : ℕ) {r : Packed} → ((v b : ℕ) → r ≡ whole v b → b ≤ most_bytes) → Lies n p r → Inside n p (reading_of r)
+inside_of n p few (PW.whole {x = x} h k) = inside h k (few x.value x.bytes refl)
 inside_of n p few PW.cut = nothing
 inside_of n p few PW.goes_on = nothing
 inside_of n p few PW.overflows = nothing

@@ -1,5 +1,6 @@
 -- From a level to a walk. What holds of the pieces of which struct, exact and object walks are made, and is kept where pieces join, holds of every
 -- walk: by the scheme of a level (Induct), and by induction over the levels that may stand below one.
+use Rattle.std.specs.Prelude.{Option, Some, None}
 use Prim.Native.Nat.{ℕ, zero, suc, ◌+◌, ◌-◌, ◌*◌, ◌≤◌, ◌<◌}
 use mathlib.Core.Path.{◌≡◌, refl}
 use mathlib.Core.Bool.{Bool, true, false}
@@ -12,8 +13,6 @@ use Rattle.bits.specs.Packed.{Number}
 use Rattle.bits.specs.Sizes.{levels_below, max_elements}
 use Rattle.schema.specs.Tables.{Tables, child}
 use Rattle.schema.specs.Labels.{at_index}
-use Rattle.schema.specs.declared.Child.{Child}
-use Rattle.schema.specs.declared.Child.TheVariants.{Array, Leaf}
 use Rattle.framing.specs.Windows.{Window, window_of, part, Reading, got, reading}
 use Rattle.framing.specs.Events.{raw_handle, Event, number, element, array, leaf, pair, truncation, error, implicit, nested, root, Trace}
 use Rattle.framing.specs.Paths.{leaf_path, array_path}
@@ -117,11 +116,11 @@ module _ (t : Tables) (K : Known t) (P : Property) (𝓟 : Pieces P) (𝓢 : Str
       (trailer : Bool) (leftover : ℕ → Event)
       (rest : (w : Window) (path : List ℕ) (p : ℕ) → p ≤ w.size → P.Stop w path path p (leftover (w.size - p) ∷ [])) where
     child_holds : (path : List ℕ) (h : ℕ) (w : Window) → K.Fit w → K.InElement deeper path → h < raw_handle
-        → (o : Child) → P.Gave h w (on_child t lvl into path h w o)
-    child_holds path h w fit here low Leaf = 𝓢.leaf w deeper lvl h path fit here low
-    child_holds path h w fit here low (Array below) = go (eqb w.size 0) refl
+        → (o : Option ℕ) → P.Gave h w (on_child t lvl into path h w o)
+    child_holds path h w fit here low None = 𝓢.leaf w deeper lvl h path fit here low
+    child_holds path h w fit here low (Some below) = go (eqb w.size 0) refl
       where
-        go : (x : Bool) → eqb w.size 0 ≡ x → P.Gave h w (on_child t lvl into path h w (Array below))
+        go : (x : Bool) → eqb w.size 0 ≡ x → P.Gave h w (on_child t lvl into path h w (Some below))
         go true e = rw e (𝓟.empty h w (eqb-true w.size 0 e))
         go false e = let some = eqb-false w.size 0 e in rw e (f below h path w fit (omega arith) here low)
 

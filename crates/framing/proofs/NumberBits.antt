@@ -9,9 +9,10 @@ use lib.Dec.{leb, eqb}
 use lib.Pow.{pow-add, shr-shr, high, low}
 use borrow.Author.Tests.{le-leb, leb-true, eq-eqb, ne_eqb, eqb-true, eqb-false}
 use Rattle.bits.specs.Bits.{field}
-use Rattle.bits.specs.Packed.{after, earlier_byte, fifth_byte, fifth_most, packed_from}
-use Rattle.bits.specs.declared.Packed.{Packed}
-use Rattle.bits.specs.declared.Packed.TheVariants.{Whole, Cut, GoesOn, Overflows}
+use Rattle.bits.specs.Packed.{Packed, whole, after, earlier_byte, fifth_byte, fifth_most, packed_from}
+use Rattle.bits.specs.declared.Broken.TheVariants.{Cut, GoesOn, Overflows}
+use Rattle.std.specs.Prelude.{Ok, Err}
+use Rattle.bits.proofs.PackedLaws.{same_value, same_bytes}
 use Rattle.bits.proofs.FieldLaws.{field_lt, field_split}
 use Rattle.framing.specs.Grammar.{packed_bits}
 
@@ -75,61 +76,61 @@ more_bytes left W len p B v b e odd r =
       bits = more_bits W p B v b e l odd r.some r.bits;
     }
 
-after_whole : (g : ℕ) (r : Packed) (v b : ℕ) (A : Type 0) → after 1 g r ≡ Whole v b
-    → ((x n : ℕ) → r ≡ Whole x n → v ≡ g + 2 ^ 7 * x → b ≡ suc n → A) → A
+after_whole : (g : ℕ) (r : Packed) (v b : ℕ) (A : Type 0) → after 1 g r ≡ whole v b
+    → ((x n : ℕ) → r ≡ whole x n → v ≡ g + 2 ^ 7 * x → b ≡ suc n → A) → A
 unfolding after
-after_whole g (Whole x n) v b A e f = let z : 1 + n ≡ b = cc in f x n refl (cc) (omega arith)
-after_whole g (Cut n) v b A e f = let z : ◌≡◌ {A = ℕ} 0 1 = cc in absurd (omega arith)
-after_whole g GoesOn v b A e f = let z : ◌≡◌ {A = ℕ} 0 1 = cc in absurd (omega arith)
-after_whole g Overflows v b A e f = let z : ◌≡◌ {A = ℕ} 0 1 = cc in absurd (omega arith)
+after_whole g (Ok x) v b A e f = let z : 1 + x.bytes ≡ b = same_bytes e in f x.value x.bytes refl (sym (same_value e)) (omega arith)
+after_whole g (Err (Cut n)) v b A e f = let z : ◌≡◌ {A = ℕ} 0 1 = cc in absurd (omega arith)
+after_whole g (Err GoesOn) v b A e f = let z : ◌≡◌ {A = ℕ} 0 1 = cc in absurd (omega arith)
+after_whole g (Err Overflows) v b A e f = let z : ◌≡◌ {A = ℕ} 0 1 = cc in absurd (omega arith)
 
 odd_byte : (B : ℕ) → (B % 2 ≡ 0 → ⊥) → B % 2 ≡ 1
 odd_byte B h = omega arith
 
 -- a fifth byte that ends a number
-fifth_whole : (W len p B v b : ℕ) → p + 8 ≤ len → field W p 8 ≡ B → fifth_byte B ≡ Whole v b → Written 0 W len p v b
+fifth_whole : (W len p B v b : ℕ) → p + 8 ≤ len → field W p 8 ≡ B → fifth_byte B ≡ whole v b → Written 0 W len p v b
 unfolding fifth_byte
 fifth_whole W len p B v b h f e = go (eqb (B % 2) 0) refl (leb (B / 2) fifth_most) refl
   where
     go : (x : Bool) → eqb (B % 2) 0 ≡ x → (y : Bool) → leb (B / 2) fifth_most ≡ y → Written 0 W len p v b
     go true k true l =
-        let e' : Whole (B / 2) 1 ≡ Whole v b = rw (k, l) at e in
-        let ev : B / 2 ≡ v = cc in
-        let eb : 1 ≡ b = cc in
+        let e' : whole (B / 2) 1 ≡ whole v b = rw (k, l) at e in
+        let ev : B / 2 ≡ v = same_value e' in
+        let eb : 1 ≡ b = same_bytes e' in
         let small : B / 2 ≤ 15 = leb-true _ _ l in
         subst (λ (n : ℕ). Written 0 W len p v n) eb
         (subst (λ (x : ℕ). Written 0 W len p x 1) ev (one_byte 0 W len p B f (eqb-true _ _ k) h (λ z. omega arith)))
-    go true k false l = let e' : Overflows ≡ Whole v b = rw (k, l) at e in let z : ◌≡◌ {A = ℕ} 0 1 = cc in absurd (omega arith)
-    go false k y l = let e' : GoesOn ≡ Whole v b = rw k at e in let z : ◌≡◌ {A = ℕ} 0 1 = cc in absurd (omega arith)
+    go true k false l = let e' : Err Overflows ≡ whole v b = rw (k, l) at e in let z : ◌≡◌ {A = ℕ} 0 1 = cc in absurd (omega arith)
+    go false k y l = let e' : Err GoesOn ≡ whole v b = rw k at e in let z : ◌≡◌ {A = ℕ} 0 1 = cc in absurd (omega arith)
 
 -- read, so written
-pub written_from : (left W len p v b : ℕ) → packed_from left W len p ≡ Whole v b → Written left W len p v b
+pub written_from : (left W len p v b : ℕ) → packed_from left W len p ≡ whole v b → Written left W len p v b
 unfolding packed_from earlier_byte
 written_from zero W len p v b e = go (leb (p + 8) len) refl
   where
     go : (x : Bool) → leb (p + 8) len ≡ x → Written zero W len p v b
     go true k = fifth_whole W len p (field W p 8) v b (leb-true _ _ k) refl (rw k at e)
-    go false k = let e' : Cut 0 ≡ Whole v b = rw k at e in let z : ◌≡◌ {A = ℕ} 0 1 = cc in absurd (omega arith)
+    go false k = let e' : Err (Cut 0) ≡ whole v b = rw k at e in let z : ◌≡◌ {A = ℕ} 0 1 = cc in absurd (omega arith)
 written_from (suc left) W len p v b e = go (λ x n r. written_from left W len (p + 8) x n r) (leb (p + 8) len) refl (eqb (field W p 8 % 2) 0) refl
   where
-    go : ((x n : ℕ) → packed_from left W len (p + 8) ≡ Whole x n → Written left W len (p + 8) x n)
+    go : ((x n : ℕ) → packed_from left W len (p + 8) ≡ whole x n → Written left W len (p + 8) x n)
         → (x : Bool) → leb (p + 8) len ≡ x → (y : Bool) → eqb (field W p 8 % 2) 0 ≡ y → Written (suc left) W len p v b
     go rest true k true l =
-        let e' : Whole (field W p 8 / 2) 1 ≡ Whole v b = rw (k, l) at e in
-        let ev : field W p 8 / 2 ≡ v = cc in
-        let eb : 1 ≡ b = cc in
+        let e' : whole (field W p 8 / 2) 1 ≡ whole v b = rw (k, l) at e in
+        let ev : field W p 8 / 2 ≡ v = same_value e' in
+        let eb : 1 ≡ b = same_bytes e' in
         subst (λ (n : ℕ). Written (suc left) W len p v n) eb
         (subst (λ (x : ℕ). Written (suc left) W len p x 1) ev
         (one_byte (suc left) W len p (field W p 8) refl (eqb-true _ _ l) (leb-true _ _ k) (λ z. absurd (omega arith))))
     go rest true k false l =
-        let e' : after 1 (field W p 8 / 2) (packed_from left W len (p + 8)) ≡ Whole v b = rw (k, l) at e in
+        let e' : after 1 (field W p 8 / 2) (packed_from left W len (p + 8)) ≡ whole v b = rw (k, l) at e in
         let odd : field W p 8 % 2 ≡ 1 = odd_byte (field W p 8) (eqb-false _ _ l) in
         after_whole (field W p 8 / 2) (packed_from left W len (p + 8)) v b (Written (suc left) W len p v b) e'
         (λ x n r ev eb.
         subst (λ (m : ℕ). Written (suc left) W len p v m) (sym eb)
         (subst (λ (y : ℕ). Written (suc left) W len p y (suc n)) (sym ev)
         (more_bytes left W len p (field W p 8) x n refl odd (rest x n r))))
-    go rest false k y l = let e' : Cut 0 ≡ Whole v b = rw k at e in let z : ◌≡◌ {A = ℕ} 0 1 = cc in absurd (omega arith)
+    go rest false k y l = let e' : Err (Cut 0) ≡ whole v b = rw k at e in let z : ◌≡◌ {A = ℕ} 0 1 = cc in absurd (omega arith)
 
 -- written, so read
 seven_less : (v n : ℕ) → v < 2 ^ (7 * suc n) → v / 2 ^ 7 < 2 ^ (7 * n)
@@ -163,7 +164,7 @@ single_bits : (W p v : ℕ) → field W p (8 * 1) ≡ packed_bits 1 v → field 
 unfolding packed_bits
 single_bits W p v e = e
 
-pub read_from : (left W len p v b : ℕ) → Written left W len p v b → packed_from left W len p ≡ Whole v b
+pub read_from : (left W len p v b : ℕ) → Written left W len p v b → packed_from left W len p ≡ whole v b
 unfolding packed_from earlier_byte fifth_byte after
 read_from zero W len p v b r =
     let eb : b ≡ 1 = (let x = r.some in let y = r.most in omega arith) in
@@ -186,7 +187,7 @@ read_from (suc left) W len p v (suc (suc n)) r =
     let m = r.most in
     let e₁ : (2 * (v % 2 ^ 7) + 1) % 2 ≡ 1 = omega arith in
     let e₂ : (2 * (v % 2 ^ 7) + 1) / 2 ≡ v % 2 ^ 7 = omega arith in
-    let rest : packed_from left W len (p + 8) ≡ Whole (v / 2 ^ 7) (suc n) =
+    let rest : packed_from left W len (p + 8) ≡ whole (v / 2 ^ 7) (suc n) =
     read_from left W len (p + 8) (v / 2 ^ 7) (suc n)
     (record {
       some = omega arith;
@@ -197,7 +198,7 @@ read_from (suc left) W len p v (suc (suc n)) r =
       bits = f.1;
     }) in
     rw (le-leb (p + 8) len (omega arith), f.0, ne_eqb ((2 * (v % 2 ^ 7) + 1) % 2) 0 (λ z. omega arith), e₂, rest)
-    (ap₂ Whole (omega arith) (omega arith))
+    (ap₂ whole (omega arith) (omega arith))
 
 -- no more bits than its bytes have
 pub packed_below : (b v : ℕ) → v < 2 ^ (7 * b) → packed_bits b v < 2 ^ (8 * b)

@@ -8,9 +8,8 @@ use native.Mathlib.Nat.{zero-add, zero-mul, mod-lt, div-one, div-eq_of_lt, lt_of
 use native.Mathlib.Omega.{arith}
 use lib.Pow.{pow_pos, pow_mono, split}
 use Rattle.bits.specs.Bits.{field}
-use Rattle.bits.specs.Packed.{packed, most_bytes}
+use Rattle.bits.specs.Packed.{whole, packed, most_bytes}
 use Rattle.bits.specs.Padded.{padded, ShorterForm}
-use Rattle.bits.specs.declared.Packed.TheVariants.{Whole}
 use Rattle.bits.proofs.FieldLaws.{field_rest}
 use Rattle.bits.proofs.PackedLaws.{whole_bytes}
 use Rattle.bits.proofs.PaddedLaws.{two_bytes, fits_without, is_padded_lem}
@@ -18,14 +17,14 @@ use Rattle.framing.specs.Grammar.{packed_bits}
 use Rattle.framing.proofs.NumberBits.{Written, written_from, read_from, packed_below, last_byte}
 
 -- a number that is read, as it is written
-written : (W len p v n : ℕ) → packed W len p ≡ Whole v n → Written 4 W len p v n
+written : (W len p v n : ℕ) → packed W len p ≡ whole v n → Written 4 W len p v n
 unfolding packed
 written W len p v n e = written_from 4 W len p v n e
 
 -- ---- a shorter form
 
 -- the bits of a value in n bytes, by themselves, are read as that value
-alone : (v n : ℕ) → 1 ≤ n → n ≤ 4 → v < 2 ^ (7 * n) → packed (packed_bits n v) (8 * n) 0 ≡ Whole v n
+alone : (v n : ℕ) → 1 ≤ n → n ≤ 4 → v < 2 ^ (7 * n) → packed (packed_bits n v) (8 * n) 0 ≡ whole v n
 unfolding packed
 alone v n h l f =
     read_from 4 (packed_bits n v) (8 * n) 0 v n
@@ -61,7 +60,7 @@ shorter_padded v n s =
 pub few_exactly : (v n : ℕ) → n ≤ most_bytes → (padded v n ≡ true → ShorterForm v n) × (ShorterForm v n → padded v n ≡ true)
 few_exactly v n most = (shorter_exists v n most, shorter_padded v n)
 
-pub padded_exactly : (W len p v n : ℕ) → packed W len p ≡ Whole v n
+pub padded_exactly : (W len p v n : ℕ) → packed W len p ≡ whole v n
     → (padded v n ≡ true → ShorterForm v n) × (ShorterForm v n → padded v n ≡ true)
 padded_exactly W len p v n r = few_exactly v n (whole_bytes W len p v n r)
 
@@ -71,7 +70,7 @@ padded_exactly W len p v n r = few_exactly v n (whole_bytes W len p v n r)
 abbrev pub last_group : (W p n : ℕ) → ℕ
 last_group W p n = field W (p + 8 * (n - 1)) 8 / 2
 
-last_of : (W len p v n : ℕ) → packed W len p ≡ Whole v n → last_group W p n ≡ v / 2 ^ (7 * (n - 1))
+last_of : (W len p v n : ℕ) → packed W len p ≡ whole v n → last_group W p n ≡ v / 2 ^ (7 * (n - 1))
 last_of W len p v n r =
     let w = written W len p v n r in
     let some : 1 ≤ n = w.some in
@@ -86,7 +85,7 @@ below_power v k e = subst (λ (x : ℕ). x < 2 ^ k) rest (mod-lt v (pow_pos k))
     rest : v % 2 ^ k ≡ v
     rest = sym (zero-add (v % 2 ^ k)) ∙ ap (λ (x : ℕ). x + v % 2 ^ k) (sym (zero-mul (2 ^ k)) ∙ ap (λ (x : ℕ). x * 2 ^ k) (sym e)) ∙ split v k
 
-module _ (W len p v n : ℕ) (r : packed W len p ≡ Whole v n) where
+module _ (W len p v n : ℕ) (r : packed W len p ≡ whole v n) where
   pub last_group_lem : padded v n ≡ true → (1 < n) × (last_group W p n ≡ 0)
   last_group_lem e = (two_bytes v n e, last_of W len p v n r ∙ div-eq_of_lt (fits_without v n e))
 

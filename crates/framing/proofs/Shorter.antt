@@ -7,11 +7,10 @@ use Prim.Native.Nat.{ℕ, ◌+◌, ◌*◌, ◌≤◌}
 use native.Mathlib.Omega.{arith}
 use lib.Dec.{ltb, leb, eqb}
 use borrow.Author.Tests.{ltb-false, leb-false, le-ltb, lt-leb}
-use Rattle.bits.specs.declared.Packed.{Packed}
 use Rattle.bits.proofs.FieldLaws.{field_prefix}
 use Rattle.bits.proofs.PackedWindows.{Shortened, packed_shortened}
 use Rattle.bits.proofs.PackedWindows as PW
-use Rattle.bits.specs.Packed.{Number}
+use Rattle.bits.specs.Packed.{Packed, Number}
 use Rattle.framing.specs.Windows.{Window, part, opening, Reading, got, failed, reading_of, reading}
 use Rattle.framing.specs.Walk.{Lead, ends, fails, closes, opens, lead_of, lead, Due, cut, broken, closed, present, with_width, field_of, field_at}
 

@@ -1,9 +1,8 @@
 -- What an array of the grammar gives: its leaves, its pairs, how many elements it has. `o` is where its window starts in the root window, `p` a bit
 -- of its window.
-use Rattle.std.specs.Prelude.{ℕ, zero, suc, ◌+◌, ◌-◌, ◌*◌, List, [], ◌∷◌, ◌++◌}
+use Rattle.std.specs.Prelude.{ℕ, zero, suc, ◌+◌, ◌-◌, ◌*◌, List, [], ◌∷◌, ◌++◌, Option, Some, None}
 use Rattle.schema.specs.Tables.{Tables, child}
 use Rattle.schema.specs.Labels.{at_index, dot, label_bytes, container_label_lem, leaf_label}
-use Rattle.schema.specs.declared.Child.{Child}
 use Rattle.framing.specs.Events.{Leaf, Pair}
 use Rattle.framing.specs.Grammar.{Bits, Field, field_bits, Element, element_bits, Array}
 use Rattle.framing.specs.GrammarRules.{Content, plain, nested, content_bits, Reference, no_guid, guid}
@@ -26,14 +25,14 @@ module _ {P : Type 0} (bits_of : P → Bits) (ofPayload : (path : List ℕ) (han
   array_leaves o path a = elements_leaves o path (8 * a.count.bytes) a.elements
 
 -- plain bits are a leaf where the schema says no array
-abbrev pub plain_leaves : Tables → (lvl : ℕ) (path : List ℕ) (handle start : ℕ) → Bits → Child → List Leaf
-plain_leaves t lvl path h start b Child.Leaf =
+abbrev pub plain_leaves : Tables → (lvl : ℕ) (path : List ℕ) (handle start : ℕ) → Bits → Option ℕ → List Leaf
+plain_leaves t lvl path h start b None =
     record { path = dot path (label_bytes t h (leaf_label t lvl h)); handle = h; start = start; width = b.size; payload = b.number } ∷ []
-plain_leaves t lvl path h start b (Child.Array below) = []
+plain_leaves t lvl path h start b (Some below) = []
 
-abbrev pub nested_leaves : (inside : (below : ℕ) (path : List ℕ) → List Leaf) → Tables → (lvl : ℕ) (path : List ℕ) (handle : ℕ) → Child → List Leaf
-nested_leaves inside t lvl path h Child.Leaf = []
-nested_leaves inside t lvl path h (Child.Array below) = inside below (dot path (label_bytes t h (container_label_lem t lvl h)))
+abbrev pub nested_leaves : (inside : (below : ℕ) (path : List ℕ) → List Leaf) → Tables → (lvl : ℕ) (path : List ℕ) (handle : ℕ) → Option ℕ → List Leaf
+nested_leaves inside t lvl path h None = []
+nested_leaves inside t lvl path h (Some below) = inside below (dot path (label_bytes t h (container_label_lem t lvl h)))
 
 abbrev pub content_leaves : (deeper : ℕ) → Tables → (lvl : ℕ) (path : List ℕ) (handle start : ℕ) → Content deeper → List Leaf
 content_leaves zero t lvl path h start (plain b) = plain_leaves t lvl path h start b (child t.rows lvl h)

@@ -1,10 +1,8 @@
 -- Which arrays the grammar allows: 01's limits, indices below the count (rule 3), and what a payload may be in a struct walk (rule 6) and in
 -- an object walk (rule 8).
-use Rattle.std.specs.Prelude.{ℕ, zero, suc, ◌-◌, ◌^◌, ◌≤◌, ◌<◌, ◌≡◌, Bool, true, ◌&&◌, List, [], ◌∷◌, length, eqb}
+use Rattle.std.specs.Prelude.{ℕ, zero, suc, ◌-◌, ◌^◌, ◌≤◌, ◌<◌, ◌≡◌, Bool, true, ◌&&◌, List, [], ◌∷◌, length, eqb, Option, Some, None}
 use Rattle.bits.specs.Sizes.{max_elements, max_fields}
 use Rattle.schema.specs.Tables.{child}
-use Rattle.schema.specs.declared.Child.{Child}
-use Rattle.schema.specs.declared.Child.TheVariants.{Leaf}
 use Rattle.framing.specs.Grammar.{Bits, no_bits_lem, Num, num_bits, IsNum, Field, Element, Array, array_bits}
 
 -- ---- fields, elements and arrays
@@ -63,13 +61,13 @@ content_bits (suc deeper) (plain b) = b
 content_bits (suc deeper) (nested a) = array_bits (content_bits deeper) a
 
 -- plain bits where the schema says no array, or an array without payload
-pub data PlainOk (b : Bits) : Child → Type 0 where
-  leaf : PlainOk b Leaf
-  empty : {below : ℕ} → b.size ≡ 0 → PlainOk b (Child.Array below)
+pub data PlainOk (b : Bits) : Option ℕ → Type 0 where
+  leaf : PlainOk b None
+  empty : {below : ℕ} → b.size ≡ 0 → PlainOk b (Some below)
 
 -- an array where the schema says array; `inside` says what is allowed at the level of its elements
-pub data NestedOk (size : ℕ) (inside : (below : ℕ) → Type 0) : Child → Type 0 where
-  array : {below : ℕ} → 1 ≤ size → inside below → NestedOk size inside (Child.Array below)
+pub data NestedOk (size : ℕ) (inside : (below : ℕ) → Type 0) : Option ℕ → Type 0 where
+  array : {below : ℕ} → 1 ≤ size → inside below → NestedOk size inside (Some below)
 
 abbrev pub allowed_in : (deeper : ℕ) (rows : List ℕ) (takes : Bool) (level : ℕ) (first : Bool) (handle : ℕ) → Content deeper → Type 0
 allowed_in zero rows takes lvl first h (plain b) = (b.number < 2 ^ b.size) × PlainOk b (child rows lvl h)

@@ -1,9 +1,7 @@
 -- The three walks (array.rs; 01, Walking an array, rules 6, 8 and 9).
-use Rattle.std.specs.Prelude.{ℕ, zero, suc, ◌*◌, ◌≡◌, Bool, true, false, ◌&&◌, List, [], ◌∷◌, length, ltb, eqb, if◌then◌else◌}
+use Rattle.std.specs.Prelude.{ℕ, zero, suc, ◌*◌, ◌≡◌, Bool, true, false, ◌&&◌, List, [], ◌∷◌, length, ltb, eqb, if◌then◌else◌, Option, Some, None}
 use Rattle.bits.specs.Sizes.{levels_below}
 use Rattle.schema.specs.Tables.{Tables, tables, no_tables, absent, child}
-use Rattle.schema.specs.declared.Child.{Child}
-use Rattle.schema.specs.declared.Child.TheVariants.{Array, Leaf}
 use Rattle.framing.specs.declared.Walk.{Walk}
 use Rattle.framing.specs.declared.Walk.TheVariants as how
 use Rattle.framing.specs.Windows.{Window, window_of, Reading, got, failed, reading}
@@ -35,9 +33,9 @@ leaf_of path handle w = record { path = path; handle = handle; start = w.origin;
 -- Rule 6. A field that is no array is a leaf, also with no payload. An array with no payload gives nothing; with one, `inside` walks it, given
 -- the level of its elements and its path.
 abbrev pub on_child : Tables → (lvl : ℕ) → (inside : (below : ℕ) (path : List ℕ) (handle : ℕ) → Window → Trace)
-    → (path : List ℕ) (handle : ℕ) → Window → Child → Trace
-on_child t lvl inside path handle w Leaf = leaf (leaf_of (leaf_path t lvl path handle) handle w) ∷ []
-on_child t lvl inside path handle w (Array below) =
+    → (path : List ℕ) (handle : ℕ) → Window → Option ℕ → Trace
+on_child t lvl inside path handle w None = leaf (leaf_of (leaf_path t lvl path handle) handle w) ∷ []
+on_child t lvl inside path handle w (Some below) =
     if eqb w.size 0 then [] else inside below (array_path t lvl path handle) handle w
 
 abbrev pub struct_sink_over : (inside : ℕ → List ℕ → ℕ → Window → Trace) → Tables → (trailer : Bool) (leftover : ℕ → Event) (lvl : ℕ) → Sink

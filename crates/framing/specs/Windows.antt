@@ -1,9 +1,7 @@
 -- Windows of bits, and the packed numbers in them.
-use Rattle.std.specs.Prelude.{ℕ, ◌+◌, ◌%◌, ◌^◌, List}
+use Rattle.std.specs.Prelude.{ℕ, ◌+◌, ◌%◌, ◌^◌, List, Ok, Err}
 use Rattle.bits.specs.Bits.{num, field}
-use Rattle.bits.specs.Packed.{packed}
-use Rattle.bits.specs.declared.Packed.{Packed}
-use Rattle.bits.specs.declared.Packed.TheVariants.{Whole, Cut, GoesOn, Overflows}
+use Rattle.bits.specs.Packed.{Packed, packed}
 
 -- A window of `size` bits is a number whose bit k is the window's bit k; its bits from `size` on count for nothing. origin: the bit of the root
 -- window at which it starts.
@@ -30,10 +28,8 @@ pub data Reading : Type 0 where
   failed : Reading
 
 abbrev pub reading_of : Packed → Reading
-reading_of (Whole value bytes) = got value bytes
-reading_of (Cut bytes) = failed
-reading_of GoesOn = failed
-reading_of Overflows = failed
+reading_of (Ok x) = got x.value x.bytes
+reading_of (Err why) = failed
 
 -- the packed number at bit p
 unfoldable pub reading : Window → (p : ℕ) → Reading

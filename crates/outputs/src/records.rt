@@ -40,42 +40,33 @@ pub fn fits(room: usize, used: u32, n: usize) -> bool
 }
 
 // A leaf's record, written whole where it fits, else not at all.
-pub fn store_leaf(
-    leaves: &mut [u32],
-    at: u32,
-    path_start: u32,
-    path_length: u32,
-    handle: u32,
-    payload_bits: u32,
-    payload_start: u32,
-    window_start: u32,
-)
+pub fn store_leaf(leaves: &mut [u32], at: u32, leaf: LeafRecord)
     ensures { leaves.new
         ≡ store leaves.old at
-        (leaf_numbers path_start path_length handle payload_bits payload_start window_start) }
+        (leaf_numbers leaf.path_start leaf.path_length leaf.handle leaf.payload_bits leaf.payload_start leaf.window_start) }
 {
     if !fits(leaves.len(), at, LEAF_WORDS) {
         return;
     }
     let i = at as usize;
-    leaves[i + PATH_START] = path_start;
-    leaves[i + PATH_LENGTH] = path_length;
-    leaves[i + HANDLE] = handle;
-    leaves[i + PAYLOAD_BITS] = payload_bits;
-    leaves[i + PAYLOAD_START] = payload_start;
-    leaves[i + WINDOW_START] = window_start;
+    leaves[i + PATH_START] = leaf.path_start;
+    leaves[i + PATH_LENGTH] = leaf.path_length;
+    leaves[i + HANDLE] = leaf.handle;
+    leaves[i + PAYLOAD_BITS] = leaf.payload_bits;
+    leaves[i + PAYLOAD_START] = leaf.payload_start;
+    leaves[i + WINDOW_START] = leaf.window_start;
 }
 
 // A pair's record, likewise.
-pub fn store_pair(pairs: &mut [u32], at: u32, index: u32, guid: u32)
-    ensures { pairs.new ≡ store pairs.old at (pair_numbers index guid) }
+pub fn store_pair(pairs: &mut [u32], at: u32, pair: PairRecord)
+    ensures { pairs.new ≡ store pairs.old at (pair_numbers pair.index pair.guid) }
 {
     if !fits(pairs.len(), at, PAIR_WORDS) {
         return;
     }
     let i = at as usize;
-    pairs[i + INDEX] = index;
-    pairs[i + GUID] = guid;
+    pairs[i + INDEX] = pair.index;
+    pairs[i + GUID] = pair.guid;
 }
 
 // Leaf i of those that stand in `leaves`.

@@ -1,23 +1,14 @@
--- The laws of labels: pools do not matter to which label it is; an entry that was found gives it; and its bytes are a part of its pool.
-use mathlib.Core.Path.{◌≡◌, refl, sym, ap, ◌∙◌}
-use mathlib.Core.List.{List, []}
-use Prim.Native.Nat.{ℕ, ◌+◌, ◌-◌, ◌≤◌, ◌<◌}
-use native.Mathlib.Omega.{arith}
+-- The laws of labels: an entry that was found gives the label; and its bytes are a part of its pool.
+use mathlib.Core.Path.{◌≡◌, ap}
+use mathlib.Core.List.{List}
+use Prim.Native.Nat.{ℕ, ◌+◌, ◌≤◌}
 use lib.ListN.{length, take, drop}
-use borrow.Author.Tests.{le-leb, lt-leb}
-use Rattle.schema.specs.Tables.{Tables, look_ups, declared_name_lem}
+use borrow.Author.Tests.{le-leb}
+use Rattle.schema.specs.Tables.{Tables, declared_name_lem}
 use Rattle.schema.specs.Spans.{entry}
 use Rattle.schema.specs.Labels.{by_schema_lem, by_declaration_lem, container_label_lem, leaf_label, label_bytes, name_in, label_part_lem}
 use Rattle.schema.specs.declared.Entry.{Entry}
 use Rattle.schema.specs.declared.Label.TheVariants.{Declared, Named}
-
-pub container_of : (t : Tables) (level handle : ℕ) → container_label_lem (look_ups t.rows []) level handle ≡ container_label_lem t level handle
-unfolding container_label_lem
-container_of t level handle = refl
-
-pub leaf_of_lem : (t : Tables) (level handle : ℕ) → leaf_label (look_ups t.rows t.declared) level handle ≡ leaf_label t level handle
-unfolding leaf_label container_label_lem
-leaf_of_lem t level handle = refl
 
 -- the label from the entry that was found
 pub container_from : (t : Tables) (level handle : ℕ) (e : Entry) → e ≡ entry t.rows level handle → by_schema_lem e.name ≡ container_label_lem t level handle
@@ -29,20 +20,10 @@ pub leaf_from : (t : Tables) (level handle : ℕ) (e : Entry) → e ≡ entry t.
 unfolding leaf_label
 leaf_from t level handle e q = ap (by_declaration_lem (declared_name_lem t.declared handle)) (container_from t level handle e q)
 
--- a part that lies in its pool, and one that does not
+-- a part that lies in its pool
 pub part_in : (pool : List ℕ) (start len : ℕ) → start + len ≤ length pool → name_in pool start len ≡ take len (drop start pool)
 unfolding name_in
 part_in pool start len h = rw (le-leb _ _ h)
-
-pub part_out : (pool : List ℕ) (start len : ℕ) → length pool < start + len → name_in pool start len ≡ []
-unfolding name_in
-part_out pool start len h = rw (lt-leb _ _ h)
-
--- as a slice from start to end is cut
-pub part_between : (pool : List ℕ) (start len : ℕ) → start + len ≤ length pool → take (start + len - start) (drop start pool) ≡ name_in pool start len
-part_between pool start len h =
-    let e : start + len - start ≡ len = omega arith in
-    ap (λ (n : ℕ). take n (drop start pool)) e ∙ sym (part_in pool start len h)
 
 -- the bytes of a label whose name lies in its pool
 module _ (t : Tables) (handle start len : ℕ) where

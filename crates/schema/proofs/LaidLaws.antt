@@ -1,26 +1,37 @@
 -- What tables that keep the layout promise: sizes, and that names lie in their pools.
-use Rattle.std.specs.Prelude.{if◌then◌else◌}
-use mathlib.Core.Path.{◌≡◌, refl, subst}
+use Rattle.std.specs.Prelude.{if◌then◌else◌, Option, Some, None}
+use mathlib.Core.Path.{◌≡◌, refl, ap, subst}
 use mathlib.Core.Bool.{Bool, true, false}
+use mathlib.Core.List.{List}
 use Prim.Native.Nat.{ℕ, ◌+◌, ◌*◌, ◌/◌, ◌%◌, ◌≤◌, ◌<◌}
 use native.Mathlib.Omega.{arith}
 use lib.Dec.{leb, ltb, eqb}
 use lib.ListN.{length, get_or, drop, length-drop}
 use lib.Seq.{length-take-le}
 use borrow.Author.Tests.{ltb-true, leb-true, eqb-true}
+use Rattle.std.proofs.lemmas.Option.{same_Some}
 use Rattle.bits.specs.Sizes.{max_levels, max_rows, max_handles, max_name, max_pool}
-use Rattle.schema.specs.Tables.{Tables, absent, name_kind, cell, row_matches_lem, row_count, row_of, name_at, schema_name, declared_name_lem}
-use Rattle.schema.specs.Layout.{all_from, name_fits_lem, kind_fits_lem, row_fits, declared_fits, schema_sized, declared_sized, root_fits_lem, schema_laid, declared_laid, laid_out}
+use Rattle.schema.specs.Tables.{Tables, absent, name_kind, cell, named_at, row_matches_lem, row_count, row_of, name_at, schema_name, declared_name_lem}
+use Rattle.schema.specs.Layout.{all_from, name_fits_lem, kind_fits_lem, row_fits, declared_fits, table_sized, schema_sized, declared_sized, root_fits_lem, schema_laid, declared_laid, laid_out}
 use Rattle.schema.specs.Labels.{by_schema_lem, by_declaration_lem, container_label_lem, leaf_label, label_bytes, label_length_lem, label_part_lem, NameLies, LabelLies, LabelsLie}
-use Rattle.schema.specs.declared.Row.{Row}
-use Rattle.schema.specs.declared.Name.{Name}
-use Rattle.schema.specs.declared.Name.TheVariants.{At, Unnamed}
+use Rattle.schema.specs.declared.NameAt.{NameAt}
 use Rattle.schema.specs.declared.Label.{Label}
 use Rattle.schema.specs.declared.Label.TheVariants.{Declared, Named, Plain}
 use Rattle.schema.proofs.RowLaws.{found, found_matches}
-use Rattle.schema.proofs.LayoutLaws.{and_left, and_right, and_three, and_four, all_at}
+use Rattle.schema.proofs.LayoutLaws.{and_left, and_right, and_three, all_at}
 use Rattle.schema.proofs.LabelLaws.{declared_bytes, named_bytes}
 use Rattle.bits.proofs.DecimalLaws.{decimal_some}
+
+-- the parts of a table's size
+pub record Sized (table : List ℕ) (size most pool : ℕ) : Type 0 where
+  pub few : length table ≤ size * most
+  pub whole : length table % size ≡ 0
+  pub pool_le : pool ≤ max_pool
+
+sized : (table : List ℕ) (size most pool : ℕ) → table_sized table size most pool ≡ true → Sized table size most pool
+sized table size most pool e =
+    let f = and_three (leb (length table) (size * most)) (eqb (length table % size) 0) (leb pool max_pool) e in
+    record { few = leb-true _ _ f.0; whole = eqb-true _ _ f.1; pool_le = leb-true _ _ f.2 }
 
 lies : (pool start len : ℕ) → name_fits_lem pool start len ≡ true → NameLies pool start len
 unfolding name_fits_lem
@@ -49,10 +60,12 @@ module _ (t : Tables) (levels root : ℕ) where
   unfolding schema_laid
   schema_parts e = and_three (schema_sized t.rows levels (length t.names)) (root_fits_lem levels root) _ e
 
-  sized_parts : schema_sized t.rows levels (length t.names) ≡ true
-      → (leb levels max_levels ≡ true) × (leb (length t.rows) (5 * max_rows) ≡ true) × (eqb (length t.rows % 5) 0 ≡ true) × (leb (length t.names) max_pool ≡ true)
+  sized_parts : schema_sized t.rows levels (length t.names) ≡ true → (leb levels max_levels ≡ true) × (table_sized t.rows 5 max_rows (length t.names) ≡ true)
   unfolding schema_sized
-  sized_parts e = and_four (leb levels max_levels) (leb (length t.rows) (5 * max_rows)) (eqb (length t.rows % 5) 0) (leb (length t.names) max_pool) e
+  sized_parts e =
+      let a = leb levels max_levels in
+      let b = table_sized t.rows 5 max_rows (length t.names) in
+      (and_left a b e, and_right a b e)
 
   declared_parts : declared_laid t.declared (length t.declared_names_lem) ≡ true
       → (declared_sized t.declared (length t.declared_names_lem) ≡ true)
@@ -63,36 +76,32 @@ module _ (t : Tables) (levels root : ℕ) where
       let b = all_from (length t.declared / 2) (declared_fits t.declared (length t.declared_names_lem)) 0 in
       (and_left a b e, and_right a b e)
 
-  handles_parts : declared_sized t.declared (length t.declared_names_lem) ≡ true
-      → (leb (length t.declared) (2 * max_handles) ≡ true) × (eqb (length t.declared % 2) 0 ≡ true) × (leb (length t.declared_names_lem) max_pool ≡ true)
-  unfolding declared_sized
-  handles_parts e = and_three (leb (length t.declared) (2 * max_handles)) (eqb (length t.declared % 2) 0) (leb (length t.declared_names_lem) max_pool) e
-
   pub laid : laid_out t levels root ≡ true → Laid t levels root
-  unfolding laid_out
+  unfolding laid_out declared_sized
   laid e =
       let a = schema_laid t.rows levels root (length t.names) in
       let b = declared_laid t.declared (length t.declared_names_lem) in
       let s = schema_parts (and_left a b e) in
       let z = sized_parts s.0 in
       let d = declared_parts (and_right a b e) in
-      let h = handles_parts d.0 in
+      let r = sized t.rows 5 max_rows (length t.names) z.1 in
+      let h = sized t.declared 2 max_handles (length t.declared_names_lem) d.0 in
       record {
         levels_le = leb-true _ _ z.0;
-        rows_le = leb-true _ _ z.1;
-        rows_whole = eqb-true _ _ z.2;
-        names_le = leb-true _ _ z.3;
+        rows_le = r.few;
+        rows_whole = r.whole;
+        names_le = r.pool_le;
         root_fits = s.1;
         each_row = λ i k. all_at (row_count t.rows) (row_fits t.rows levels (length t.names)) 0 s.2 i (omega arith) (omega arith);
-        declared_le = leb-true _ _ h.0;
-        declared_whole = eqb-true _ _ h.1;
-        declared_names_le = leb-true _ _ h.2;
+        declared_le = h.few;
+        declared_whole = h.whole;
+        declared_names_le = h.pool_le;
         each_handle = λ i k. all_at (length t.declared / 2) (declared_fits t.declared (length t.declared_names_lem)) 0 d.1 i (omega arith) (omega arith);
       }
 
 module _ (t : Tables) (levels root : ℕ) (l : Laid t levels root) where
   -- a row that was found has what its kind asks
-  of_kind : (level kind handle j : ℕ) → row_of t.rows level kind handle ≡ Row.At j
+  of_kind : (level kind handle j : ℕ) → row_of t.rows level kind handle ≡ Some j
       → kind_fits_lem levels (length t.names) kind (cell t.rows j 3) (cell t.rows j 4) ≡ true
   unfolding row_of row_matches_lem row_fits
   of_kind level kind handle j e =
@@ -109,25 +118,26 @@ module _ (t : Tables) (levels root : ℕ) (l : Laid t levels root) where
       subst (λ (x : ℕ). kind_fits_lem levels (length t.names) x (cell t.rows j 3) (cell t.rows j 4) ≡ true) k r
 
   -- a schema's name lies in its pool
-  pub name_lies : (level handle start len : ℕ) → schema_name t.rows level handle ≡ At start len → NameLies (length t.names) start len
+  pub name_lies : (level handle start len : ℕ) → schema_name t.rows level handle ≡ Some (named_at start len) → NameLies (length t.names) start len
   unfolding schema_name kind_fits_lem
   name_lies level handle start len e = go (row_of t.rows level name_kind handle) refl e
     where
-      go : (r : Row) → row_of t.rows level name_kind handle ≡ r → name_at t.rows r ≡ At start len → NameLies (length t.names) start len
-      go Row.Missing q h = let z : ◌≡◌ {A = ℕ} 0 1 = cc in absurd (omega arith)
-      go (Row.At j) q h =
-          let s : cell t.rows j 3 ≡ start = cc in
-          let n : cell t.rows j 4 ≡ len = cc in
+      go : (r : Option ℕ) → row_of t.rows level name_kind handle ≡ r → name_at t.rows r ≡ Some (named_at start len) → NameLies (length t.names) start len
+      go None q h = let z : ◌≡◌ {A = ℕ} 0 1 = cc in absurd (omega arith)
+      go (Some j) q h =
+          let q₀ = same_Some _ _ h in
+          let s : cell t.rows j 3 ≡ start = ap (λ (n : NameAt). n.start) q₀ in
+          let n : cell t.rows j 4 ≡ len = ap (λ (n : NameAt). n.len) q₀ in
           let b = lies (length t.names) (cell t.rows j 3) (cell t.rows j 4) (of_kind level name_kind handle j q) in
           omega arith
 
   -- a declared name lies in its pool
-  pub declared_lies : (handle start len : ℕ) → declared_name_lem t.declared handle ≡ At start len → NameLies (length t.declared_names_lem) start len
+  pub declared_lies : (handle start len : ℕ) → declared_name_lem t.declared handle ≡ Some (named_at start len) → NameLies (length t.declared_names_lem) start len
   unfolding declared_name_lem declared_fits
   declared_lies handle start len e = go (ltb (2 * handle) (length t.declared)) refl (eqb (get_or t.declared (2 * handle) 0) absent) refl e
     where
       go : (b : Bool) → ltb (2 * handle) (length t.declared) ≡ b → (a : Bool) → eqb (get_or t.declared (2 * handle) 0) absent ≡ a
-          → (if b then (if a then Unnamed else At (get_or t.declared (2 * handle) 0) (get_or t.declared (2 * handle + 1) 0)) else Unnamed) ≡ At start len
+          → (if b then (if a then None else Some (named_at (get_or t.declared (2 * handle) 0) (get_or t.declared (2 * handle + 1) 0))) else None) ≡ Some (named_at start len)
           → NameLies (length t.declared_names_lem) start len
       go false q a r h = let z : ◌≡◌ {A = ℕ} 0 1 = cc in absurd (omega arith)
       go true q true r h = let z : ◌≡◌ {A = ℕ} 0 1 = cc in absurd (omega arith)
@@ -135,8 +145,9 @@ module _ (t : Tables) (levels root : ℕ) (l : Laid t levels root) where
           let k = ltb-true (2 * handle) (length t.declared) q in
           let w = l.declared_whole in
           let f = l.each_handle handle (omega arith) in
-          let s : get_or t.declared (2 * handle) 0 ≡ start = cc in
-          let n : get_or t.declared (2 * handle + 1) 0 ≡ len = cc in
+          let q₀ = same_Some _ _ h in
+          let s : get_or t.declared (2 * handle) 0 ≡ start = ap (λ (n : NameAt). n.start) q₀ in
+          let n : get_or t.declared (2 * handle + 1) 0 ≡ len = ap (λ (n : NameAt). n.len) q₀ in
           let b = lies (length t.declared_names_lem) (get_or t.declared (2 * handle) 0) (get_or t.declared (2 * handle + 1) 0) (rw r at f) in
           omega arith
 
@@ -145,17 +156,17 @@ module _ (t : Tables) (levels root : ℕ) (l : Laid t levels root) where
   unfolding LabelLies container_label_lem by_schema_lem
   container_lies level handle = go (schema_name t.rows level handle) refl
     where
-      go : (n : Name) → schema_name t.rows level handle ≡ n → LabelLies t (by_schema_lem n)
-      go (At start len) e = name_lies t levels root l level handle start len e
-      go Unnamed e = tt
+      go : (n : Option NameAt) → schema_name t.rows level handle ≡ n → LabelLies t (by_schema_lem n)
+      go (Some name) e = name_lies t levels root l level handle name.start name.len e
+      go None e = tt
 
   pub leaf_lies : (level handle : ℕ) → LabelLies t (leaf_label t level handle)
   unfolding LabelLies leaf_label by_declaration_lem
   leaf_lies level handle = go (declared_name_lem t.declared handle) refl (container_lies level handle)
     where
-      go : (n : Name) → declared_name_lem t.declared handle ≡ n → LabelLies t (container_label_lem t level handle) → LabelLies t (by_declaration_lem n (container_label_lem t level handle))
-      go (At start len) e other = declared_lies t levels root l handle start len e
-      go Unnamed e other = other
+      go : (n : Option NameAt) → declared_name_lem t.declared handle ≡ n → LabelLies t (container_label_lem t level handle) → LabelLies t (by_declaration_lem n (container_label_lem t level handle))
+      go (Some name) e other = declared_lies t levels root l handle name.start name.len e
+      go None e other = other
 
 pub labels_lie : (t : Tables) (levels root : ℕ) → laid_out t levels root ≡ true → LabelsLie t
 labels_lie t levels root good = let l = laid t levels root good in record { leaf = leaf_lies t levels root l; container = container_lies t levels root l }

@@ -3,6 +3,5 @@ pub mod SpanLaws
 pub mod LayoutLaws
 pub mod LabelLaws
 pub mod LaidLaws
-pub mod CopyLaws
 pub mod TwelveLaws
 pub mod PathLengths

@@ -1,52 +1,30 @@
 -- The twelve levels: what filling gives, that the table is laid out, and that it says what schema.rs says.
-use Rattle.std.specs.Prelude.{if◌then◌else◌}
+use Rattle.std.specs.Prelude.{if◌then◌else◌, Option, None, Ok}
 use mathlib.Core.Path.{◌≡◌, refl, sym, ap, ap₂, ◌∙◌}
 use mathlib.Core.Bool.{Bool, true, false}
-use mathlib.Core.List.{List, [], ◌∷◌, map}
+use mathlib.Core.List.{List, [], ◌∷◌, ◌++◌, map}
 use Prim.Native.Nat.{ℕ, ◌+◌, ◌-◌, ◌≤◌, ◌<◌}
 use native.Mathlib.Omega.{arith}
 use lib.Dec.{ltb, eqb}
-use lib.ListN.{length}
-use borrow.Author.Tests.{le-leb, lt-leb, lt-ltb, eqb-true}
+use lib.ListN.{length, drop}
+use borrow.Author.Tests.{le-leb, lt-ltb, eqb-true}
 use Rattle.bits.specs.Runs.{put}
 use Rattle.schema.specs.Tables.{absent, cell, row_matches_lem, array_kind, name_kind, child_at, name_at, first_row_lem, row_of, row_count, child, schema_name}
 use Rattle.schema.specs.Layout.{all_from, name_fits_lem, kind_fits_lem, row_fits, declared_fits, schema_sized, declared_sized, root_fits_lem, schema_laid, declared_laid, laid_out}
 use Rattle.schema.specs.Labels.{by_schema_lem, container_label_lem, label_bytes, unnamed}
 use Rattle.schema.specs.SchemaFile.{Stated, stated, about, of_stated, is_stated, child_stated, label_stated}
-use Rattle.schema.specs.TwelveLevels.{twelve_levels, level_count, schema_rows, schema_names, ascii, row_numbers, name_bytes, enough, fill_answer, filled_rows, filled_names}
-use Rattle.schema.specs.declared.Row.{Row}
-use Rattle.schema.specs.declared.Child.TheVariants.{Leaf}
+use Rattle.schema.specs.TwelveLevels.{twelve_levels, level_count, schema_rows, schema_names, ascii, row_numbers, name_bytes, enough, fill_answer, filled_rows, filled_names, FillsSchema}
 use Rattle.schema.proofs.RowLaws.{skip_front, none_left}
 use Rattle.schema.proofs.LayoutLaws.{and_left, and_right, and_three, all_at}
-use Rattle.schema.specs.declared.Filled.{Filled}
-use Rattle.schema.specs.declared.Filled.TheVariants.{Done, Short}
 
--- the answer and the two buffers
-module _ (rows names : List ℕ) where
-  pub record Fills (r : Filled) (rows' names' : List ℕ) : Type 0 where
-    pub answer : r ≡ fill_answer rows names
-    pub rows_are : rows' ≡ filled_rows rows names
-    pub names_are : names' ≡ filled_names rows names
-
-  not_enough : enough rows names ≡ false → Fills (Short row_numbers name_bytes) rows names
-  unfolding fill_answer filled_rows filled_names
-  not_enough e = record { answer = rw e; rows_are = rw e; names_are = rw e }
-
-  pub short_rows : length rows < row_numbers → Fills (Short row_numbers name_bytes) rows names
-  unfolding enough
-  short_rows h = not_enough (simp (lt-leb _ _ h))
-
-  pub short_names : row_numbers ≤ length rows → length names < name_bytes → Fills (Short row_numbers name_bytes) rows names
-  unfolding enough
-  short_names h k = not_enough (simp (le-leb _ _ h, lt-leb _ _ k))
-
-  pub both_fit : (rows' names' : List ℕ) → row_numbers ≤ length rows → name_bytes ≤ length names → rows' ≡ put rows 0 schema_rows
-      → names' ≡ put names 0 schema_names → Fills Done rows' names'
-  unfolding enough fill_answer filled_rows filled_names
-  both_fit rows' names' h k e f =
-      let a = le-leb _ _ h in
-      let b = le-leb _ _ k in
-      record { answer = simp (a, b); rows_are = simp (a, b) e; names_are = simp (a, b) f }
+-- the answer and the two buffers, where both have room
+pub both_fit : (rows names rows' names' : List ℕ) → row_numbers ≤ length rows → name_bytes ≤ length names → rows' ≡ schema_rows ++ drop row_numbers rows
+    → names' ≡ schema_names ++ drop name_bytes names → FillsSchema rows names (Ok tt) rows' names'
+unfolding enough fill_answer filled_rows filled_names put schema_rows schema_names ascii
+both_fit rows names rows' names' h k e f =
+    let a = le-leb _ _ h in
+    let b = le-leb _ _ k in
+    (simp (a, b), simp (a, b) e, simp (a, b) f)
 
 -- the table keeps its layout, whichever of its levels is the root
 root_below : (levels root : ℕ) → root < levels → root_fits_lem levels root ≡ true
@@ -65,7 +43,7 @@ twelve_laid root h = rw (root_below level_count root h)
 abbrev label_at : (level handle : ℕ) → List ℕ
 label_at level handle = label_bytes twelve_levels handle (container_label_lem twelve_levels level handle)
 
-children_stated : map (λ s. child schema_rows s.level s.handle) stated ≡ map (λ s. s.child) stated
+children_stated : map (λ s. child schema_rows s.level s.handle) stated ≡ map (λ s. s.elements) stated
 unfolding child row_of first_row_lem row_matches_lem cell schema_rows
 children_stated = refl
 
@@ -116,7 +94,7 @@ module _ (level handle : ℕ) (h : is_stated level handle ≡ false) where
           let z : ◌≡◌ {A = ℕ} 0 1 = cc in
           absurd (omega arith)
 
-  no_row_of : (kind : ℕ) → row_of schema_rows level kind handle ≡ Row.Missing
+  no_row_of : (kind : ℕ) → row_of schema_rows level kind handle ≡ None
   unfolding row_of
   no_row_of kind =
       let n = row_count schema_rows in
@@ -127,17 +105,17 @@ module _ (level handle : ℕ) (h : is_stated level handle ≡ false) where
       ∙ ap (λ (m : ℕ). first_row_lem (n - n) schema_rows level kind handle m) e₀
       ∙ none_left schema_rows level kind handle n n (omega arith)
 
-  no_child : child schema_rows level handle ≡ Leaf
+  no_child : child schema_rows level handle ≡ None
   unfolding child
   no_child = ap (child_at schema_rows) (no_row_of array_kind)
 
   no_label : label_at level handle ≡ unnamed handle
   unfolding schema_name container_label_lem by_schema_lem label_bytes
-  no_label = ap (λ (r : Row). label_bytes twelve_levels handle (by_schema_lem (name_at schema_rows r))) (no_row_of name_kind)
+  no_label = ap (λ (r : Option ℕ). label_bytes twelve_levels handle (by_schema_lem (name_at schema_rows r))) (no_row_of name_kind)
 
 -- the table says what schema.rs states of each handle of each level, and nothing else
 pub table_child : (level handle : ℕ) → child schema_rows level handle ≡ child_stated level handle
-table_child level handle = as_stated (child schema_rows) (λ s. s.child) Leaf level handle stated children_stated (no_child level handle)
+table_child level handle = as_stated (child schema_rows) (λ s. s.elements) None level handle stated children_stated (no_child level handle)
 
 pub table_label : (level handle : ℕ) → label_at level handle ≡ label_stated level handle
 table_label level handle = as_stated label_at (λ s. s.name) (unnamed handle) level handle stated labels_stated (no_label level handle)

@@ -1,11 +1,10 @@
 -- Labels and paths (01, Walking an array). A path joins `[index]` and `.label`.
-use Rattle.std.specs.Prelude.{ℕ, ◌+◌, ◌≤◌, List, [], ◌∷◌, ◌++◌, length, take, drop, leb, if◌then◌else◌}
+use Rattle.std.specs.Prelude.{ℕ, Option, Some, None, ◌+◌, ◌≤◌, List, [], ◌∷◌, ◌++◌, length, take, drop, leb, if◌then◌else◌}
 use Rattle.bits.specs.Sizes.{max_name}
 unfoldable pub use Rattle.bits.specs.Decimals.{decimal}
 use Rattle.schema.specs.Tables.{Tables, look_ups, schema_name, declared_name_lem}
 use Rattle.schema.specs.declared.Entry.{Entry}
-use Rattle.schema.specs.declared.Name.{Name}
-use Rattle.schema.specs.declared.Name.TheVariants.{At, Unnamed}
+use Rattle.schema.specs.declared.NameAt.{NameAt}
 use Rattle.schema.specs.declared.Label.{Label}
 use Rattle.schema.specs.declared.Label.TheVariants.{Declared, Named, Plain}
 
@@ -14,17 +13,17 @@ abbrev pub unnamed : (handle : ℕ) → List ℕ
 unnamed handle = 95 ∷ 104 ∷ decimal handle
 
 -- by the schema, or by `_h` and the number: so containers are called, whatever is declared
-unfoldable pub by_schema_lem : Name → Label
-by_schema_lem (At start len) = Named start len
-by_schema_lem Unnamed = Plain
+unfoldable pub by_schema_lem : Option NameAt → Label
+by_schema_lem (Some name) = Named name.start name.len
+by_schema_lem None = Plain
 
 unfoldable pub container_label_lem : Tables → (level handle : ℕ) → Label
 container_label_lem t level handle = by_schema_lem (schema_name t.rows level handle)
 
 -- a leaf is called by its declaration, and where there is none as a container is
-unfoldable pub by_declaration_lem : Name → Label → Label
-by_declaration_lem (At start len) other = Declared start len
-by_declaration_lem Unnamed other = other
+unfoldable pub by_declaration_lem : Option NameAt → Label → Label
+by_declaration_lem (Some name) other = Declared name.start name.len
+by_declaration_lem None other = other
 
 unfoldable pub leaf_label : Tables → (level handle : ℕ) → Label
 leaf_label t level handle = by_declaration_lem (declared_name_lem t.declared handle) (container_label_lem t level handle)

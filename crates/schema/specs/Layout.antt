@@ -27,13 +27,15 @@ declared_fits declared pool h =
     if eqb (get_or declared (2 * h) 0) absent then eqb (get_or declared (2 * h + 1) 0) 0 else
     name_fits_lem pool (get_or declared (2 * h) 0) (get_or declared (2 * h + 1) 0)
 
--- whole rows and pools within the sizes
+-- a table of whole rows of `size` numbers each, at most `most` of them, and its pool within its size
+abbrev pub table_sized : (table : List ℕ) (size most pool : ℕ) → Bool
+table_sized table size most pool = leb (length table) (size * most) && eqb (length table % size) 0 && leb pool max_pool
+
 unfoldable pub schema_sized : (rows : List ℕ) (levels pool : ℕ) → Bool
-schema_sized rows levels pool =
-    leb levels max_levels && leb (length rows) (row_size * max_rows) && eqb (length rows % row_size) 0 && leb pool max_pool
+schema_sized rows levels pool = leb levels max_levels && table_sized rows row_size max_rows pool
 
 unfoldable pub declared_sized : (declared : List ℕ) (pool : ℕ) → Bool
-declared_sized declared pool = leb (length declared) (2 * max_handles) && eqb (length declared % 2) 0 && leb pool max_pool
+declared_sized declared pool = table_sized declared 2 max_handles pool
 
 -- the root level is there, or there is no schema
 unfoldable pub root_fits_lem : (levels root : ℕ) → Bool

@@ -1,12 +1,11 @@
 -- The twelve levels of schema.rs as one table, and those of them that schema.rs makes public, by number.
-use Rattle.std.specs.Prelude.{ℕ, ◌≡◌, List, [], ◌∷◌, Bool, ◌&&◌, length, leb, if◌then◌else◌}
+use Rattle.std.specs.Prelude.{ℕ, Result, Ok, Err, ◌≡◌, List, [], ◌∷◌, Bool, ◌&&◌, length, leb, if◌then◌else◌}
 use Prim.Native.Char.{code}
 use Prim.Native.String.{String}
 use Prim.Native.String as S
 use Rattle.bits.specs.Runs.{put}
 use Rattle.schema.specs.Tables.{Tables, tables}
-use Rattle.schema.specs.declared.Filled.{Filled}
-use Rattle.schema.specs.declared.Filled.TheVariants.{Done, Short}
+use Rattle.schema.specs.declared.Short.{Short}
 
 abbrev pub leaves_level : ℕ
 leaves_level = 0
@@ -114,8 +113,12 @@ name_bytes = 187
 unfoldable pub enough : (rows names : List ℕ) → Bool
 enough rows names = leb row_numbers (length rows) && leb name_bytes (length names)
 
-unfoldable pub fill_answer : (rows names : List ℕ) → Filled
-fill_answer rows names = if enough rows names then Done else Short row_numbers name_bytes
+-- what both need
+abbrev pub needs : Short
+needs = record { rows = row_numbers; names = name_bytes }
+
+unfoldable pub fill_answer : (rows names : List ℕ) → Result Unit Short
+fill_answer rows names = if enough rows names then Ok tt else Err needs
 
 unfoldable pub filled_rows : (rows names : List ℕ) → List ℕ
 filled_rows rows names = if enough rows names then put rows 0 schema_rows else rows
@@ -124,6 +127,6 @@ unfoldable pub filled_names : (rows names : List ℕ) → List ℕ
 filled_names rows names = if enough rows names then put names 0 schema_names else names
 
 -- the contract: what is answered, and what the two buffers hold at the exit
-abbrev pub FillsSchema : (rows names : List ℕ) → Filled → (endRows endNames : List ℕ) → Type 0
+abbrev pub FillsSchema : (rows names : List ℕ) → Result Unit Short → (endRows endNames : List ℕ) → Type 0
 FillsSchema rows names r endRows endNames =
     (r ≡ fill_answer rows names) × (endRows ≡ filled_rows rows names) × (endNames ≡ filled_names rows names)

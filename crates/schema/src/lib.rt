@@ -14,38 +14,25 @@ pub mod spans;
 mod table;
 pub mod twelve;
 
-// The numbers of a row, and its two kinds.
+// The numbers of a row, and its two kinds, as C lays them out.
 pub const ROW_SIZE: usize = 5;
 
 pub const ARRAY_KIND: u32 = 0;
 
 pub const NAME_KIND: u32 = 1;
 
-// The root level that means no schema, and the start that means no declared name.
+// What C lends for none: the root level that means no schema, and the start that means no declared name.
 pub const ABSENT: u32 = 4294967295;
 
-// The first row that matches.
+// Where a name stands in its pool, and how many bytes it has.
 #[derive(Clone, Copy)]
-pub enum Row {
-    At(usize),
-    Missing,
+pub struct NameAt {
+    pub start: u32,
+    pub len: u32,
 }
 
-// Whether a handle is an array, and the level of its elements.
-#[derive(Clone, Copy)]
-pub enum Child {
-    Array(u32),
-    Leaf,
-}
-
-// Where a name stands in its pool: start, length.
-#[derive(Clone, Copy)]
-pub enum Name {
-    At(u32, u32),
-    Unnamed,
-}
-
-// A label: a name of the declared pool, a name of the schema's pool, or `_h` and the handle.
+// A label: a name of the declared pool, a name of the schema's pool, or `_h` and the handle. A name's start and length stand for themselves
+// here (measured: a `NameAt` in a label is moved as one number of 64 bits, 6 % of a flat walk's instructions).
 #[derive(Clone, Copy)]
 pub enum Label {
     Declared(u32, u32),
@@ -53,17 +40,23 @@ pub enum Label {
     Plain,
 }
 
-// What the schema says of a handle of a level.
+// What the schema says of a handle of a level: the level of its elements where it is an array, and its name.
 #[derive(Clone, Copy)]
 pub struct Entry {
-    pub child: Child,
-    pub name: Name,
+    pub elements: Option<u32>,
+    pub name: Option<NameAt>,
 }
 
-// What came of filling two lent buffers with the twelve levels.
+// The rows of a level: its first, and the one after its last; both 0 where it has none.
 #[derive(Clone, Copy)]
-pub enum Filled {
-    Done,
-    // One is too short: the u32 that the rows need, and the bytes that the names need.
-    Short(usize, usize),
+pub struct Span {
+    pub first: usize,
+    pub last: usize,
+}
+
+// A buffer was too short for the twelve levels: what both need, u32 of rows and bytes of names.
+#[derive(Clone, Copy)]
+pub struct Short {
+    pub rows: usize,
+    pub names: usize,
 }

@@ -2,9 +2,9 @@
 ghost use Rattle.std.specs.Prelude.{◌≡◌};
 ghost use Rattle.schema.specs.Refusals.{said, tables_number_lem};
 
-use crate::Filled;
+use crate::Short;
 
-// The number, and what the buffers need: u32 of rows, bytes of names.
+// The number, which C is handed, and what the buffers need: u32 of rows, bytes of names.
 #[derive(Clone, Copy)]
 pub struct Saying {
     pub number: u32,
@@ -13,16 +13,16 @@ pub struct Saying {
 }
 
 // Of buffers that were to be filled.
-pub fn said(answer: Filled) -> Saying
+pub fn said(answer: Result<(), Short>) -> Saying
     ensures { result ≡ said answer }
 {
     match answer {
-        Filled::Done => Saying {
+        Ok(()) => Saying {
             number: 0,
             rows: 0,
             names: 0,
         },
-        Filled::Short(rows, names) => Saying {
+        Err(Short { rows, names }) => Saying {
             number: 3,
             rows,
             names,

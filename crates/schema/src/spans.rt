@@ -1,109 +1,94 @@
 // Look-ups in the rows of one level: the walkers look up once for each field.
-ghost use Rattle.std.specs.Prelude.{◌≡◌, ◌+◌, ◌-◌, ◌*◌, ◌^◌, ◌≤◌, ◌<◌, eqb, length};
+ghost use Rattle.std.specs.Prelude.{◌≡◌, ◌+◌, ◌-◌, ◌*◌, ◌^◌, ◌≤◌, ◌<◌, length};
 ghost use Rattle.bits.specs.Sizes.{max_levels};
-ghost use Rattle.schema.specs.Tables.{row_size, row_matches_lem, array_kind, name_kind};
-ghost use Rattle.schema.specs.Spans.{span_place, widened, spans_of, entry_in_lem, entry_at};
+ghost use Rattle.schema.specs.Tables.{row_size};
+ghost use Rattle.schema.specs.Spans.{kind_in, span_place, with_row_lem, spans_of, entry_in_lem, entry_at};
 
-use crate::lookup::{cell_at, clipped};
-use crate::{ARRAY_KIND, Child, Entry, NAME_KIND, Name, ROW_SIZE};
+use crate::lookup::{cell_at, clipped, name_in_row};
+use crate::{ARRAY_KIND, Entry, NAME_KIND, ROW_SIZE, Span};
 use bits::sizes::MAX_LEVELS;
 
-// A kind that no row has.
-const NO_KIND: u32 = 2;
+// A span for each level that a schema may have, and one that all others share.
+pub const SPANS: usize = (MAX_LEVELS as usize) + 1;
 
-// Where the one span of all levels that a schema may not have stands.
-const SHARED: usize = 2 * (MAX_LEVELS as usize);
-
-// The numbers of all spans.
-pub const SPAN_NUMBERS: usize = SHARED + 2;
+pub type Spans = [Span; SPANS];
 
 // Where the span of a level stands.
+#[tactic(auto, unfolding(crate::specs::Spans::span_place))]
 fn place_of(level: u32) -> usize
-    ensures { (result ≡ span_place level) × (result ≤ 2 * max_levels) }
+    ensures { (result ≡ span_place level) × (result ≤ max_levels) }
 {
-    if level < MAX_LEVELS {
-        2 * (level as usize)
-    } else {
-        SHARED
-    }
+    level.min(MAX_LEVELS) as usize
 }
 
-// Row i of a level widens its span.
-fn widen(spans: &mut [usize; SPAN_NUMBERS], level: u32, i: usize)
+// The span with row i, which stands behind its others.
+#[tactic(auto, unfolding(crate::specs::Spans::with_row_lem))]
+fn with_row(span: Span, i: usize) -> Span
     requires { i < 2 ^ 64 - 1 }
-    ensures { spans.new ≡ widened spans.old level i }
+    ensures { result ≡ with_row_lem span i }
 {
-    let at = place_of(level);
-    let next = i + 1;
-    if spans[at + 1] == 0 {
-        spans[at] = i;
-        spans[at + 1] = next;
-        return;
-    }
-    spans[at + 1] = next;
+    let first = if span.last == 0 { i } else { span.first };
+    Span { first, last: i + 1 }
 }
 
-// The span of each level.
-pub fn level_spans(rows: &[u32]) -> [usize; SPAN_NUMBERS]
+// The span of each level. Compiled into its caller, so that the spans are not copied.
+#[inline(always)]
+pub fn level_spans(rows: &[u32]) -> Spans
     ensures { result ≡ spans_of rows.now }
 {
-    let mut spans = [0usize; SPAN_NUMBERS];
-    let n = rows.len() / ROW_SIZE;
-    let mut i: usize = 0;
-    while i < n {
-        let level = cell_at(rows, i, 0);
-        widen(&mut spans, level, i);
-        i += 1;
+    let mut spans = [Span { first: 0, last: 0 }; SPANS];
+    for i in 0..rows.len() / ROW_SIZE {
+        let at = place_of(cell_at(rows, i, 0));
+        spans[at] = with_row(spans[at], i);
     }
     spans
 }
 
-// The kind of row i where its level and handle are these; else none.
-fn kind_at(rows: &[u32], i: usize, level: u32, handle: u32) -> u32
-    requires { row_size * i + row_size ≤ length rows.now }
-    ensures { (eqb result array_kind ≡ row_matches_lem rows.now level array_kind handle i)
-        × (eqb result name_kind ≡ row_matches_lem rows.now level name_kind handle i) }
-{
-    if cell_at(rows, i, 2) != handle {
-        return NO_KIND;
-    }
-    if cell_at(rows, i, 0) != level {
-        return NO_KIND;
-    }
-    cell_at(rows, i, 1)
+// What a row says of its handle.
+#[derive(Clone, Copy)]
+enum Kind {
+    Array,
+    Name,
 }
 
-// What the rows from first to before last say of a handle of a level. From the last row to the first, so that the first
-// that matches stays.
-pub fn entry_in(rows: &[u32], first: usize, last: usize, level: u32, handle: u32) -> Entry
-    ensures { result ≡ entry_in_lem rows.now first last level handle }
+// What row i says of a handle of a level.
+#[tactic(auto, unfolding(crate::specs::Tables::row_matches_lem))]
+fn kind_at(rows: &[u32], i: usize, level: u32, handle: u32) -> Option<Kind>
+    requires { row_size * i + row_size ≤ length rows.now }
+    ensures { result ≡ kind_in rows.now level handle i }
 {
-    let mut child = Child::Leaf;
-    let mut name = Name::Unnamed;
-    let end = clipped(rows, last);
-    let mut i = end;
-    while first < i {
-        i -= 1;
-        let kind = kind_at(rows, i, level, handle);
-        if kind == ARRAY_KIND {
-            let below = cell_at(rows, i, 3);
-            child = Child::Array(below);
-        }
-        if kind == NAME_KIND {
-            let start = cell_at(rows, i, 3);
-            let len = cell_at(rows, i, 4);
-            name = Name::At(start, len);
+    if cell_at(rows, i, 2) != handle || cell_at(rows, i, 0) != level {
+        return None;
+    }
+    match cell_at(rows, i, 1) {
+        ARRAY_KIND => Some(Kind::Array),
+        NAME_KIND => Some(Kind::Name),
+        _ => None,
+    }
+}
+
+// What the rows of a span say of a handle of a level. From the last row to the first, so that the first that matches stays.
+pub fn entry_in(rows: &[u32], span: Span, level: u32, handle: u32) -> Entry
+    ensures { result ≡ entry_in_lem rows.now span level handle }
+{
+    let mut entry = Entry {
+        elements: None,
+        name: None,
+    };
+    for i in (span.first..clipped(rows, span.last)).rev() {
+        match kind_at(rows, i, level, handle) {
+            Some(Kind::Array) => entry.elements = Some(cell_at(rows, i, 3)),
+            Some(Kind::Name) => entry.name = Some(name_in_row(rows, i)),
+            None => {}
         }
     }
-    Entry { child, name }
+    entry
 }
 
 // What the rows of a level's span say of a handle.
-pub fn entry_of(rows: &[u32], spans: &[usize; SPAN_NUMBERS], level: u32, handle: u32) -> Entry
+#[tactic(auto, unfolding(crate::specs::Spans::entry_at, crate::specs::Spans::span_at))]
+pub fn entry_of(rows: &[u32], spans: &Spans, level: u32, handle: u32) -> Entry
     ensures { result ≡ entry_at rows.now spans.now level handle }
 {
-    let at = place_of(level);
-    let first = spans[at];
-    let last = spans[at + 1];
-    entry_in(rows, first, last, level, handle)
+    entry_in(rows, spans[place_of(level)], level, handle)
 }

@@ -1,9 +1,8 @@
 // The twelve levels of schema.rs as one table, and the levels that a walk may start at.
-ghost use Rattle.std.specs.Prelude.{◌≡◌, ◌≤◌, length};
-ghost use Rattle.bits.specs.Runs.{put};
+ghost use Rattle.std.specs.Prelude.{◌≡◌};
 ghost use Rattle.schema.specs.TwelveLevels.{public_levels_lem, FillsSchema};
 
-use crate::Filled;
+use crate::Short;
 use crate::table::{NAMES, ROWS};
 
 // The levels that the code names, by number. The table has five more, 7 to 11, which the header for C names.
@@ -42,43 +41,18 @@ pub fn public_levels() -> [u32; 6]
     ]
 }
 
-// The numbers of s to the front of d.
-fn copy_numbers(d: &mut [u32], s: &[u32])
-    requires { length s.now ≤ length d.old }
-    ensures { d.new ≡ put d.old 0 s.now }
-{
-    let n = s.len();
-    let mut j: usize = 0;
-    while j < n {
-        d[j] = s[j];
-        j += 1;
-    }
-}
-
-// The bytes of s to the front of d.
-fn copy_bytes(d: &mut [u8], s: &[u8])
-    requires { length s.now ≤ length d.old }
-    ensures { d.new ≡ put d.old 0 s.now }
-{
-    let n = s.len();
-    let mut j: usize = 0;
-    while j < n {
-        d[j] = s[j];
-        j += 1;
-    }
-}
-
 // The table to the front of the two buffers; what both need where one is too short.
-pub fn fill_schema(rows: &mut [u32], names: &mut [u8]) -> Filled
+#[tactic(auto, unfolding(crate::specs::TwelveLevels::enough, crate::specs::TwelveLevels::fill_answer, crate::specs::TwelveLevels::filled_rows, crate::specs::TwelveLevels::filled_names))]
+pub fn fill_schema(rows: &mut [u32], names: &mut [u8]) -> Result<(), Short>
     ensures { FillsSchema rows.old names.old result rows.new names.new }
 {
-    if rows.len() < ROW_NUMBERS {
-        return Filled::Short(ROW_NUMBERS, NAME_BYTES);
+    if rows.len() < ROW_NUMBERS || names.len() < NAME_BYTES {
+        return Err(Short {
+            rows: ROW_NUMBERS,
+            names: NAME_BYTES,
+        });
     }
-    if names.len() < NAME_BYTES {
-        return Filled::Short(ROW_NUMBERS, NAME_BYTES);
-    }
-    copy_numbers(rows, &ROWS);
-    copy_bytes(names, &NAMES);
-    Filled::Done
+    rows[..ROW_NUMBERS].copy_from_slice(&ROWS);
+    names[..NAME_BYTES].copy_from_slice(&NAMES);
+    Ok(())
 }

@@ -1,34 +1,15 @@
--- `schema::rows_are_laid` meets its contract: the answer is that of the numbers from i on.
-use native.Mathlib.Omega.{arith}
-use Rattle.schema.proofs.LayoutLaws.{all_begin, all_no, all_yes, all_end}
+-- `schema::rows_are_laid` meets its contract: what is asked of the range is asked of the numbers from 0 on.
+use Rattle.std.proofs.Common.{rules, refl, ◌∙◌}
+use Rattle.std.proofs.lemmas.Iterator.{YieldsList-from_range}
+use Rattle.std.proofs.lemmas.Iterator.Search.{all_from_yields_List}
+use native.Mathlib.Nat.{sub-zero}
+use borrow.Author.Tests.{tests}
+use Rattle.schema.specs.Tables.{row_count}
+use Rattle.schema.specs.Layout.{row_fits}
+use Rattle.schema.proofs.LayoutLaws.{all_in_range}
 use Rattle.schema.proofs.layout.rows_are_laid.Goals as goal
 
-pub loop-i-init : goal.loop-i-init
-loop-i-init c = record { within = omega arith; same = all_begin _ _ }
-
-pub overflow_sub-i : goal.overflow_sub-i
-overflow_sub-i c = omega arith
-
-pub row_is_laid-requires : goal.row_is_laid-requires
-row_is_laid-requires c = let v = c.loop-i.invariant in omega arith
-
-pub loop-i-smaller-then-not-row_is_laid : goal.loop-i-smaller-then-not-row_is_laid
-loop-i-smaller-then-not-row_is_laid c = omega arith
-
-pub loop-i-preserved-then-not-row_is_laid : goal.loop-i-preserved-then-not-row_is_laid
-loop-i-preserved-then-not-row_is_laid c =
-    let v = c.loop-i.invariant in
-    let t = c.loop-i-test.true in
-    record { within = omega arith; same = all_no _ _ _ _ t v.within c.row_is_laid.ensures c.if-not-row_is_laid.true }
-
-pub loop-i-smaller : goal.loop-i-smaller
-loop-i-smaller c = omega arith
-
-pub loop-i-preserved : goal.loop-i-preserved
-loop-i-preserved c =
-    let v = c.loop-i.invariant in
-    let t = c.loop-i-test.true in
-    record { within = omega arith; same = all_yes _ _ _ _ _ t v.within c.row_is_laid.ensures c.if-not-row_is_laid.false v.same }
-
 pub returns : goal.returns
-returns c = all_end _ _ _ _ c.loop-i-test.false c.loop-i.invariant.same
+returns c =
+    all_from_yields_List (row_fits c.args.rows.now c.args.levels c.args.pool) _ _ _ c.all.ensures.ran (YieldsList-from_range 0 (row_count c.args.rows.now) (row_count c.args.rows.now) refl (sub-zero _)) (λ x b q k. search (rules, tests))
+    ∙ all_in_range (row_fits c.args.rows.now c.args.levels c.args.pool) (row_count c.args.rows.now) 0
