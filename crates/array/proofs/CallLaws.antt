@@ -1,4 +1,5 @@
 -- One law for each exit of the public calls: what the tests and both passes found is what the contract says.
+use Rattle.std.specs.Prelude.{Result, Ok, Err, MatchResult, IsErrAnd}
 use mathlib.Core.Path.{◌≡◌, refl, sym, ap, ◌∙◌, subst}
 use mathlib.Core.Bool.{Bool, true, false, ◌&&◌}
 use mathlib.Core.List.{List, []}
@@ -21,14 +22,13 @@ use Rattle.outputs.proofs.ShortPaths.{object_labelled}
 use Rattle.outputs.proofs.Gives.{no_leaves}
 use Rattle.outputs.proofs.Passes.{Walked, walked_paths, walked_payloads, too_long, bad_tables, no_room, wrote, pairs_too_long, pairs_no_room, pairs_wrote}
 use Rattle.steps.specs.Tally.{played}
-use Rattle.array.specs.Refusals.{counters_of_lem, room_in}
+use Rattle.array.specs.Refusals.{StructArray, ObjectArray, counters_of_lem, room_in}
 use Rattle.array.specs.Calls.{call_of, lent, Decodes, DecodesPairs}
 use Rattle.array.specs.Passing.{words_of, measuring, Needs, writing, enough, TwoPasses, too_short, has_room}
 use Rattle.array.specs.declared.Extent.{Extent}
-use Rattle.array.specs.declared.StructArray.{StructArray}
-use Rattle.array.specs.declared.StructArray.TheVariants.{Decoded, TooLong, BrokenTables, Short}
-use Rattle.array.specs.declared.ObjectArray.{ObjectArray}
-use Rattle.array.specs.declared.ObjectArray.TheVariants as objects
+use Rattle.array.specs.declared.Walked as W
+use Rattle.array.specs.declared.Refusal.TheVariants.{TooLong, BrokenTables, Short}
+use Rattle.array.specs.declared.PairRefusal.TheVariants as objects
 use Rattle.array.proofs.PassLaws.{leafy_laid, leafy_words}
 
 -- the code's numbers are u32
@@ -43,6 +43,16 @@ walked k bytes n l p y v f = f
 
 -- ---- struct and exact walks
 
+-- how the code answers by what both passes answered
+abbrev pub leaves_answer : Result (W.Walked Extent) Extent → StructArray
+leaves_answer (Ok w) = Ok w
+leaves_answer (Err e) = Err (Short e)
+
+leaves_told : (q : Result (W.Walked Extent) Extent) {r : StructArray} → MatchResult q (λ w. r ≡ Ok w) (λ e. IsErrAnd r (λ x. x ≡ Short e)) → r ≡ leaves_answer q
+leaves_told (Ok w) m = m
+leaves_told (Err e) {r = Ok w} m = absurd m
+leaves_told (Err e) {r = Err x} m = ap Err m
+
 module _ (s : Walk) (flat : gives_leaves_lem s ≡ true) (t : Tables) (levels root : ℕ) (bytes : List ℕ) (bits : ℕ) (b : Lent) where
   abbrev k : Walker
   k = walker s t root
@@ -50,14 +60,14 @@ module _ (s : Walk) (flat : gives_leaves_lem s ≡ true) (t : Tables) (levels ro
   abbrev call : Call
   call = call_of k levels bytes bits
 
-  pub leaves_long : ltb longest_window bits ≡ true → Decodes call b TooLong b
+  pub leaves_long : ltb longest_window bits ≡ true → Decodes call b (Err TooLong) b
   leaves_long h = record { answered = too_long call b (ltb-true longest_window bits h); judged = tt }
 
   module _ (few : ltb longest_window bits ≡ false) where
     small : bits ≤ longest_window
     small = ltb-false longest_window bits few
 
-    pub leaves_broken : laid_out t levels root ≡ false → Decodes call b BrokenTables b
+    pub leaves_broken : laid_out t levels root ≡ false → Decodes call b (Err BrokenTables) b
     leaves_broken h = record { answered = bad_tables call b small (leafy_laid t root s levels flat ∙ h); judged = tt }
 
     module _ (good : laid_out t levels root ≡ true) where
@@ -81,24 +91,29 @@ module _ (s : Walk) (flat : gives_leaves_lem s ≡ true) (t : Tables) (levels ro
       fits_as e n x h = sym (λ i. within (need_is e n i) (room_over (words i) b)) ∙ h
 
       -- whatever both passes answer is the call's answer
-      pub leaves_answered : (r : StructArray) (end : Lent) → TwoPasses k bytes bits b r end → Decodes call b r end
-      leaves_answered r end (too_short {e = e} n h) =
+      answered : (r : Result (W.Walked Extent) Extent) (end : Lent) → TwoPasses k bytes bits b r end → Decodes call b (leaves_answer r) end
+      answered r end (too_short {e = e} n h) =
           record {
             answered =
                 subst (λ (x : Room). Answered call b (refused 3 x) b) (sym (need_is e n))
                 (no_room call b small keeps_layout flat (2 ^ 32) wide m measured_by (fits_as e n false h));
             judged = tt;
           }
-      leaves_answered r end (has_room {e = e} {stats = stats} {padded = p} n h held counts judged pads) =
+      answered r end (has_room {w = w} n h held counts judged pads) =
+          let e = w.filled in
           let u = writing k bytes bits b in
           let a : Answered call b (accepted u.counters u.padded (measured m)) (held_by u) =
           wrote call b small keeps_layout flat (2 ^ 32) wide m measured_by (fits_as e n true h) u (walked k bytes bits b.leaves b.paths b.payloads u refl) in
           record {
             answered =
-                subst (λ (x : Lent). Answered call b (accepted (counters_of_lem stats) p (room_in e)) x) (sym held)
+                subst (λ (x : Lent). Answered call b (accepted (counters_of_lem w.stats) w.padded (room_in e)) x) (sym held)
                 (subst (λ (x : Answer Room). Answered call b x (held_by u)) (λ i. accepted (sym counts i) (sym pads i) (sym (need_is e n) i)) a);
             judged = judged;
           }
+
+      pub leaves_answered : (q : Result (W.Walked Extent) Extent) {r : StructArray} (end : Lent) → TwoPasses k bytes bits b q end
+          → MatchResult q (λ w. r ≡ Ok w) (λ e. IsErrAnd r (λ x. x ≡ Short e)) → Decodes call b r end
+      leaves_answered q end f m = subst (λ (r : StructArray). Decodes call b r end) (sym (leaves_told q m)) (answered q end f)
 
 -- ---- the object walk
 
@@ -114,14 +129,12 @@ pairs_fit need lent x ep ey e =
     sym (rw (p, y) (and_both (leb need.leaves lent.leaves))) ∙ e
 
 -- how the code answers by what the passes answered
-abbrev pub pairs_answer : StructArray → ObjectArray
-pairs_answer (Decoded s v e p) = objects.Decoded s v e.leaves p
-pairs_answer (Short e) = objects.Short e.leaves
-pairs_answer TooLong = objects.TooLong
-pairs_answer BrokenTables = objects.TooLong
+abbrev pub pairs_answer : Result (W.Walked Extent) Extent → ObjectArray
+pairs_answer (Ok w) = Ok (record { stats = w.stats; verdict = w.verdict; filled = w.filled.leaves; padded = w.padded })
+pairs_answer (Err e) = Err (objects.Short e.leaves)
 
 module _ (bytes : List ℕ) (bits : ℕ) (b : List ℕ) where
-  pub objects_long : ltb longest_window bits ≡ true → DecodesPairs bytes bits b objects.TooLong b
+  pub objects_long : ltb longest_window bits ≡ true → DecodesPairs bytes bits b (Err objects.TooLong) b
   objects_long h = record { answered = pairs_too_long bytes bits b (ltb-true longest_window bits h); judged = tt }
 
   abbrev buffers : Lent
@@ -159,7 +172,7 @@ module _ (bytes : List ℕ) (bits : ℕ) (b : List ℕ) where
       pairs_as x h = pairs_fit (room_in e) (room_over pair_words buffers) x no_paths no_payloads h
 
     -- whatever both passes answer is the call's answer, a leaf of it being a pair
-    pub objects_answered : (r : StructArray) (end : Lent) → TwoPasses object bytes bits buffers r end → DecodesPairs bytes bits b (pairs_answer r) end.leaves
+    pub objects_answered : (r : Result (W.Walked Extent) Extent) (end : Lent) → TwoPasses object bytes bits buffers r end → DecodesPairs bytes bits b (pairs_answer r) end.leaves
     objects_answered r end (too_short {e = e} n h) =
         let f = pairs_are e n in
         let few = leb-false e.leaves (whole_records pair_words (length b)) (pairs_as e n false h) in
@@ -169,7 +182,8 @@ module _ (bytes : List ℕ) (bits : ℕ) (b : List ℕ) where
               (pairs_no_room bytes bits b small_window (2 ^ 32) wide found found_by (omega arith));
           judged = tt;
         }
-    objects_answered r end (has_room {e = e} {stats = stats} {padded = p} n h held counts judged pads) =
+    objects_answered r end (has_room {w = w} n h held counts judged pads) =
+        let e = w.filled in
         let f = pairs_are e n in
         let fits = leb-true e.leaves (whole_records pair_words (length b)) (pairs_as e n true h) in
         let u = writing object bytes bits buffers in
@@ -177,11 +191,7 @@ module _ (bytes : List ℕ) (bits : ℕ) (b : List ℕ) where
         pairs_wrote bytes bits b small_window (2 ^ 32) wide found found_by (omega arith) u (walked object bytes bits b [] [] u refl) in
         record {
           answered =
-              subst (λ (x : List ℕ). PairsAnswered bytes bits b (accepted (counters_of_lem stats) p e.leaves) x) (sym (ap (λ (x : Lent). x.leaves) held))
+              subst (λ (x : List ℕ). PairsAnswered bytes bits b (accepted (counters_of_lem w.stats) w.padded e.leaves) x) (sym (ap (λ (x : Lent). x.leaves) held))
               (subst (λ (x : Answer ℕ). PairsAnswered bytes bits b x u.records.held) (λ i. accepted (sym counts i) (sym pads i) (sym f i)) a);
           judged = judged;
         }
-
-    pub objects_told : (r r' : StructArray) (end : Lent) → r ≡ r' → TwoPasses object bytes bits buffers r end
-        → DecodesPairs bytes bits b (pairs_answer r') end.leaves
-    objects_told r r' end e h = subst (λ (q : StructArray). DecodesPairs bytes bits b (pairs_answer q) end.leaves) e (objects_answered r end h)

@@ -1,5 +1,5 @@
 -- The contracts determine the answers and the buffers: an answer is read back off what the contract says of it. A refusal leaves every buffer as it was lent.
-use Rattle.std.specs.Prelude.{if◌then◌else◌}
+use Rattle.std.specs.Prelude.{Ok, Err, if◌then◌else◌}
 use mathlib.Core.Path.{◌≡◌, refl, sym, ap, ◌∙◌}
 use mathlib.Core.List.{List}
 use Prim.Native.Nat.{ℕ}
@@ -10,19 +10,16 @@ use Rattle.framing.specs.Verdicts.{verdict_of}
 use Rattle.framing.specs.Refusing.{Room, Answer, refused, accepted}
 use Rattle.outputs.specs.Answers.{Call, Lent, final}
 use Rattle.outputs.proofs.Passes.{determined, refusal_keeps, pairs_determined, pairs_refusal_keeps}
-use Rattle.array.specs.Refusals.{counters_of_lem, answer_of, pairs_of, sums_of}
+use Rattle.array.specs.Refusals.{StructArray, ObjectArray, Merged, counters_of_lem, answer_of, pairs_of, sums_of}
 use Rattle.array.specs.Merges.{Sums, summed, overflowing}
 use Rattle.array.specs.Calls.{verdict_is, verdict_named, Judges, Adds, Judged, PairsJudged, Decodes, DecodesPairs}
 use Rattle.array.specs.declared.ArrayDecodeStats.{ArrayDecodeStats}
 use Rattle.array.specs.declared.Extent.{Extent}
 use Rattle.array.specs.declared.Verdict.{Verdict}
 use Rattle.array.specs.declared.Verdict.TheVariants as verdict
-use Rattle.array.specs.declared.StructArray.{StructArray}
-use Rattle.array.specs.declared.StructArray.TheVariants as structs
-use Rattle.array.specs.declared.ObjectArray.{ObjectArray}
-use Rattle.array.specs.declared.ObjectArray.TheVariants as objects
-use Rattle.array.specs.declared.Merged.{Merged}
-use Rattle.array.specs.declared.Merged.TheVariants as merged
+use Rattle.array.specs.declared.Walked.{Walked}
+use Rattle.array.specs.declared.Refusal.TheVariants as structs
+use Rattle.array.specs.declared.PairRefusal.TheVariants as objects
 
 -- ---- an answer is known by what it says
 
@@ -54,37 +51,40 @@ judged_back : (k : Walker) (bits : ℕ) (c : Counters) (v : Verdict) → verdict
 unfolding judged
 judged_back k bits c v e = sym (ap verdict_named e) ∙ verdict_back v
 
+abbrev walked_with : {N : Type 0} → ArrayDecodeStats → Verdict → N → (padded : ℕ) → Walked N
+walked_with s v n p = record { stats = s; verdict = v; filled = n; padded = p }
+
 struct_with : Walker → (bits : ℕ) → Answer Room → StructArray
-struct_with k bits (accepted c p n) = structs.Decoded (stats_with c) (judged k bits c) (extent_with n) p
+struct_with k bits (accepted c p n) = Ok (walked_with (stats_with c) (judged k bits c) (extent_with n) p)
 struct_with k bits (refused number n) =
-    if eqb number 1 then structs.TooLong else
-    (if eqb number 2 then structs.BrokenTables else structs.Short (extent_with n))
+    if eqb number 1 then Err structs.TooLong else
+    (if eqb number 2 then Err structs.BrokenTables else Err (structs.Short (extent_with n)))
 
 struct_back : (k : Walker) (bits : ℕ) (r : StructArray) → Judged k bits r → struct_with k bits (answer_of r) ≡ r
 unfolding struct_with extent_with
-struct_back k bits (structs.Decoded s v e p) j = ap (λ (x : Verdict). structs.Decoded s x e p) (judged_back k bits (counters_of_lem s) v j)
-struct_back k bits structs.TooLong j = refl
-struct_back k bits structs.BrokenTables j = refl
-struct_back k bits (structs.Short e) j = refl
+struct_back k bits (Ok w) j = ap (λ (x : Verdict). Ok (walked_with w.stats x w.filled w.padded)) (judged_back k bits (counters_of_lem w.stats) w.verdict j)
+struct_back k bits (Err structs.TooLong) j = refl
+struct_back k bits (Err structs.BrokenTables) j = refl
+struct_back k bits (Err (structs.Short e)) j = refl
 
 object_with : (bits : ℕ) → Answer ℕ → ObjectArray
-object_with bits (accepted c p n) = objects.Decoded (stats_with c) (judged object bits c) n p
-object_with bits (refused number n) = if eqb number 1 then objects.TooLong else objects.Short n
+object_with bits (accepted c p n) = Ok (walked_with (stats_with c) (judged object bits c) n p)
+object_with bits (refused number n) = if eqb number 1 then Err objects.TooLong else Err (objects.Short n)
 
 object_back : (bits : ℕ) (r : ObjectArray) → PairsJudged bits r → object_with bits (pairs_of r) ≡ r
 unfolding object_with
-object_back bits (objects.Decoded s v n p) j = ap (λ (x : Verdict). objects.Decoded s x n p) (judged_back object bits (counters_of_lem s) v j)
-object_back bits objects.TooLong j = refl
-object_back bits (objects.Short n) j = refl
+object_back bits (Ok w) j = ap (λ (x : Verdict). Ok (walked_with w.stats x w.filled w.padded)) (judged_back object bits (counters_of_lem w.stats) w.verdict j)
+object_back bits (Err objects.TooLong) j = refl
+object_back bits (Err (objects.Short n)) j = refl
 
 merged_with : Sums → Merged
-merged_with (summed c) = merged.Sum (stats_with c)
-merged_with (overflowing number c) = merged.Overflow (stats_with c)
+merged_with (summed c) = Ok (stats_with c)
+merged_with (overflowing number c) = Err (record { left = stats_with c })
 
 merged_back : (r : Merged) → merged_with (sums_of r) ≡ r
 unfolding merged_with
-merged_back (merged.Sum s) = refl
-merged_back (merged.Overflow s) = refl
+merged_back (Ok s) = refl
+merged_back (Err o) = refl
 
 -- ---- the contracts determine the calls
 

@@ -4,31 +4,27 @@ use mathlib.Core.Bool.{true, false, ◌&&◌}
 use mathlib.Core.List.{List, [], ◌∷◌}
 use Prim.Native.Nat.{ℕ, ◌+◌, ◌-◌, ◌*◌, ◌/◌, ◌≤◌, ◌<◌}
 use native.Mathlib.Omega.{arith}
-use lib.ListN.{length, replicate}
-use lib.Dec.{leb, ltb, eqb}
-use borrow.Author.Tests.{ltb-false, lt-ltb, le-ltb, lt-leb, le-leb}
+use lib.ListN.{length}
+use lib.Dec.{ltb, eqb}
+use borrow.Author.Tests.{ltb-false, lt-ltb, le-ltb}
 use Rattle.bits.specs.Bits.{num, field}
 use Rattle.bits.specs.Sizes.{longest_window, levels_below}
 use Rattle.schema.specs.Tables.{Tables, tables, absent}
-use Rattle.schema.specs.Spans.{spans_of}
 use Rattle.schema.specs.Layout.{laid_out, schema_laid, declared_laid, schema_sized, declared_sized, root_fits_lem, all_from}
 use Rattle.schema.proofs.LaidLaws.{labels_lie}
 use Rattle.framing.specs.declared.Walk.{Walk}
 use Rattle.framing.specs.Windows.{window_of}
 use Rattle.framing.specs.Events.{error, Trace}
-use Rattle.framing.specs.Paths.{level_adds}
 use Rattle.framing.specs.Walk.{level}
 use Rattle.framing.specs.Sinks.{Walker, walker, gives_leaves_lem, sink_of, object_sink, walk, walk_window}
-use Rattle.framing.specs.Counters.{counted}
-use Rattle.framing.specs.Records.{leaf_words, pair_words}
-use Rattle.framing.specs.Refusing.{Room, within}
+use Rattle.framing.specs.Records.{leaf_words}
 use Rattle.outputs.specs.World.{World, fresh}
 use Rattle.outputs.specs.Answers.{laid, measured_with, held_by}
 use Rattle.outputs.proofs.After.{no_length}
-use Rattle.steps.specs.Tally.{slots, slot, elements_slot, fields_slot, truncations_slot, errors_slot, nested_slot, root_slot, implicit_slot, records_slot, paths_slot, payloads_slot, padded_slot, world_by, world_of, played}
+use Rattle.steps.specs.Tally.{no_tally, world_of, played}
+use Rattle.steps.specs.declared.tally.Tally.{Tally}
 use Rattle.steps.specs.Views.{inner, sink_for}
 use Rattle.steps.proofs.TallyLaws.{played_none}
-use Rattle.cycle.specs.Cycle.{Ready}
 use Rattle.array.specs.Passing.{Passable, record_words, words_of, measuring, Needs}
 use Rattle.array.specs.Calls.{lent}
 use Rattle.array.specs.Refusals.{room_in}
@@ -48,9 +44,6 @@ module _ (t : Tables) (lvl : ℕ) where
 -- the numbers of its records
 pub leafy_words : (s : Walk) → gives_leaves_lem s ≡ true → record_words s ≡ leaf_words
 leafy_words s e = rw e refl
-
-pub object_words : (s : Walk) → gives_leaves_lem s ≡ false → record_words s ≡ pair_words
-object_words s e = rw e refl
 
 -- ---- what the code leaves is what the walk's trace comes to
 
@@ -88,78 +81,38 @@ pub none_laid : laid_out (tables [] [] [] []) 0 absent ≡ true
 unfolding laid_out schema_laid declared_laid schema_sized declared_sized root_fits_lem all_from
 none_laid = refl
 
-pub ready : (bytes : List ℕ) (n : ℕ) (t : Tables) (spans : List ℕ) → Passable n t → spans ≡ spans_of t.rows → (n + 7) / 8 ≤ length bytes
-    → Ready bytes 0 0 n 0 (level_adds levels_below) t spans
-ready bytes n t spans p e h =
-    let small = p.small in
-    record {
-      lies = (omega arith, omega arith, small);
-      in_root = omega arith;
-      path = omega arith;
-      labels = p.labels;
-      spans_are = e;
-    }
-
 -- ---- a pass from nothing
 
--- the tally at its start
-abbrev pub zeros : List ℕ
-zeros = replicate slots 0
+pub starts_fresh : (t : Tally) (records paths payloads : List ℕ) → t ≡ no_tally → world_of t records paths payloads ≡ fresh records paths payloads
+unfolding world_of
+starts_fresh t records paths payloads e = ap (λ (k : Tally). world_of k records paths payloads) e
 
-pub starts_fresh : (records paths payloads : List ℕ) → world_of zeros records paths payloads ≡ fresh records paths payloads
-unfolding world_of world_by
-starts_fresh records paths payloads = refl
-
--- outputs of no length stay empty
-pub measures : (t : Trace) (d l p y : List ℕ) → length l ≡ 0 → length p ≡ 0 → length y ≡ 0 → world_of d l p y ≡ played t (world_of zeros [] [] [])
-    → world_of d [] [] [] ≡ played t (fresh [] [] [])
-measures t d l p y el ep ey e =
+-- outputs of no length stay empty; the walk started from the tally t
+pub measures : (t d : Tally) (u : Trace) (l p y : List ℕ) → t ≡ no_tally → length l ≡ 0 → length p ≡ 0 → length y ≡ 0 → world_of d l p y ≡ played u (world_of t [] [] [])
+    → world_of d [] [] [] ≡ played u (fresh [] [] [])
+measures t d u l p y et el ep ey e =
     let nl = no_length l el in
     let np = no_length p ep in
     let ny = no_length y ey in
-    sym (λ i. world_of d (nl i) (np i) (ny i)) ∙ e ∙ ap (played t) (starts_fresh [] [] [])
+    sym (λ i. world_of d (nl i) (np i) (ny i)) ∙ e ∙ ap (played u) (starts_fresh t [] [] [] et)
 
 -- ---- what is read off a pass
 
-pub counters_in_lem : (tally : List ℕ) (e f t r n b i : ℕ) → e ≡ slot tally elements_slot → f ≡ slot tally fields_slot → t ≡ slot tally truncations_slot → r ≡ slot tally errors_slot
-    → n ≡ slot tally nested_slot → b ≡ slot tally root_slot → i ≡ slot tally implicit_slot → counted e f t r n b i ≡ (world_of tally [] [] []).counters
-unfolding world_of world_by
-counters_in_lem tally e f t r n b i p₀ p₁ p₂ p₃ p₄ p₅ p₆ = λ k. counted (p₀ k) (p₁ k) (p₂ k) (p₃ k) (p₄ k) (p₅ k) (p₆ k)
-
-pub padded_in_lem : (tally : List ℕ) (n : ℕ) → n ≡ slot tally padded_slot → n ≡ (world_of tally [] [] []).padded
-unfolding world_of world_by
-padded_in_lem tally n e = e
-
-pub extent_in : (tally : List ℕ) (words leaves path_bytes_lem payload_bytes_lem : ℕ) → leaves ≡ slot tally records_slot / words → path_bytes_lem ≡ slot tally paths_slot
-    → payload_bytes_lem ≡ slot tally payloads_slot → record { leaves = leaves; path_bytes_lem = path_bytes_lem; payload_bytes_lem = payload_bytes_lem } ≡ measured_with words (world_of tally [] [] [])
-unfolding world_of world_by
-extent_in tally words leaves path_bytes_lem payload_bytes_lem e f g = λ i. record { leaves = e i; path_bytes_lem = f i; payload_bytes_lem = g i }
-
 module _ (k : Walker) (bytes : List ℕ) (bits : ℕ) where
-  pub needs_in : (e : Extent) (tally : List ℕ) → world_of tally [] [] [] ≡ measuring k bytes bits
+  pub needs_in : (e : Extent) (tally : Tally) → world_of tally [] [] [] ≡ measuring k bytes bits
       → room_in e ≡ measured_with (words_of k) (world_of tally [] [] []) → Needs k bytes bits e
   needs_in e tally is x = x ∙ ap (measured_with (words_of k)) is
 
-module _ (tally records paths payloads : List ℕ) (u : World) (is : world_of tally records paths payloads ≡ u) where
-  pub held_in : lent records paths payloads ≡ held_by u
-  unfolding world_of world_by
-  held_in = ap held_by is
+module _ (tally : Tally) (records paths payloads : List ℕ) (u : World) (is : world_of tally records paths payloads ≡ u) where
+  -- of what the pass left lent, as it is once it is lent no more
+  pub held_in : (r p y : List ℕ) → r ≡ records → p ≡ paths → y ≡ payloads → lent r p y ≡ held_by u
+  unfolding world_of
+  held_in r p y er ep ey = (λ i. lent (er i) (ep i) (ey i)) ∙ ap held_by is
 
   pub stats_in : (world_of tally [] [] []).counters ≡ u.counters
-  unfolding world_of world_by
+  unfolding world_of
   stats_in = ap (λ (w : World). w.counters) is
 
   pub pads_in : (world_of tally [] [] []).padded ≡ u.padded
-  unfolding world_of world_by
+  unfolding world_of
   pads_in = ap (λ (w : World). w.padded) is
-
-module _ (need lent : Room) where
-  pub few_leaves : (n : ℕ) → n ≡ lent.leaves → n < need.leaves → false ≡ within need lent
-  few_leaves n e h = simp (lt-leb need.leaves lent.leaves (omega arith))
-
-  module _ (n : ℕ) (e : n ≡ lent.leaves) (l : need.leaves ≤ n) where
-    pub few_paths : lent.path_bytes_lem < need.path_bytes_lem → false ≡ within need lent
-    few_paths h = simp (le-leb need.leaves lent.leaves (omega arith), lt-leb need.path_bytes_lem lent.path_bytes_lem h)
-
-    pub payloads_decide : need.path_bytes_lem ≤ lent.path_bytes_lem → leb need.payload_bytes_lem lent.payload_bytes_lem ≡ within need lent
-    payloads_decide h = simp (le-leb need.leaves lent.leaves (omega arith), le-leb need.path_bytes_lem lent.path_bytes_lem h)

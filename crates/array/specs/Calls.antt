@@ -1,6 +1,6 @@
 -- The contracts of the three public walks: the answer and the buffers of `outputs`, and the verdict of an accepted answer; of what is said of
 -- counters alone, and of a merge.
-use Rattle.std.specs.Prelude.{ℕ, ◌≡◌, Bool, List}
+use Rattle.std.specs.Prelude.{ℕ, ◌≡◌, Bool, List, Result, Ok, Err}
 use Rattle.schema.specs.Tables.{Tables}
 use Rattle.framing.specs.Counters.{Counters, is_clean}
 use Rattle.framing.specs.declared.Walk.{Walk}
@@ -9,15 +9,11 @@ use Rattle.framing.specs.Verdicts as F
 use Rattle.framing.specs.Verdicts.{counters_verdict, verdict_of}
 use Rattle.outputs.specs.Answers.{Call, Lent, Answered, PairsAnswered}
 use Rattle.array.specs.Merges.{merge}
-use Rattle.array.specs.Refusals.{counters_of_lem, answer_of, pairs_of, sums_of}
+use Rattle.array.specs.Refusals.{StructArray, ObjectArray, Merged, counters_of_lem, answer_of, pairs_of, sums_of}
 use Rattle.array.specs.declared.ArrayDecodeStats.{ArrayDecodeStats}
-use Rattle.array.specs.declared.Merged.{Merged}
 use Rattle.array.specs.declared.Verdict.{Verdict}
 use Rattle.array.specs.declared.Verdict.TheVariants as verdict
-use Rattle.array.specs.declared.StructArray.{StructArray}
-use Rattle.array.specs.declared.StructArray.TheVariants as structs
-use Rattle.array.specs.declared.ObjectArray.{ObjectArray}
-use Rattle.array.specs.declared.ObjectArray.TheVariants as objects
+use Rattle.array.specs.declared.Walked.{Walked}
 
 -- ---- calls and buffers, by their parameters
 
@@ -58,16 +54,12 @@ abbrev pub JudgesWindow : Walk → (bits : ℕ) → Counters → Verdict → Typ
 JudgesWindow s bits c v = (t : Tables) (root : ℕ) → verdict_is v ≡ verdict_of (walker s t root) bits c
 
 -- an accepted answer carries the verdict on its window
-abbrev pub Judged : Walker → (bits : ℕ) → StructArray → Type 0
-Judged k bits (structs.Decoded s v e p) = verdict_is v ≡ verdict_of k bits (counters_of_lem s)
-Judged k bits structs.TooLong = Unit
-Judged k bits structs.BrokenTables = Unit
-Judged k bits (structs.Short e) = Unit
+abbrev pub Judged : {N E : Type 0} → Walker → (bits : ℕ) → Result (Walked N) E → Type 0
+Judged k bits (Ok w) = verdict_is w.verdict ≡ verdict_of k bits (counters_of_lem w.stats)
+Judged k bits (Err why) = Unit
 
 abbrev pub PairsJudged : (bits : ℕ) → ObjectArray → Type 0
-PairsJudged bits (objects.Decoded s v n p) = verdict_is v ≡ verdict_of object bits (counters_of_lem s)
-PairsJudged bits objects.TooLong = Unit
-PairsJudged bits (objects.Short n) = Unit
+PairsJudged bits r = Judged object bits r
 
 -- ---- sums
 

@@ -1,5 +1,5 @@
 -- One pass of the code over a window, and both passes: what they ask, and what they come to.
-use Rattle.std.specs.Prelude.{ℕ, ◌≤◌, ◌≡◌, Bool, true, false, List, [], if◌then◌else◌}
+use Rattle.std.specs.Prelude.{ℕ, ◌≤◌, ◌≡◌, Bool, true, false, List, [], Result, Ok, Err, if◌then◌else◌}
 use Rattle.bits.specs.Sizes.{longest_window}
 use Rattle.schema.specs.Tables.{Tables}
 use Rattle.schema.specs.Labels.{LabelsLie}
@@ -13,11 +13,8 @@ use Rattle.outputs.specs.Answers.{Lent, room_over, measured_with, held_by}
 use Rattle.steps.specs.Tally.{played}
 use Rattle.array.specs.Refusals.{counters_of_lem, room_in}
 use Rattle.array.specs.Calls.{verdict_is}
-use Rattle.array.specs.declared.StructArray.{StructArray}
-use Rattle.array.specs.declared.StructArray.TheVariants.{Decoded, Short}
-use Rattle.array.specs.declared.ArrayDecodeStats.{ArrayDecodeStats}
 use Rattle.array.specs.declared.Extent.{Extent}
-use Rattle.array.specs.declared.Verdict.{Verdict}
+use Rattle.array.specs.declared.Walked.{Walked}
 
 -- ---- one pass
 
@@ -52,8 +49,8 @@ module _ (k : Walker) (bytes : List ℕ) (bits : ℕ) where
     abbrev pub enough : Extent → Bool
     enough e = within (room_in e) (room_over (words_of k) b)
 
-    pub data TwoPasses : StructArray → Lent → Type 0 where
-      too_short : {e : Extent} → Needs e → enough e ≡ false → TwoPasses (Short e) b
-      has_room : {e : Extent} {stats : ArrayDecodeStats} {v : Verdict} {padded : ℕ} {end : Lent} → Needs e → enough e ≡ true → end ≡ held_by writing
-          → counters_of_lem stats ≡ writing.counters → verdict_is v ≡ verdict_of k bits (counters_of_lem stats) → padded ≡ writing.padded
-          → TwoPasses (Decoded stats v e padded) end
+    pub data TwoPasses : Result (Walked Extent) Extent → Lent → Type 0 where
+      too_short : {e : Extent} → Needs e → enough e ≡ false → TwoPasses (Err e) b
+      has_room : {w : Walked Extent} {end : Lent} → Needs w.filled → enough w.filled ≡ true → end ≡ held_by writing
+          → counters_of_lem w.stats ≡ writing.counters → verdict_is w.verdict ≡ verdict_of k bits (counters_of_lem w.stats) → w.padded ≡ writing.padded
+          → TwoPasses (Ok w) end

@@ -15,10 +15,11 @@ pub mod stats;
 mod twice;
 mod verdicts;
 
-ghost use Rattle.std.specs.Prelude.{◌≡◌, ltb};
+ghost use Rattle.std.specs.Prelude.{◌≡◌, IsTrue, ltb};
 ghost use Rattle.bits.specs.Sizes.{longest_window};
 ghost use Rattle.schema.specs.Tables.{tables};
-ghost use Rattle.array.specs.Calls.{struct_call, exact_call, lent, Decodes, DecodesPairs};
+ghost use Rattle.framing.specs.Sinks.{walker, gives_leaves_lem};
+ghost use Rattle.array.specs.Calls.{call_of, struct_call, exact_call, lent, Decodes, DecodesPairs};
 
 use crate::twice::two_passes;
 use bits::sizes::LONGEST_WINDOW;
@@ -67,11 +68,19 @@ pub struct Extent {
     pub payload_bytes: u32,
 }
 
-// What a struct or exact walk answers.
+// What an accepted walk gives: `Walked<Extent>` of a struct or exact walk, `Walked<u32>` of an object walk, which fills pairs.
 #[derive(Clone, Copy)]
-pub enum StructArray {
-    // The last number: the padded numbers among those that were read.
-    Decoded(ArrayDecodeStats, Verdict, Extent, u32),
+pub struct Walked<N> {
+    pub stats: ArrayDecodeStats,
+    pub verdict: Verdict,
+    pub filled: N,
+    // The padded numbers among those that were read.
+    pub padded: u32,
+}
+
+// Why a struct or exact walk is refused.
+#[derive(Clone, Copy)]
+pub enum Refusal {
     // 1: the window is longer than 524,288 bits.
     TooLong,
     // 2: the schema's rows or the declared names are not laid out as they have to be.
@@ -80,22 +89,20 @@ pub enum StructArray {
     Short(Extent),
 }
 
-// What an object walk answers: how many pairs, and how many padded numbers.
+// Why an object walk is refused: no `Refusal`, since it is lent no tables that could be broken.
 #[derive(Clone, Copy)]
-pub enum ObjectArray {
-    Decoded(ArrayDecodeStats, Verdict, u32, u32),
+pub enum PairRefusal {
     // 1: the window is longer than 524,288 bits.
     TooLong,
     // 3: the output has too little room. How many pairs it needs to hold.
     Short(u32),
 }
 
-// What adding two walks' counters answers.
+// Why two walks' counters aren't added. 4: a sum doesn't fit 64 bits.
 #[derive(Clone, Copy)]
-pub enum Merged {
-    Sum(ArrayDecodeStats),
-    // 4: a sum doesn't fit 64 bits. The left counters, as they were.
-    Overflow(ArrayDecodeStats),
+pub struct Overflow {
+    // The left counters, as they were.
+    pub left: ArrayDecodeStats,
 }
 
 // ---- the calls
@@ -110,6 +117,51 @@ fn is_too_long(bits: u32) -> bool
     ensures { result ≡ ltb longest_window bits }
 {
     LONGEST_WINDOW < bits
+}
+
+// What a struct and an exact walk have in common: a walk that gives leaves; refusals in the order 1, 2, 3.
+fn decode_leaves<'a>(
+    walk: Walk,
+    bytes: &[u8],
+    bits: u32,
+    rows: &[u32],
+    levels: u32,
+    root: u32,
+    names: &'a [u8],
+    declared: &[u32],
+    declared_names: &'a [u8],
+    leaves: &mut [u32],
+    paths: &mut [u8],
+    payloads: &mut [u8],
+) -> Result<Walked<Extent>, Refusal>
+    requires { IsTrue (gives_leaves_lem walk) }
+    ensures { Decodes
+        (call_of (walker walk (tables rows.now names.now declared.now declared_names.now) root) levels
+        bytes.now bits)
+        (lent leaves.old paths.old payloads.old)
+        result
+        (lent leaves.new paths.new payloads.new) }
+{
+    if is_too_long(bits) {
+        return Err(Refusal::TooLong);
+    }
+    if !check_tables(rows, levels, root, names, declared, declared_names) {
+        return Err(Refusal::BrokenTables);
+    }
+    two_passes(
+        bytes,
+        bits as u64,
+        walk,
+        root,
+        rows,
+        names,
+        declared,
+        declared_names,
+        leaves,
+        paths,
+        payloads,
+    )
+    .map_err(Refusal::Short)
 }
 
 // The leaves of the array of structs in the first `bits` bits; refusals in the order 1, 2, 3. Of each leaf six numbers are
@@ -127,7 +179,7 @@ pub fn decode_struct_array<'a>(
     leaves: &mut [u32],
     paths: &mut [u8],
     payloads: &mut [u8],
-) -> StructArray
+) -> Result<Walked<Extent>, Refusal>
     ensures { Decodes
         (struct_call bytes.now bits
         (tables rows.now names.now declared.now declared_names.now) levels root)
@@ -135,18 +187,13 @@ pub fn decode_struct_array<'a>(
         result
         (lent leaves.new paths.new payloads.new) }
 {
-    if is_too_long(bits) {
-        return StructArray::TooLong;
-    }
-    if !check_tables(rows, levels, root, names, declared, declared_names) {
-        return StructArray::BrokenTables;
-    }
-    two_passes(
-        bytes,
-        bits as u64,
+    decode_leaves(
         Walk::Struct,
-        root,
+        bytes,
+        bits,
         rows,
+        levels,
+        root,
         names,
         declared,
         declared_names,
@@ -165,28 +212,21 @@ pub fn decode_struct_array_exact(
     leaves: &mut [u32],
     paths: &mut [u8],
     payloads: &mut [u8],
-) -> StructArray
+) -> Result<Walked<Extent>, Refusal>
     ensures { Decodes
         (exact_call bytes.now bits declared.now declared_names.now)
         (lent leaves.old paths.old payloads.old)
         result
         (lent leaves.new paths.new payloads.new) }
 {
-    if is_too_long(bits) {
-        return StructArray::TooLong;
-    }
-    let rows = [0u32; 0];
-    let names = [0u8; 0];
-    if !check_tables(&rows, 0, ABSENT, &names, declared, declared_names) {
-        return StructArray::BrokenTables;
-    }
-    two_passes(
-        bytes,
-        bits as u64,
+    decode_leaves(
         Walk::Exact,
+        bytes,
+        bits,
+        &[],
+        0,
         ABSENT,
-        &rows,
-        &names,
+        &[],
         declared,
         declared_names,
         leaves,
@@ -196,36 +236,36 @@ pub fn decode_struct_array_exact(
 }
 
 // The pairs of the array of object references in the first `bits` bits. A pair is two u32: index, object.
-pub fn decode_object_ref_array(bytes: &[u8], bits: u32, pairs: &mut [u32]) -> ObjectArray
+pub fn decode_object_ref_array(
+    bytes: &[u8],
+    bits: u32,
+    pairs: &mut [u32],
+) -> Result<Walked<u32>, PairRefusal>
     ensures { DecodesPairs bytes.now bits pairs.old result pairs.new }
 {
     if is_too_long(bits) {
-        return ObjectArray::TooLong;
+        return Err(PairRefusal::TooLong);
     }
-    let rows = [0u32; 0];
-    let names = [0u8; 0];
-    let mut paths = [0u8; 0];
-    let mut payloads = [0u8; 0];
     let passed = two_passes(
         bytes,
         bits as u64,
         Walk::Object,
         ABSENT,
-        &rows,
-        &names,
-        &rows,
-        &names,
+        &[],
+        &[],
+        &[],
+        &[],
         pairs,
-        &mut paths,
-        &mut payloads,
+        &mut [],
+        &mut [],
     );
     match passed {
-        StructArray::Decoded(stats, judged, filled, padded) => {
-            ObjectArray::Decoded(stats, judged, filled.leaves, padded)
-        }
-        StructArray::Short(need) => ObjectArray::Short(need.leaves),
-        // Never taken: the passes test neither a length nor tables.
-        StructArray::TooLong => ObjectArray::TooLong,
-        StructArray::BrokenTables => ObjectArray::TooLong,
+        Ok(walked) => Ok(Walked {
+            stats: walked.stats,
+            verdict: walked.verdict,
+            filled: walked.filled.leaves,
+            padded: walked.padded,
+        }),
+        Err(need) => Err(PairRefusal::Short(need.leaves)),
     }
 }

@@ -1,70 +1,59 @@
 // What an answer says of document 01's refusals: the number, 0 for an accepted call, and the values of its table.
 ghost use Rattle.std.specs.Prelude.{◌≡◌};
-ghost use Rattle.bits.specs.Refusals.{refusal};
-ghost use Rattle.array.specs.Refusals.{said, pairs_said_lem, merge_number_lem, saying_as};
+ghost use Rattle.array.specs.Refusals.{said, pairs_said_lem, merge_number_lem};
 
-use crate::{Merged, ObjectArray, StructArray};
+use crate::{ArrayDecodeStats, Extent, Overflow, PairRefusal, Refusal, Walked};
 
-// Of a struct or exact walk: the number, and what the outputs need; of the other refusals the three are 0.
+// The number, and what the outputs need: `Saying<Extent>` of a struct or exact walk, `Saying<u32>`, the pairs, of an object walk.
+// Where the number isn't 3 the need is nothing.
 #[derive(Clone, Copy)]
-pub struct Saying {
+pub struct Saying<N> {
     pub number: u32,
-    pub leaves: u32,
-    pub path_bytes: u32,
-    pub payload_bytes: u32,
+    pub need: N,
 }
 
-// Of an object walk: the number, and the pairs that the output needs.
-#[derive(Clone, Copy)]
-pub struct PairSaying {
-    pub number: u32,
-    pub pairs: u32,
-}
+const NOTHING: Extent = Extent {
+    leaves: 0,
+    path_bytes: 0,
+    payload_bytes: 0,
+};
 
-fn numbers(number: u32, leaves: u32, paths: u32, payloads: u32) -> Saying
-    ensures { result ≡ saying_as (refusal number leaves paths payloads) }
-{
-    Saying {
-        number,
-        leaves,
-        path_bytes: paths,
-        payload_bytes: payloads,
-    }
-}
-
-pub fn said(answer: StructArray) -> Saying
+pub fn said(answer: Result<Walked<Extent>, Refusal>) -> Saying<Extent>
     ensures { result ≡ said answer }
 {
     match answer {
-        StructArray::Decoded(_, _, _, _) => numbers(0, 0, 0, 0),
-        StructArray::TooLong => numbers(1, 0, 0, 0),
-        StructArray::BrokenTables => numbers(2, 0, 0, 0),
-        StructArray::Short(need) => numbers(3, need.leaves, need.path_bytes, need.payload_bytes),
+        Ok(_) => Saying {
+            number: 0,
+            need: NOTHING,
+        },
+        Err(Refusal::TooLong) => Saying {
+            number: 1,
+            need: NOTHING,
+        },
+        Err(Refusal::BrokenTables) => Saying {
+            number: 2,
+            need: NOTHING,
+        },
+        Err(Refusal::Short(need)) => Saying { number: 3, need },
     }
 }
 
-pub fn pairs_said(answer: ObjectArray) -> PairSaying
+pub fn pairs_said(answer: Result<Walked<u32>, PairRefusal>) -> Saying<u32>
     ensures { result ≡ pairs_said_lem answer }
 {
     match answer {
-        ObjectArray::Decoded(_, _, _, _) => PairSaying {
-            number: 0,
-            pairs: 0,
-        },
-        ObjectArray::TooLong => PairSaying {
-            number: 1,
-            pairs: 0,
-        },
-        ObjectArray::Short(pairs) => PairSaying { number: 3, pairs },
+        Ok(_) => Saying { number: 0, need: 0 },
+        Err(PairRefusal::TooLong) => Saying { number: 1, need: 0 },
+        Err(PairRefusal::Short(need)) => Saying { number: 3, need },
     }
 }
 
 // Of a merge, whose refusal has the left counters beside its number: the answer has them.
-pub fn merge_number(answer: Merged) -> u32
+pub fn merge_number(answer: Result<ArrayDecodeStats, Overflow>) -> u32
     ensures { result ≡ merge_number_lem answer }
 {
     match answer {
-        Merged::Sum(_) => 0,
-        Merged::Overflow(_) => 4,
+        Ok(_) => 0,
+        Err(_) => 4,
     }
 }

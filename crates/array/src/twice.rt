@@ -1,31 +1,33 @@
-// Both passes of a walk: the first is lent nothing and measures, the second writes if the outputs hold what that found. In an
-// object walk the answer's leaves are pairs.
+// Both passes of a walk: the first is lent nothing and measures, the second writes if the outputs hold what that found, which is
+// else the Err. In an object walk the leaves are pairs.
 ghost use Rattle.schema.specs.Tables.{tables};
 ghost use Rattle.framing.specs.Sinks.{walker};
 ghost use Rattle.array.specs.Calls.{lent};
 ghost use Rattle.array.specs.Passing.{Passable, TwoPasses};
 
-use crate::StructArray;
 use crate::passes::{extent_of, has_room, measure, padded_of, pass, stats_of};
 use crate::verdicts::window_verdict;
+use crate::{Extent, Walked};
 use bits::sizes::LONGEST_PATH;
 use framing::Walk;
 use schema::spans::level_spans;
-use steps::tally::SLOTS;
+use steps::tables::{LentTables, Pools};
+use steps::tally::Tally;
+use steps::writes::Outputs;
 
-pub fn two_passes<'a>(
+pub fn two_passes(
     bytes: &[u8],
     bits: u64,
     walk: Walk,
     root: u32,
     rows: &[u32],
-    names: &'a [u8],
+    names: &[u8],
     declared: &[u32],
-    declared_names: &'a [u8],
+    declared_names: &[u8],
     records: &mut [u32],
     paths: &mut [u8],
     payloads: &mut [u8],
-) -> StructArray
+) -> Result<Walked<Extent>, Extent>
     requires { Passable bits (tables rows.now names.now declared.now declared_names.now) }
     ensures { TwoPasses
         (walker walk (tables rows.now names.now declared.now declared_names.now) root)
@@ -35,42 +37,36 @@ pub fn two_passes<'a>(
         (lent records.new paths.new payloads.new) }
 {
     let spans = level_spans(rows);
+    let looked_up = LentTables {
+        rows,
+        spans: &spans,
+        declared,
+        pools: Pools {
+            names,
+            declared_names,
+        },
+    };
     let mut path = [0u8; LONGEST_PATH];
-    let need = measure(
-        bytes,
-        bits,
-        walk,
-        root,
-        rows,
-        &spans,
-        names,
-        declared,
-        declared_names,
-        &mut path,
-    );
-    let extent = extent_of(walk, &need);
-    if !has_room(walk, extent, records.len(), paths.len(), payloads.len()) {
-        return StructArray::Short(extent);
+    let need = measure(bytes, bits, walk, root, &looked_up, &mut path);
+    let filled = extent_of(walk, &need);
+    if !has_room(walk, filled, records.len(), paths.len(), payloads.len()) {
+        return Err(filled);
     }
-    let mut tally = [0u32; SLOTS];
-    pass(
-        &mut tally,
-        bytes,
-        bits,
-        walk,
-        root,
-        rows,
-        &spans,
-        names,
-        declared,
-        declared_names,
-        &mut path,
+    let mut out = Outputs {
+        tally: Tally::default(),
+        path: &mut path,
         records,
         paths,
         payloads,
-    );
-    let stats = stats_of(&tally);
-    let judged = window_verdict(walk, bits, stats);
-    let padded = padded_of(&tally);
-    StructArray::Decoded(stats, judged, extent, padded)
+    };
+    pass(&mut out, bytes, bits, walk, root, &looked_up);
+    let stats = stats_of(&out.tally);
+    let verdict = window_verdict(walk, bits, stats);
+    let padded = padded_of(&out.tally);
+    Ok(Walked {
+        stats,
+        verdict,
+        filled,
+        padded,
+    })
 }

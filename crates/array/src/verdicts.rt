@@ -8,6 +8,7 @@ use crate::{ArrayDecodeStats, Verdict};
 use framing::Walk;
 
 // Of a window of so many bits whose walk, of this kind, counted this.
+#[tactic(auto, unfolding(framing::specs::Verdicts::counters_verdict, framing::specs::Verdicts::verdict_of))]
 pub fn window_verdict(walk: Walk, bits: u64, stats: ArrayDecodeStats) -> Verdict
     ensures { JudgesWindow walk bits (counters_of_lem stats) result }
 {

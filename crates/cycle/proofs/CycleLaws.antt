@@ -1,16 +1,16 @@
 -- What the cycle's loops keep: the rest of the definition's walk from here, on the world as it is, comes to what the whole comes to from the
 -- world at the entry.
-use Prim.Native.Nat.{ℕ, ◌+◌, ◌-◌, ◌*◌, ◌/◌, ◌%◌, ◌≤◌}
+use Prim.Native.Nat.{ℕ, ◌+◌, ◌-◌, ◌≤◌}
 use native.Mathlib.Omega.{arith}
 use mathlib.Core.Path.{◌≡◌, refl, sym, ap, ap₂, subst, ◌∙◌}
 use mathlib.Core.Bool.{Bool, true, ◌&&◌}
 use mathlib.Core.List.{List, [], ◌∷◌}
+use Rattle.std.specs.Prelude.{Option, Some, None}
 use lib.Dec.{eqb}
-use lib.ListN.{length, take, drop, length-drop}
-use lib.Seq.{take-take, length-take-le}
+use lib.ListN.{take}
+use lib.Seq.{take-take}
 use Rattle.bits.proofs.Never.{never}
-use Rattle.bits.specs.Sizes.{longest_path, max_fields, max_elements}
-use Rattle.schema.specs.Tables.{Tables, tables, look_ups}
+use Rattle.bits.specs.Sizes.{max_fields, max_elements}
 use Rattle.schema.specs.Labels.{label_bytes, dot}
 use Rattle.schema.specs.declared.Label.{Label}
 use Rattle.framing.specs.Windows.{Window}
@@ -19,13 +19,12 @@ use Rattle.framing.specs.Sinks.{entered_at}
 use Rattle.framing.specs.Walk.{Run, done, stopped, prepend, fields, behind, elements, level, in_item}
 use Rattle.outputs.specs.World.{World}
 use Rattle.steps.specs.Tally.{played, padding}
-use Rattle.steps.specs.Steps.{Lies}
 use Rattle.steps.specs.Views.{inner, up_to, sink_for, exit_sink}
 use Rattle.steps.specs.Heads.{level_head_lem, element_head_lem, field_head_lem, number_pads, element_pads, field_pads}
 use Rattle.steps.specs.Paths.{item_path}
 use Rattle.steps.specs.Kinds.{kind_of, KindLies}
+use Rattle.steps.specs.Lent.{tables_of, kind_at}
 use Rattle.steps.specs.Gives.{fields_stop, level_stop, flat_field}
-use Rattle.framing.specs.declared.Walk.{Walk}
 use Rattle.steps.specs.declared.Head.{Head}
 use Rattle.steps.specs.declared.Head.TheVariants as head
 use Rattle.steps.specs.declared.Kind.{Kind}
@@ -34,53 +33,53 @@ use Rattle.steps.proofs.CaseLaws.{NotGo, NotClosed, NotArray}
 use Rattle.steps.proofs.TallyLaws.{played_array}
 use Rattle.steps.proofs.ShiftLaws.{size_inner}
 use Rattle.steps.proofs.WalkLaws.{played_append, Alike, Ends, Shuts, Goes, level_exit, level_walks, level_next, elements_exit, elements_walk, element_next, fields_exit, fields_closed, fields_walk, field_next}
-use Rattle.steps.proofs.FieldKindLaws.{sink_alike, item_path_lem, kind_tables, kind_lies, field_flat, field_array}
+use Rattle.steps.proofs.FieldKindLaws.{sink_alike, item_path_lem, kind_lies, field_flat, field_array}
 use Rattle.cycle.specs.Cycle.{Place, place, sink_at, window_at, Ready, LevelWalked, Done, finished, FieldsWalked, FieldWalked}
-use Rattle.cycle.specs.declared.After.{After}
-use Rattle.cycle.specs.declared.After.TheVariants as after
+use Rattle.steps.specs.declared.pieces.Piece.{Piece}
+use Rattle.steps.specs.declared.tables.Spot.{Spot}
 
 -- ---- what fields leave
 
-abbrev pub ended : World → After → Done
+abbrev pub ended : World → Option ℕ → Done
 ended y r = record { world = y; after = r }
 
 finished_goes : (b : ℕ) (r r' : Run) (x y : World) → Goes r r' x y → finished b r x ≡ finished b r' y
 finished_goes b r r' x y g = ap (λ (u : Run). finished b u x) g.is ∙ go r' ∙ ap (finished b r') (sym g.world)
   where
     go : (u : Run) → finished b (prepend g.trace u) x ≡ finished b u (played g.trace x)
-    go (done t q) = ap (λ (w : World). ended w (after.Closed (b + q))) (played_append g.trace t x)
-    go (stopped t) = ap (λ (w : World). ended w after.Open) (played_append g.trace t x)
+    go (done t q) = ap (λ (w : World). ended w (Some (b + q))) (played_append g.trace t x)
+    go (stopped t) = ap (λ (w : World). ended w None) (played_append g.trace t x)
 
-finished_shuts : (b : ℕ) (r : Run) (x y : World) (n : ℕ) → Shuts b r x y n → ended y (after.Closed n) ≡ finished b r x
-finished_shuts b r x y n s = ap₂ (λ (w : World) (k : ℕ). ended w (after.Closed k)) s.world s.at ∙ ap (λ (u : Run). finished b u x) (sym s.is)
+finished_shuts : (b : ℕ) (r : Run) (x y : World) (n : ℕ) → Shuts b r x y n → ended y (Some n) ≡ finished b r x
+finished_shuts b r x y n s = ap₂ (λ (w : World) (k : ℕ). ended w (Some k)) s.world s.at ∙ ap (λ (u : Run). finished b u x) (sym s.is)
 
-finished_ends : (b : ℕ) (r : Run) (x y : World) → Ends r x y → ended y after.Open ≡ finished b r x
-finished_ends b r x y s = ap (λ (w : World). ended w after.Open) s.world ∙ ap (λ (u : Run). finished b u x) (sym s.is)
+finished_ends : (b : ℕ) (r : Run) (x y : World) → Ends r x y → ended y None ≡ finished b r x
+finished_ends b r x y s = ap (λ (w : World). ended w None) s.world ∙ ap (λ (u : Run). finished b u x) (sym s.is)
 
 -- behind fields that closed, and behind those that did not
-behind_closed : (b n : ℕ) (more : ℕ → Trace) (r : Run) (x y : World) → ended y (after.Closed n) ≡ finished b r x → played (behind more r) x ≡ played (more (n - b)) y
+behind_closed : (b n : ℕ) (more : ℕ → Trace) (r : Run) (x y : World) → ended y (Some n) ≡ finished b r x → played (behind more r) x ≡ played (more (n - b)) y
 behind_closed b n more (done t q) x y e =
     let w : y ≡ played t x = ap (λ (d : Done). d.world) e in
-    let a : after.Closed n ≡ after.Closed (b + q) = ap (λ (d : Done). d.after) e in
+    let a : Some n ≡ Some (b + q) = ap (λ (d : Done). d.after) e in
     let c : n ≡ b + q = cc in
     let d : q ≡ n - b = omega arith in
     played_append t (more q) x ∙ ap₂ (λ (k : ℕ) (v : World). played (more k) v) d (sym w)
 behind_closed b n more (stopped t) x y e =
-    let a : after.Closed n ≡ after.Open = ap (λ (d : Done). d.after) e in
+    let a : Some n ≡ None = ap (λ (d : Done). d.after) e in
     never cc
 
-closed_later : (b n : ℕ) (r : Run) (x y : World) → ended y (after.Closed n) ≡ finished b r x → b ≤ n
+closed_later : (b n : ℕ) (r : Run) (x y : World) → ended y (Some n) ≡ finished b r x → b ≤ n
 closed_later b n (done t q) x y e =
-    let a : after.Closed n ≡ after.Closed (b + q) = ap (λ (d : Done). d.after) e in
+    let a : Some n ≡ Some (b + q) = ap (λ (d : Done). d.after) e in
     let c : n ≡ b + q = cc in
     omega arith
 closed_later b n (stopped t) x y e =
-    let a : after.Closed n ≡ after.Open = ap (λ (d : Done). d.after) e in
+    let a : Some n ≡ None = ap (λ (d : Done). d.after) e in
     never cc
 
-behind_open : (b : ℕ) (more : ℕ → Trace) (r : Run) (x y : World) → ended y after.Open ≡ finished b r x → y ≡ played (behind more r) x
+behind_open : (b : ℕ) (more : ℕ → Trace) (r : Run) (x y : World) → ended y None ≡ finished b r x → y ≡ played (behind more r) x
 behind_open b more (done t q) x y e =
-    let a : after.Open ≡ after.Closed (b + q) = ap (λ (d : Done). d.after) e in
+    let a : None ≡ Some (b + q) = ap (λ (d : Done). d.after) e in
     never cc
 behind_open b more (stopped t) x y e = ap (λ (d : Done). d.world) e
 
@@ -93,9 +92,6 @@ pub record Fielding (q : Place) (index start : ℕ) (x₀ x : World) (path : Lis
       → finished b (fields (sink_at q inside) (window_at q b) index q.path left (at - b) first) x
       ≡ finished b (fields (sink_at q inside) (window_at q b) index q.path max_fields (start - b) true) x₀
   pub kept : path ≡ q.path
-
-pub fields_begin : (q : Place) (index start : ℕ) (x : World) → Fielding q index start x x q.path start max_fields true
-fields_begin q index start x = record { later = omega arith; same = λ b inside h. refl; kept = refl }
 
 -- x₁: the world in which the head's padded numbers are counted
 module _ (q : Place) (index start : ℕ) (x₀ x : World) (path : List ℕ) (at left : ℕ) (first : Bool) (fit : start ≤ q.end) (v : Fielding q index start x₀ x path at left first)
@@ -125,21 +121,21 @@ module _ (q : Place) (index start : ℕ) (x₀ x : World) (path : List ℕ) (at 
       }
 
   -- the fields closed
-  pub fields_shut : {n : ℕ} → field_head_lem (up_to q.bytes q.end) left at ≡ head.Closed n → FieldsWalked q index start x₀ x₁ (after.Closed n) path
+  pub fields_shut : {n : ℕ} → field_head_lem (up_to q.bytes q.end) left at ≡ head.Closed n → FieldsWalked q index start x₀ x₁ (Some n) path
   fields_shut {n} e =
       record {
         out = λ b inside hb.
             let le : b ≤ q.end = omega arith in
             let here : b ≤ at = let z = v.later in omega arith in
             let s = fields_closed (sink_at q inside) (exit_sink q.walk inside) (private_alike inside) q.bytes q.base b q.end q.path le index left at first here e x in
-            ap (λ (z : World). ended z (after.Closed n)) took ∙ finished_shuts b _ x _ n s ∙ v.same b inside hb;
+            ap (λ (z : World). ended z (Some n)) took ∙ finished_shuts b _ x _ n s ∙ v.same b inside hb;
         kept = v.kept;
       }
 
   -- they did not
   pub fields_end : (h : Head) → field_head_lem (up_to q.bytes q.end) left at ≡ h → NotGo h → NotClosed h → (y : World) (path' : List ℕ)
       → ((inside : Bool) → y ≡ played (fields_stop (exit_sink q.walk inside) q.bytes q.base q.end path h) x₁) → path' ≡ path
-      → FieldsWalked q index start x₀ y after.Open path'
+      → FieldsWalked q index start x₀ y None path'
   fields_end h e n c y path' out same =
       record {
         out = λ b inside hb.
@@ -214,7 +210,7 @@ module _ (q : Place) (inside : Bool) (start : ℕ) (fit : start ≤ q.end) where
 
     -- an element was entered with the world x₁ and the path p₁, and its fields left the world y and r
     module _ (i next m : ℕ) (e : element_head_lem (up_to q.bytes q.end) count left at ≡ head.Go i next m) (x₁ y : World) (p₁ path' : List ℕ)
-        (counts : (p : List ℕ) → x₁ ≡ played (element p ∷ []) (padding (element_pads (up_to q.bytes q.end) left at) x)) (is : p₁ ≡ item_path q.walk path i) (r : After) (p₂ : List ℕ)
+        (counts : (p : List ℕ) → x₁ ≡ played (element p ∷ []) (padding (element_pads (up_to q.bytes q.end) left at) x)) (is : p₁ ≡ item_path q.walk path i) (r : Option ℕ) (p₂ : List ℕ)
         (f : FieldsWalked (place q.walk q.tables q.below q.level q.bytes q.base q.end p₁) i next x₁ y r p₂) (same : path' ≡ path) where
       later' : start ≤ next
       later' = let n = element_next q.bytes q.end count left at e in let z = v.later in omega arith
@@ -240,16 +236,16 @@ module _ (q : Place) (inside : Bool) (start : ℕ) (fit : start ≤ q.end) where
       walked : played (elements (sink_at q inside) (window_at q start) q.path count left (at - start)) x ≡ played (behind more fields_of) entered
       walked = elements_walk (sink_at q inside) (exit_sink q.walk inside) alike q.bytes q.base start q.end q.path fit count left at v.later e x
 
-      pub elements_turn : (n : ℕ) → r ≡ after.Closed n → Leveling q inside start count begin x₀ y path' n (left - 1)
+      pub elements_turn : (n : ℕ) → r ≡ Some n → Leveling q inside start count begin x₀ y path' n (left - 1)
       elements_turn n er =
-          let played-on : ended y (after.Closed n) ≡ finished start fields_of entered = ap (ended y) (sym er) ∙ runs in
+          let played-on : ended y (Some n) ≡ finished start fields_of entered = ap (ended y) (sym er) ∙ runs in
           record {
             later = closed_later start n fields_of entered y played-on;
             same = sym (walked ∙ behind_closed start n more fields_of entered y played-on) ∙ v.same;
             kept = same ∙ v.kept;
           }
 
-      pub elements_open : r ≡ after.Open → ElementsWalked q inside start count begin x₀ y path'
+      pub elements_open : r ≡ None → ElementsWalked q inside start count begin x₀ y path'
       elements_open er =
           record {
             out = behind_open start more fields_of entered y (ap (ended y) (sym er) ∙ runs) ∙ sym walked ∙ v.same;
@@ -292,58 +288,11 @@ module _ (q : Place) (index : ℕ) (first : Bool) (handle start : ℕ) (x : Worl
         kept = same;
       }
 
--- ---- for the code: the part of the bytes that a child gets
+-- ---- for the code: what a step asks of a field
 
--- a child's window lies in the bytes that it gets
-pub child_inside : (bytes : List ℕ) (start end : ℕ) → start ≤ end → end ≤ 8 * length bytes
-    → start % 8 + (end - start) ≤ 8 * length (take ((end + 7) / 8 - start / 8) (drop (start / 8) bytes))
-child_inside bytes start end le fit =
-    let d = length-drop (start / 8) bytes in
-    let t = length-take-le ((end + 7) / 8 - start / 8) (drop (start / 8) bytes) (omega arith) in
-    omega arith
-
--- what the code found a field to be is what the tables say of it, and its label lies in a pool
-module _ (rows names declared declared_names_lem : List ℕ) where
-  pub kind_is : (s : Walk) (below lvl handle width : ℕ) {k : Kind} → k ≡ kind_of s (look_ups rows declared) below lvl handle width
-      → k ≡ kind_of s (tables rows names declared declared_names_lem) below lvl handle width
-  kind_is s below lvl handle width e = e ∙ kind_tables s rows names declared declared_names_lem below lvl handle width
-
-  pub kind_ready : {bytes : List ℕ} {base start end plen adds : ℕ} {spans : List ℕ} → Ready bytes base start end plen adds (tables rows names declared declared_names_lem) spans
-      → (s : Walk) (below lvl handle width : ℕ) {k : Kind} → k ≡ kind_of s (look_ups rows declared) below lvl handle width
-      → KindLies (tables rows names declared declared_names_lem) k
-  kind_ready r s below lvl handle width e =
-      let t = tables rows names declared declared_names_lem in
-      subst (KindLies t) (sym (kind_is s below lvl handle width e)) (kind_lies s t below lvl handle width r.labels.leaf r.labels.container)
-
--- a window that lies in its bytes lies there from their first bit on
-pub up_to_lem : {bytes : List ℕ} {base start end plen adds : ℕ} {t : Tables} {spans : List ℕ} → Ready bytes base start end plen adds t spans → Lies bytes 0 end
-up_to_lem r = (omega arith, r.lies.1, r.lies.2)
-
--- what the code asks for a child, and for a field or an element's fields of the same level
-pub ready_child : (bytes : List ℕ) (base start end plen adds longer less : ℕ) (t : Tables) (spans : List ℕ) → Ready bytes base start end plen adds t spans
-    → longer + less ≤ longest_path
-    → Ready (take ((end + 7) / 8 - start / 8) (drop (start / 8) bytes)) (base + (start - start % 8)) (start % 8) (start % 8 + (end - start)) longer less t spans
-ready_child bytes base start end plen adds longer less t spans r h =
-    let le = r.lies.0 in
-    let fit = r.lies.1 in
-    let few = r.lies.2 in
-    record {
-      lies = (omega arith, child_inside bytes start end le fit, omega arith);
-      in_root = let root = r.in_root in omega arith;
-      path = h;
-      labels = r.labels;
-      spans_are = r.spans_are;
-    }
-
-pub ready_part : (bytes : List ℕ) (base start end from' end' plen adds longer less : ℕ) (t : Tables) (spans : List ℕ) → Ready bytes base start end plen adds t spans
-    → from' ≤ end' → end' ≤ end → longer + less ≤ longest_path → Ready bytes base from' end' longer less t spans
-ready_part bytes base start end from' end' plen adds longer less t spans r le in_end h =
-    let fit = r.lies.1 in
-    let few = r.lies.2 in
-    record {
-      lies = (le, omega arith, omega arith);
-      in_root = let root = r.in_root in omega arith;
-      path = h;
-      labels = r.labels;
-      spans_are = r.spans_are;
-    }
+-- a field's label lies in its pool
+pub kind_ready : {s : Spot} {p : Piece} {start plen adds : ℕ} → Ready s p start plen adds → (handle width : ℕ) {k : Kind} → k ≡ kind_at s handle width
+    → KindLies (tables_of s.tables.now) k
+kind_ready {s} r handle width e =
+    let t = tables_of s.tables.now in
+    subst (KindLies t) (sym e) (kind_lies s.walk t s.below s.level handle width r.labels.leaf r.labels.container)

@@ -11,8 +11,8 @@ use Rattle.framing.specs.Walk.{Sink, number_at, trailer_of, closing}
 use Rattle.outputs.specs.World.{World}
 use Rattle.steps.specs.Tally.{played, padding}
 use Rattle.steps.specs.Views.{inner, up_to, leftover_of}
-use Rattle.steps.specs.Heads.{number_of}
-use Rattle.steps.specs.declared.NumberRead.TheVariants as number
+use Rattle.steps.specs.Heads.{number_read, number_of}
+use Rattle.std.specs.Prelude.{None}
 use Rattle.steps.proofs.TallyLaws.{played_number}
 use Rattle.steps.proofs.HeadLaws.{number_got, number_failed, number_within}
 use Rattle.steps.proofs.ViewLaws.{reading_start}
@@ -55,11 +55,11 @@ module _ (s : Sink) (bytes : List ℕ) (base b end : ℕ) (W W' : World) (h : b 
     trailed_by : (r : Reading) → reading (up_to bytes end) b ≡ r → closing s (inner bytes base b end) 0 ≡ trailer_of s (inner bytes base b end) 0 r
     trailed_by r e = trailed ∙ ap (trailer_of s (inner bytes base b end) 0) (reading_start bytes base b end h ∙ e)
 
-    pub trailer_failed : number_of b (reading (up_to bytes end) b) ≡ number.Failed → W' ≡ played (error ∷ []) W
+    pub trailer_failed : number_of b (reading (up_to bytes end) b) ≡ None → W' ≡ played (error ∷ []) W
         → W' ≡ played (closing s (inner bytes base b end) 0) W
     trailer_failed e d = closes_with (error ∷ []) (trailed_by failed (number_failed _ _ e)) d
 
-    module _ (v q : ℕ) {x : Bool} (e : number_of b (reading (up_to bytes end) b) ≡ number.Value v q x) where
+    module _ (v q : ℕ) {x : Bool} (e : number_of b (reading (up_to bytes end) b) ≡ number_read v q x) where
       -- it has one byte
       short : (number_got (up_to bytes end) b v q e).bytes ≤ 1
       unfolding up_to

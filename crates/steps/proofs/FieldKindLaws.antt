@@ -1,14 +1,11 @@
 -- The sink of a walk: its ways out are those of its kind of walk, and what it makes of a field goes by what the field is.
 use Rattle.std.specs.Prelude.{if◌then◌else◌}
-use Rattle.std.proofs.Common.{◌≡◌, ℕ, zero, suc, ◌-◌, ◌<◌, Bool, true, false, eqb, List, [], ◌∷◌, sym, refl, ap, ◌∙◌, arith, ne_eqb}
+use Rattle.std.proofs.Common.{◌≡◌, ℕ, Option, Some, None, zero, suc, ◌-◌, ◌<◌, Bool, true, false, eqb, List, [], ◌∷◌, sym, refl, ap, ◌∙◌, arith, ne_eqb}
 use Rattle.bits.proofs.Never.{never}
-use Rattle.schema.specs.Tables.{Tables, tables, look_ups, child}
+use Rattle.schema.specs.Tables.{Tables, tables, child}
 use Rattle.schema.specs.Labels.{label_bytes, container_label_lem, leaf_label, LabelLies, dot}
-use Rattle.schema.specs.declared.Child.{Child}
-use Rattle.schema.specs.declared.Child.TheVariants as child
 use Rattle.schema.specs.declared.Label.{Label}
 use Rattle.schema.specs.declared.Label.TheVariants as label
-use Rattle.schema.proofs.LabelLaws.{container_of, leaf_of_lem}
 use Rattle.framing.specs.Windows.{Window}
 use Rattle.framing.specs.Events.{array, leaf, nested, truncation, Trace}
 use Rattle.framing.specs.Paths.{array_path}
@@ -43,33 +40,15 @@ item_path_lem s t below inside lvl path i = rw (sink_alike s t below inside lvl)
 
 pub pool_bytes : (rows names declared declared_names_lem : List ℕ) (handle : ℕ) (x : Label) → label_bytes (pools names declared_names_lem) handle x ≡ label_bytes (tables rows names declared declared_names_lem) handle x
 unfolding label_bytes
-pool_bytes rows names declared declared_names_lem handle (label.Declared a n) = refl
-pool_bytes rows names declared declared_names_lem handle (label.Named a n) = refl
+pool_bytes rows names declared declared_names_lem handle (label.Declared start len) = refl
+pool_bytes rows names declared declared_names_lem handle (label.Named start len) = refl
 pool_bytes rows names declared declared_names_lem handle label.Plain = refl
 
 pub pool_lies : (rows names declared declared_names_lem : List ℕ) (x : Label) → LabelLies (tables rows names declared declared_names_lem) x → LabelLies (pools names declared_names_lem) x
 unfolding LabelLies
-pool_lies rows names declared declared_names_lem (label.Declared a n) h = h
-pool_lies rows names declared declared_names_lem (label.Named a n) h = h
+pool_lies rows names declared declared_names_lem (label.Declared start len) h = h
+pool_lies rows names declared declared_names_lem (label.Named start len) h = h
 pool_lies rows names declared declared_names_lem label.Plain h = tt
-
-pub kind_tables : (s : Walk) (rows names declared declared_names_lem : List ℕ) (below lvl handle width : ℕ)
-    → kind_of s (look_ups rows declared) below lvl handle width ≡ kind_of s (tables rows names declared declared_names_lem) below lvl handle width
-unfolding kind_of
-kind_tables s rows names declared declared_names_lem below lvl handle width = ap (λ (k : Kind). if gives_leaves_lem s then k else kind.Object) (go (child rows lvl handle))
-  where
-    t : Tables
-    t = tables rows names declared declared_names_lem
-
-    bare : Tables
-    bare = look_ups rows declared
-
-    same : container_label_lem bare lvl handle ≡ container_label_lem t lvl handle
-    same = sym (container_of bare lvl handle) ∙ container_of t lvl handle
-
-    go : (c : Child) → kind_by bare below lvl handle width c ≡ kind_by t below lvl handle width c
-    go child.Leaf = ap kind.Leaf (leaf_of_lem t lvl handle)
-    go (child.Array lower) = ap (λ (x : Label). if eqb width 0 then kind.Nothing else (if eqb below 0 then kind.Deep x else kind.Array lower x)) same
 
 pub kind_lies : (s : Walk) (t : Tables) (below lvl handle width : ℕ) → ((l h : ℕ) → LabelLies t (leaf_label t l h)) → ((l h : ℕ) → LabelLies t (container_label_lem t l h))
     → KindLies t (kind_of s t below lvl handle width)
@@ -81,9 +60,9 @@ kind_lies s t below lvl handle width leaves containers = by_walk (gives_leaves_l
     go2 lower false true = containers lvl handle
     go2 lower false false = containers lvl handle
 
-    go : (c : Child) → KindLies t (kind_by t below lvl handle width c)
-    go child.Leaf = leaves lvl handle
-    go (child.Array lower) = go2 lower (eqb width 0) (eqb below 0)
+    go : (c : Option ℕ) → KindLies t (kind_by t below lvl handle width c)
+    go None = leaves lvl handle
+    go (Some lower) = go2 lower (eqb width 0) (eqb below 0)
 
     by_walk : (b : Bool) → KindLies t (if b then kind_by t below lvl handle width (child t.rows lvl handle) else kind.Object)
     by_walk true = go (child t.rows lvl handle)
@@ -127,9 +106,9 @@ module _ (s : Walk) (leafy : gives_leaves_lem s ≡ true) (t : Tables) (lvl i : 
   unfolding sink_for struct_sink by_kind flat_field tagged_leaf
   leafy_kind zero inside = go (child t.rows lvl handle)
     where
-      go : (c : Child) → on_child t lvl too_deep path handle w c ≡ by_kind s t 0 i path first handle w (kind_by t 0 lvl handle w.size c)
-      go child.Leaf = refl
-      go (child.Array lower) = go2 (eqb w.size 0)
+      go : (c : Option ℕ) → on_child t lvl too_deep path handle w c ≡ by_kind s t 0 i path first handle w (kind_by t 0 lvl handle w.size c)
+      go None = refl
+      go (Some lower) = go2 (eqb w.size 0)
         where
           go2 : (x : Bool) → (if x then [] else too_deep lower (array_path t lvl path handle) handle w)
               ≡ by_kind s t 0 i path first handle w (if x then kind.Nothing else kind.Deep (container_label_lem t lvl handle))
@@ -146,11 +125,11 @@ module _ (s : Walk) (leafy : gives_leaves_lem s ≡ true) (t : Tables) (lvl i : 
       below_sink : (m lower : ℕ) → struct_sink m t (takes_trailer_lem s) nested lower ≡ sink_for s t m true lower
       below_sink m lower = sym (rw leafy refl)
 
-      go : (c : Child)
+      go : (c : Option ℕ)
           → on_child t lvl (λ below p h v. array (entered_at p v) ∷ level (struct_sink n t (takes_trailer_lem s) nested below) v p) path handle w c
           ≡ by_kind s t (suc n) i path first handle w (kind_by t (suc n) lvl handle w.size c)
-      go child.Leaf = refl
-      go (child.Array lower) = rw some (go2 (eqb w.size 0))
+      go None = refl
+      go (Some lower) = rw some (go2 (eqb w.size 0))
         where
           go2 : (x : Bool) → (if x then [] else array (entered_at (array_path t lvl path handle) w) ∷ level (struct_sink n t (takes_trailer_lem s) nested lower) w (array_path t lvl path handle))
               ≡ by_kind s t (suc n) i path first handle w (if x then kind.Nothing else kind.Array lower (container_label_lem t lvl handle))
@@ -203,9 +182,9 @@ array_below s t zero lvl handle width lower x e = by_walk (gives_leaves_lem s) e
     go2 true z f = never cc
     go2 false z f = never cc
 
-    go : (c : Child) → kind.Array lower x ≡ kind_by t 0 lvl handle width c → 0 < 0
-    go child.Leaf f = never cc
-    go (child.Array l) f = go2 (eqb width 0) (container_label_lem t lvl handle) f
+    go : (c : Option ℕ) → kind.Array lower x ≡ kind_by t 0 lvl handle width c → 0 < 0
+    go None f = never cc
+    go (Some l) f = go2 (eqb width 0) (container_label_lem t lvl handle) f
 
     by_walk : (b : Bool) → kind.Array lower x ≡ (if b then kind_by t 0 lvl handle width (child t.rows lvl handle) else kind.Object) → 0 < 0
     by_walk true f = go (child t.rows lvl handle) f

@@ -2,28 +2,84 @@
 use Rattle.std.proofs.Common.{◌≡◌, ℕ, zero, suc, ◌+◌, ◌-◌, ◌*◌, ◌/◌, ◌%◌, ◌^◌, ◌<◌, ◌≤◌, Bool, true, false, ltb, List, sym, refl, ap, ◌∙◌, subst, arith, le-ltb, lt-ltb, eq-eqb, ne_eqb, le-leb}
 use borrow.Author.Tests.{lt-leb}
 use Rattle.bits.specs.Bits.{num, field}
-use Rattle.bits.specs.Packed.{Number, packed}
-use Rattle.bits.specs.Padded.{padded}
+use Rattle.bits.specs.Packed as K
+use Rattle.bits.specs.Packed.{Packed, Number, packed}
+use Rattle.bits.specs.Padded.{padded, found}
 use Rattle.bits.proofs.PaddedLaws as P
 use Rattle.bits.proofs.Never.{never}
-use Rattle.bits.specs.declared.Packed.{Packed}
-use Rattle.bits.specs.declared.Packed.TheVariants.{Whole}
 use Rattle.bits.proofs.FieldLaws.{field_low, field_high}
-use Rattle.bits.proofs.PackedLaws.{packed_one}
+use Rattle.bits.proofs.PackedLaws.{packed_one, whole_within}
 use Rattle.bits.proofs.PackedWindows.{Lies, whole, cut, goes_on, overflows, packed_lies}
 use Rattle.bits.specs.Sizes.{max_elements}
 use Rattle.framing.specs.Windows.{Window, Reading, got, failed, reading_of, reading}
 use Rattle.framing.specs.Walk.{number_at, closes, opens, lead, with_width, field_of}
 use Rattle.framing.proofs.StepLaws.{lead_ends, lead_fails, lead_zero, lead_more, field_at_lead}
 use Rattle.steps.specs.Views.{up_to}
-use Rattle.steps.specs.Heads.{number_of, count_head, level_head_lem, index_head, element_head_lem, last_head, due_head, field_head_lem, sized_head, width_head_lem}
-use Rattle.steps.specs.declared.NumberRead.TheVariants as number
+use Rattle.steps.specs.Heads.{number_read, number_of, count_head, level_head_lem, index_head, element_head_lem, last_head, due_head, field_head_lem, sized_head, width_head_lem}
+use Rattle.std.specs.Prelude.{Option, Some, None, Result, Ok, Err}
+use Rattle.std.specs.Result.{result_ok}
+use Rattle.bits.specs.declared.Found.{Found}
+use Rattle.bits.specs.declared.Broken.{Broken}
+use Rattle.steps.specs.declared.NumberRead.{NumberRead}
 use Rattle.steps.specs.declared.Head.TheVariants as head
 
 -- a packed number of the bytes is the number of all bits before the end
 pub number_is : (bytes : List ℕ) (end p : ℕ) (r : Packed) → packed (num bytes) end p ≡ r → number_of p (reading_of r) ≡ number_of p (reading (up_to bytes end) p)
 unfolding reading up_to
 number_is bytes end p r e = ap (λ (x : Packed). number_of p (reading_of x)) (sym e)
+
+-- what the code makes of one that it found at bit p
+abbrev pub read_of : (p : ℕ) → Option Found → Option NumberRead
+read_of p None = None
+read_of p (Some x) = number_read x.value (p + 8 * x.bytes) x.padded
+
+module _ (bytes : List ℕ) (end p : ℕ) {r : Result Found Broken} (told : r ≡ found (packed (num bytes) end p)) {o : Option Found} (kept : o ≡ result_ok r) where
+  pub number_found : read_of p o ≡ number_of p (reading (up_to bytes end) p)
+  unfolding found
+  number_found =
+      ap (read_of p) (kept ∙ ap result_ok told) ∙ go (packed (num bytes) end p) ∙ number_is bytes end p (packed (num bytes) end p) refl
+    where
+      go : (k : Packed) → read_of p (result_ok (found k)) ≡ number_of p (reading_of k)
+      go (Ok x) = refl
+      go (Err why) = refl
+
+  Ends : Option Found → Type 0
+  Ends None = Unit {0}
+  Ends (Some x) = p + 8 * x.bytes ≤ end
+
+  -- it ends before the bits do
+  pub found_within : p ≤ end → (x : Found) → o ≡ Some x → p + 8 * x.bytes ≤ end
+  unfolding found Ends
+  found_within h x e = subst Ends (sym (kept ∙ ap result_ok told) ∙ e) (go (packed (num bytes) end p) refl)
+    where
+      go : (k : Packed) → packed (num bytes) end p ≡ k → Ends (result_ok (found k))
+      go (Ok y) s = whole_within (num bytes) end p h y.value y.bytes s
+      go (Err why) s = tt
+
+-- the same number has the same value, the same bit behind it, and is padded or not
+value_of : Option NumberRead → ℕ
+value_of None = 0
+value_of (Some n) = n.value
+
+next_of : Option NumberRead → ℕ
+next_of None = 0
+next_of (Some n) = n.next
+
+padded_of : Option NumberRead → Bool
+padded_of None = false
+padded_of (Some n) = n.padded
+
+same_value : {v v' q q' : ℕ} {x x' : Bool} → number_read v q x ≡ number_read v' q' x' → v ≡ v'
+unfolding value_of
+same_value e = ap value_of e
+
+same_next : {v v' q q' : ℕ} {x x' : Bool} → number_read v q x ≡ number_read v' q' x' → q ≡ q'
+unfolding next_of
+same_next e = ap next_of e
+
+same_padded : {v v' q q' : ℕ} {x x' : Bool} → number_read v q x ≡ number_read v' q' x' → x ≡ x'
+unfolding padded_of
+same_padded e = ap padded_of e
 
 -- a number that the code got
 pub record Got (w : Window) (p v q : ℕ) (x : Bool) : Type 0 where
@@ -33,28 +89,29 @@ pub record Got (w : Window) (p v q : ℕ) (x : Bool) : Type 0 where
   pub told : padded v bytes ≡ x
 
 module _ (w : Window) (p : ℕ) where
-  pub number_got : (v q : ℕ) {x : Bool} → number_of p (reading w p) ≡ number.Value v q x → Got w p v q x
+  pub number_got : (v q : ℕ) {x : Bool} → number_of p (reading w p) ≡ number_read v q x → Got w p v q x
   number_got v q {x} e = go (reading w p) refl e
     where
-      go : (r : Reading) → reading w p ≡ r → number_of p r ≡ number.Value v q x → Got w p v q x
+      go : (r : Reading) → reading w p ≡ r → number_of p r ≡ number_read v q x → Got w p v q x
       go failed s h = let z : ◌≡◌ {A = ℕ} 0 1 = cc in never z
-      go (got v' b) s h = let f : v' ≡ v = cc in record { bytes = b; is = s ∙ ap (λ (k : ℕ). got k b) f; next_is = cc; told = cc }
+      go (got v' b) s h =
+          record { bytes = b; is = s ∙ ap (λ (k : ℕ). got k b) (same_value h); next_is = same_next h; told = ap (λ (k : ℕ). padded k b) (sym (same_value h)) ∙ same_padded h }
 
-  pub number_failed : number_of p (reading w p) ≡ number.Failed → reading w p ≡ failed
+  pub number_failed : number_of p (reading w p) ≡ None → reading w p ≡ failed
   number_failed e = go (reading w p) refl e
     where
-      go : (r : Reading) → reading w p ≡ r → number_of p r ≡ number.Failed → reading w p ≡ failed
+      go : (r : Reading) → reading w p ≡ r → number_of p r ≡ None → reading w p ≡ failed
       go failed s h = s
       go (got v b) s h = let z : ◌≡◌ {A = ℕ} 0 1 = cc in never z
 
   -- it takes a byte at least and lies in the window
-  pub number_within : (v q : ℕ) {x : Bool} → number_of p (reading w p) ≡ number.Value v q x → (p + 8 ≤ q) × (q ≤ w.size)
+  pub number_within : (v q : ℕ) {x : Bool} → number_of p (reading w p) ≡ number_read v q x → (p + 8 ≤ q) × (q ≤ w.size)
   unfolding reading
   number_within v q {x} e = go (packed w.bits w.size p) (packed_lies w.bits w.size p) e
     where
-      go : (r : Packed) → Lies w.size p r → number_of p (reading_of r) ≡ number.Value v q x → (p + 8 ≤ q) × (q ≤ w.size)
-      go _ (whole {v = x} {n = n} h k) d =
-          let f : p + 8 * n ≡ q = cc in
+      go : (r : Packed) → Lies w.size p r → number_of p (reading_of r) ≡ number_read v q x → (p + 8 ≤ q) × (q ≤ w.size)
+      go _ (whole {x = x} h k) d =
+          let f : p + 8 * x.bytes ≡ q = same_next d in
           let l : p + 8 ≤ q = omega arith in
           let m : q ≤ w.size = omega arith in
           (l, m)
@@ -64,15 +121,15 @@ module _ (w : Window) (p : ℕ) where
 
   -- ---- a level
 
-  pub level_failed : number_of p (reading w p) ≡ number.Failed → level_head_lem w p ≡ head.Failed
+  pub level_failed : number_of p (reading w p) ≡ None → level_head_lem w p ≡ head.Failed
   unfolding level_head_lem
   level_failed e = ap count_head e
 
-  pub level_limit : (v q : ℕ) {x : Bool} → number_of p (reading w p) ≡ number.Value v q x → max_elements < v → level_head_lem w p ≡ head.Limit q
+  pub level_limit : (v q : ℕ) {x : Bool} → number_of p (reading w p) ≡ number_read v q x → max_elements < v → level_head_lem w p ≡ head.Limit q
   unfolding level_head_lem
   level_limit v q e h = ap count_head e ∙ simp (lt-ltb max_elements v h)
 
-  pub level_go : (v q : ℕ) {x : Bool} → number_of p (reading w p) ≡ number.Value v q x → v ≤ max_elements → level_head_lem w p ≡ head.Go v q q
+  pub level_go : (v q : ℕ) {x : Bool} → number_of p (reading w p) ≡ number_read v q x → v ≤ max_elements → level_head_lem w p ≡ head.Go v q q
   unfolding level_head_lem
   level_go v q e h = ap count_head e ∙ simp (le-ltb max_elements v h)
 
@@ -90,11 +147,11 @@ module _ (w : Window) (p : ℕ) where
     element_ended h = ap (index_head count left p) (lead_ends w p h)
 
     module _ (h : p < w.size) where
-      pub element_failed : number_of p (reading w p) ≡ number.Failed → element_head_lem w count left p ≡ head.Failed
+      pub element_failed : number_of p (reading w p) ≡ None → element_head_lem w count left p ≡ head.Failed
       unfolding element_head_lem
       element_failed e = ap (index_head count left p) (lead_fails w p h (number_failed e))
 
-      module _ (v q : ℕ) {x : Bool} (e : number_of p (reading w p) ≡ number.Value v q x) where
+      module _ (v q : ℕ) {x : Bool} (e : number_of p (reading w p) ≡ number_read v q x) where
         pub element_closed : v ≡ 0 → element_head_lem w count left p ≡ head.Closed q
         unfolding element_head_lem
         element_closed z = ap (index_head count left p) (lead_closed q h (subst (λ (k : ℕ). Got w p k q x) z (number_got v q e)))
@@ -120,15 +177,15 @@ module _ (w : Window) (p : ℕ) where
   -- ---- a width
 
   module _ (handle : ℕ) where
-    pub width_failed : number_of p (reading w p) ≡ number.Failed → width_head_lem w handle p ≡ head.Failed
+    pub width_failed : number_of p (reading w p) ≡ None → width_head_lem w handle p ≡ head.Failed
     unfolding width_head_lem
     width_failed e = ap (sized_head w handle) e
 
-    pub width_past : (k q : ℕ) {x : Bool} → number_of p (reading w p) ≡ number.Value k q x → w.size < q + k → width_head_lem w handle p ≡ head.Failed
+    pub width_past : (k q : ℕ) {x : Bool} → number_of p (reading w p) ≡ number_read k q x → w.size < q + k → width_head_lem w handle p ≡ head.Failed
     unfolding width_head_lem
     width_past k q e h = ap (sized_head w handle) e ∙ simp (lt-ltb w.size (q + k) h)
 
-    pub width_go : (k q : ℕ) {x : Bool} → number_of p (reading w p) ≡ number.Value k q x → q + k ≤ w.size → width_head_lem w handle p ≡ head.Go handle q (q + k)
+    pub width_go : (k q : ℕ) {x : Bool} → number_of p (reading w p) ≡ number_read k q x → q + k ≤ w.size → width_head_lem w handle p ≡ head.Go handle q (q + k)
     unfolding width_head_lem
     width_go k q e h = ap (sized_head w handle) e ∙ simp (le-ltb w.size (q + k) h)
 
@@ -149,12 +206,12 @@ module _ (w : Window) (p : ℕ) where
   field_ended (suc left) h = ap due_head (field_at_lead w p ∙ ap (field_of w) (lead_ends w p h))
 
   module _ (h : p < w.size) where
-    pub field_failed : (left : ℕ) → number_of p (reading w p) ≡ number.Failed → field_head_lem w left p ≡ head.Failed
+    pub field_failed : (left : ℕ) → number_of p (reading w p) ≡ None → field_head_lem w left p ≡ head.Failed
     unfolding field_head_lem
     field_failed zero e = ap (last_head p) (lead_fails w p h (number_failed e))
     field_failed (suc left) e = ap due_head (field_at_lead w p ∙ ap (field_of w) (lead_fails w p h (number_failed e)))
 
-    module _ (v q : ℕ) {x : Bool} (e : number_of p (reading w p) ≡ number.Value v q x) where
+    module _ (v q : ℕ) {x : Bool} (e : number_of p (reading w p) ≡ number_read v q x) where
       pub field_closed : (left : ℕ) → v ≡ 0 → field_head_lem w left p ≡ head.Closed q
       unfolding field_head_lem
       field_closed zero z = ap (last_head p) (lead_closed q h (subst (λ (k : ℕ). Got w p k q x) z (number_got v q e)))
@@ -177,10 +234,10 @@ module _ (w : Window) (p : ℕ) where
 
 -- a number of one byte
 pub one_byte : (bytes : List ℕ) (end p b : ℕ) → p + 8 ≤ end → b ≡ field (num bytes) p 8 → b % 2 ≡ 0
-    → number_of p (reading (up_to bytes end) p) ≡ number.Value (b / 2) (p + 8) false
+    → number_of p (reading (up_to bytes end) p) ≡ number_read (b / 2) (p + 8) false
 one_byte bytes end p b h eb e =
-    sym (number_is bytes end p (Whole (b / 2) 1) (packed_one (num bytes) end p b h eb e))
-    ∙ ap (number.Value (b / 2) (p + 8)) (P.one_byte (b / 2) 1 (omega arith))
+    sym (number_is bytes end p (K.whole (b / 2) 1) (packed_one (num bytes) end p b h eb e))
+    ∙ ap (number_read (b / 2) (p + 8)) (P.one_byte (b / 2) 1 (omega arith))
 
 module _ (bytes : List ℕ) (end p left two : ℕ) (room : p + 16 ≤ end) (is : two ≡ field (num bytes) p 16) where
   pub first_is : two % 256 ≡ field (num bytes) p 8
@@ -200,7 +257,7 @@ module _ (bytes : List ℕ) (end p left two : ℕ) (room : p + 16 ≤ end) (is :
       field_closed (up_to bytes end) p inside_window _ _ (one_byte bytes end p (two % 256) (omega arith) first_is e) left n
 
   module _ (some : two % 256 ≡ 0 → ⊥) (even : two % 256 % 2 ≡ 1 → ⊥) where
-    pub first_number : number_of p (reading (up_to bytes end) p) ≡ number.Value (two % 256 / 2) (p + 8) false
+    pub first_number : number_of p (reading (up_to bytes end) p) ≡ number_read (two % 256 / 2) (p + 8) false
     first_number = let e : two % 256 % 2 ≡ 0 = omega (arith, even) in one_byte bytes end p (two % 256) (omega arith) first_is e
 
     pub not_zero : two % 256 / 2 ≡ 0 → ⊥
@@ -214,11 +271,11 @@ module _ (bytes : List ℕ) (end p left two : ℕ) (room : p + 16 ≤ end) (is :
       two_wide = field_wide (up_to bytes end) p inside_window _ _ first_number left not_zero more
 
       module _ (short : two / 256 % 2 ≡ 1 → ⊥) where
-        pub second_number : number_of (p + 8) (reading (up_to bytes end) (p + 8)) ≡ number.Value (two / 256 / 2) (p + 16) false
+        pub second_number : number_of (p + 8) (reading (up_to bytes end) (p + 8)) ≡ number_read (two / 256 / 2) (p + 16) false
         second_number =
             let e : two / 256 % 2 ≡ 0 = omega (arith, short) in
             let q : p + 8 + 8 ≡ p + 16 = omega arith in
-            one_byte bytes end (p + 8) (two / 256) (omega arith) second_is e ∙ ap (λ (k : ℕ). number.Value (two / 256 / 2) k false) q
+            one_byte bytes end (p + 8) (two / 256) (omega arith) second_is e ∙ ap (λ (k : ℕ). number_read (two / 256 / 2) k false) q
 
         pub two_past : end < p + 16 + two / 256 / 2 → field_head_lem (up_to bytes end) left p ≡ head.Failed
         unfolding up_to

@@ -9,11 +9,12 @@ use Rattle.schema.specs.Labels.{dot}
 use Rattle.schema.proofs.LaidLaws.{label_length, label_short}
 use Rattle.framing.specs.Sinks.{leaf_of}
 use Rattle.framing.specs.Records.{leaf_words, leaf_numbers}
-use Rattle.steps.specs.Tally.{slots, slot, records_slot, paths_slot, payloads_slot, world_of, played, reserved}
+use Rattle.steps.specs.Tally.{world_of, played, reserved}
 use Rattle.steps.specs.Views.{inner}
 use Rattle.steps.specs.Paths.{tag_bytes, tag_length_lem, TagLies}
 use Rattle.steps.specs.Gives.{tagged_leaf}
 use Rattle.steps.specs.declared.Tag.{Tag}
+use Rattle.steps.specs.declared.tally.Tally.{Tally}
 use Rattle.steps.specs.declared.Tag.TheVariants as tag
 use Rattle.steps.proofs.TallyLaws.{leaf_counted}
 use Rattle.steps.proofs.PathLaws.{length_longer, take_put}
@@ -48,11 +49,11 @@ module _ (t : Tables) (handle : ℕ) (x : Tag) (path : List ℕ) (plen n : ℕ)
       let l = path_length_lem in
       ed ∙ ap (put d at) m ∙ sym (store_fits d at (take plen path ++ (46 ∷ tag_bytes t handle x)) (omega arith))
 
-  module _ (bytes : List ℕ) (base «from» end : ℕ) (tally tally' records paths payloads : List ℕ) (counted : length tally ≡ slots) where
+  module _ (bytes : List ℕ) (base «from» end : ℕ) (tally tally' : Tally) (records paths payloads : List ℕ) where
     pub leaf_put : (records' paths' payloads' : List ℕ) → tally' ≡ reserved tally leaf_words n (bytes_for (end - «from»))
-        → records' ≡ store records (slot tally records_slot) (leaf_numbers (slot tally paths_slot) n handle (end - «from») (slot tally payloads_slot) (base + «from»))
-        → paths' ≡ store paths (slot tally paths_slot) (dot (take plen path) (tag_bytes t handle x))
-        → payloads' ≡ store payloads (slot tally payloads_slot) (bytes_of (bytes_for (end - «from»)) (field (num bytes) «from» (end - «from»)))
+        → records' ≡ store records tally.records (leaf_numbers tally.paths n handle (end - «from») tally.payloads (base + «from»))
+        → paths' ≡ store paths tally.paths (dot (take plen path) (tag_bytes t handle x))
+        → payloads' ≡ store payloads tally.payloads (bytes_of (bytes_for (end - «from»)) (field (num bytes) «from» (end - «from»)))
         → world_of tally' records' paths' payloads' ≡ played (tagged_leaf t (take plen path) handle x (inner bytes base «from» end)) (world_of tally records paths payloads)
     unfolding tagged_leaf inner
     leaf_put records' paths' payloads' ec ew et el =
@@ -60,6 +61,6 @@ module _ (t : Tables) (handle : ℕ) (x : Tag) (path : List ℕ) (plen n : ℕ)
         let y = leaf_of (dot (take plen path) (tag_bytes t handle x)) handle (inner bytes base «from» end) in
         let s : bytes_for (end - «from») ≡ length (bytes_of (bytes_for (end - «from»)) (field (num bytes) «from» (end - «from»))) =
         sym (length_bytes_of (bytes_for (end - «from»)) (field (num bytes) «from» (end - «from»))) in
-        ap (λ (k : List ℕ). world_of k records' paths' payloads') ec
-        ∙ leaf_counted tally records paths payloads counted y n (bytes_for (end - «from»)) records' paths' payloads' (sym l) s
-        (ew ∙ ap (λ (k : ℕ). store records (slot tally records_slot) (leaf_numbers (slot tally paths_slot) k handle (end - «from») (slot tally payloads_slot) (base + «from»))) (sym l)) et el
+        ap (λ (k : Tally). world_of k records' paths' payloads') ec
+        ∙ leaf_counted tally records paths payloads y n (bytes_for (end - «from»)) records' paths' payloads' (sym l) s
+        (ew ∙ ap (λ (k : ℕ). store records tally.records (leaf_numbers tally.paths k handle (end - «from») tally.payloads (base + «from»))) (sym l)) et el

@@ -13,4 +13,5 @@ pub mod ExitLaws
 pub mod PathLaws
 pub mod LeafLaws
 pub mod StopLaws
+pub mod LentLaws
 pub mod KindLaws

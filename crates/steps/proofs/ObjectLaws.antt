@@ -8,8 +8,8 @@ use Rattle.framing.specs.Sinks.{guid_of, object_field_lem}
 use Rattle.outputs.specs.World.{World}
 use Rattle.steps.specs.Tally.{played, padding}
 use Rattle.steps.specs.Views.{inner, up_to}
-use Rattle.steps.specs.Heads.{number_of}
-use Rattle.steps.specs.declared.NumberRead.TheVariants as number
+use Rattle.steps.specs.Heads.{number_read, number_of}
+use Rattle.std.specs.Prelude.{None}
 use Rattle.steps.proofs.TallyLaws.{played_none, played_number}
 use Rattle.steps.proofs.HeadLaws.{number_got, number_failed}
 use Rattle.steps.proofs.ViewLaws.{reading_start}
@@ -43,11 +43,11 @@ module _ (bytes : List ℕ) (base b end index : ℕ) (W W' : World) (h : b ≤ e
       guided_by : (r : Reading) → reading (up_to bytes end) b ≡ r → object_field_lem index first (inner bytes base b end) ≡ guid_of index (inner bytes base b end) r
       guided_by r e = guided ∙ ap (guid_of index (inner bytes base b end)) (reading_start bytes base b end h ∙ e)
 
-      pub object_failed : number_of b (reading (up_to bytes end) b) ≡ number.Failed → W' ≡ played (error ∷ []) W
+      pub object_failed : number_of b (reading (up_to bytes end) b) ≡ None → W' ≡ played (error ∷ []) W
           → W' ≡ played (object_field_lem index first (inner bytes base b end)) W
       object_failed e d = gives first (error ∷ []) (guided_by failed (number_failed _ _ e)) d
 
-      module _ (v q : ℕ) {told : Bool} (e : number_of b (reading (up_to bytes end) b) ≡ number.Value v q told) (W₁ : World) where
+      module _ (v q : ℕ) {told : Bool} (e : number_of b (reading (up_to bytes end) b) ≡ number_read v q told) (W₁ : World) where
         -- the code has counted it by then, if it is padded
         counted : W₁ ≡ padding (once told) W → W₁ ≡ padding (padded_among (number_at (inner bytes base b end) 0 (number_got (up_to bytes end) b v q e).bytes v ∷ [])) W
         counted c =

@@ -10,8 +10,8 @@ use Rattle.bits.proofs.ChoiceLaws.{by_cases}
 use Rattle.framing.specs.Windows.{Window, Reading, got, failed, reading}
 use Rattle.framing.specs.Walk.{number_at, Lead, ends, fails, closes, opens, lead_of, lead, Due, cut, broken, closed, present, with_width, field_of, field_at}
 use Rattle.steps.specs.Views.{inner, up_to}
-use Rattle.steps.specs.Heads.{number_of, pad_of, number_pads, index_pads, element_pads, handle_pads, field_pads}
-use Rattle.steps.specs.declared.NumberRead.TheVariants as number
+use Rattle.steps.specs.Heads.{number_read, number_of, pad_of, number_pads, index_pads, element_pads, handle_pads, field_pads}
+use Rattle.std.specs.Prelude.{None}
 use Rattle.steps.proofs.HeadLaws as H
 use Rattle.steps.proofs.HeadLaws.{Got, number_got, number_failed}
 use Rattle.steps.proofs.ViewLaws.{reading_inner}
@@ -20,11 +20,11 @@ use Rattle.steps.proofs.ShiftLaws.{past}
 -- ---- by the number that the code got
 
 module _ (w : Window) (p : ℕ) where
-  pub none_there : number_of p (reading w p) ≡ number.Failed → number_pads w p ≡ 0
+  pub none_there : number_of p (reading w p) ≡ None → number_pads w p ≡ 0
   unfolding number_pads
   none_there e = ap pad_of (number_failed w p e)
 
-  pub one_there : (v q : ℕ) {x : Bool} → number_of p (reading w p) ≡ number.Value v q x → number_pads w p ≡ once x
+  pub one_there : (v q : ℕ) {x : Bool} → number_of p (reading w p) ≡ number_read v q x → number_pads w p ≡ once x
   unfolding number_pads
   one_there v q e = let g = number_got w p v q e in ap pad_of g.is ∙ ap once g.told
 
@@ -46,13 +46,13 @@ module _ (w : Window) (p : ℕ) where
       unfolding field_pads
       field_by r e = simp (lt-leb _ _ h) (ap (handle_pads w left p) e)
 
-      pub element_fails : number_of p (reading w p) ≡ number.Failed → element_pads w left p ≡ 0
+      pub element_fails : number_of p (reading w p) ≡ None → element_pads w left p ≡ 0
       element_fails e = element_by failed (number_failed w p e)
 
-      pub field_fails : number_of p (reading w p) ≡ number.Failed → field_pads w left p ≡ 0
+      pub field_fails : number_of p (reading w p) ≡ None → field_pads w left p ≡ 0
       field_fails e = field_by failed (number_failed w p e)
 
-      module _ (v q : ℕ) {x : Bool} (e : number_of p (reading w p) ≡ number.Value v q x) where
+      module _ (v q : ℕ) {x : Bool} (e : number_of p (reading w p) ≡ number_read v q x) where
         -- the number, its bytes, and whether they are padded
         here : Got w p v q x
         here = number_got w p v q e

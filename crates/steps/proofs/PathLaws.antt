@@ -10,7 +10,8 @@ use Rattle.schema.specs.declared.Label.{Label}
 use Rattle.schema.specs.declared.Label.TheVariants.{Declared, Named, Plain}
 use Rattle.schema.proofs.LaidLaws.{label_bytes_lem, label_length}
 use Rattle.framing.specs.Events.{element}
-use Rattle.steps.specs.Tally.{slots, elements_slot, world_of, played, bumped}
+use Rattle.steps.specs.Tally.{world_of, played, added}
+use Rattle.steps.specs.declared.tally.Tally.{Tally}
 use Rattle.steps.specs.Paths.{tag_bytes, Grew, Entered}
 use Rattle.steps.specs.declared.Tag.{Tag}
 use Rattle.framing.specs.declared.Walk.{Walk}
@@ -122,16 +123,19 @@ grew_by path path' run most n r h e l q =
 
 -- ---- entering an element
 
-module _ (s : Walk) (i : ℕ) (tally tally' path : List ℕ) (n : ℕ) (sized : length tally ≡ slots) (counts : tally' ≡ bumped tally elements_slot 1) where
-  counted : (at records paths payloads : List ℕ) → world_of tally' records paths payloads ≡ played (element at ∷ []) (world_of tally records paths payloads)
-  counted at records paths payloads = ap (λ (x : List ℕ). world_of x records paths payloads) counts ∙ count_element records paths payloads tally at sized
+module _ (s : Walk) (i : ℕ) (t : Tally) (path : List ℕ) (n k : ℕ) (counts : k ≡ added t.elements 1) where
+  abbrev one_more : Tally
+  one_more = record t { elements = k }
+
+  counted : (at records paths payloads : List ℕ) → world_of one_more records paths payloads ≡ played (element at ∷ []) (world_of t records paths payloads)
+  counted at records paths payloads = count_element t records paths payloads k at counts
 
   -- the object walk has no paths
-  pub entered_object : gives_leaves_lem s ≡ false → Entered s i tally tally' n n path path
+  pub entered_object : gives_leaves_lem s ≡ false → Entered s i t one_more n n path path
   entered_object e = record { counts = counted; grew = rw e (record { is = refl; more = omega arith; within = omega arith; kept = refl }) }
 
   pub entered_leafy : (path' : List ℕ) (r : ℕ) → gives_leaves_lem s ≡ true → Grew (at_index (take n path) i) longest_index n r path path'
-      → Entered s i tally tally' n r path path'
+      → Entered s i t one_more n r path path'
   entered_leafy path' r e g = record { counts = counted; grew = rw e g }
 
 -- how long `[index]` is: the digits and two brackets, and of an element's index there are at most four

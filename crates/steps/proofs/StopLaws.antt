@@ -1,5 +1,5 @@
 -- What the ways out of an element's fields and of a level give.
-use Rattle.std.proofs.Common.{◌≡◌, ℕ, ◌+◌, ◌-◌, ◌≤◌, Bool, true, false, ltb, List, [], ◌∷◌, length, sym, ap, ◌∙◌, add-zero, arith, le-ltb, lt-ltb}
+use Rattle.std.proofs.Common.{◌≡◌, ℕ, ◌+◌, ◌-◌, ◌≤◌, Bool, true, false, ltb, List, [], ◌∷◌, sym, ap, ◌∙◌, add-zero, arith, le-ltb, lt-ltb}
 use types.Run.{OneOf}
 use denote.Enum.Declared.{tag_of}
 use Rattle.bits.specs.Bits.{num, field}
@@ -11,12 +11,13 @@ use Rattle.framing.specs.Walk as W
 use Rattle.framing.specs.Walk.{tail, closing, raw_leaf}
 use Rattle.framing.specs.Sinks.{leaf_of, gives_leaves_lem}
 use Rattle.outputs.specs.World.{World}
-use Rattle.steps.specs.Tally.{slots, truncations_slot, errors_slot, implicit_slot, world_of, played, bumped}
+use Rattle.steps.specs.Tally.{world_of, played, added}
 use Rattle.steps.specs.Views.{inner, exit_sink}
 use Rattle.steps.specs.Gives.{tagged_leaf, fields_stop, level_stop}
 use Rattle.steps.specs.declared.Tag.TheVariants as tag
 use Rattle.framing.specs.declared.Walk.{Walk}
 use Rattle.steps.specs.declared.Head.{Head}
+use Rattle.steps.specs.declared.tally.Tally.{Tally}
 use Rattle.steps.specs.declared.Head.TheVariants as head
 use Rattle.steps.specs.contracts.Head.{the_type}
 use Rattle.steps.proofs.CaseLaws.{not_closed, fields_stop_lem}
@@ -57,28 +58,29 @@ module _ (s : Walk) (inside : Bool) (bytes : List ℕ) (base at end : ℕ) (path
 
 -- ---- an element's fields that don't close
 
-module _ (s : W.Sink) (bytes : List ℕ) (base end : ℕ) (path : List ℕ) (h : Head) (tally tally₁ records paths payloads : List ℕ) where
+module _ (s : W.Sink) (bytes : List ℕ) (base end : ℕ) (path : List ℕ) (h : Head) (t : Tally) (records paths payloads : List ℕ) where
   fields_by : (h' : Head) (w w' : World) → h ≡ h' → w' ≡ played (fields_stop s bytes base end path h') w → w' ≡ played (fields_stop s bytes base end path h) w
   fields_by h' w w' e q = q ∙ ap (λ (x : Head). played (fields_stop s bytes base end path x) w) (sym e)
 
-  pub fields_ended : h ≡ head.Ended → length tally ≡ slots → tally₁ ≡ bumped tally implicit_slot 1 → world_of tally₁ records paths payloads ≡ played (fields_stop s bytes base end path h) (world_of tally records paths payloads)
+  pub fields_ended : (k : ℕ) → h ≡ head.Ended → k ≡ added t.implicit 1
+      → world_of (record t { implicit = k }) records paths payloads ≡ played (fields_stop s bytes base end path h) (world_of t records paths payloads)
   unfolding fields_stop
-  fields_ended e sized q =
-      fields_by head.Ended (world_of tally records paths payloads) (world_of tally₁ records paths payloads) e (ap (λ (x : List ℕ). world_of x records paths payloads) q ∙ count_implicit records paths payloads tally sized)
+  fields_ended k e q = fields_by head.Ended (world_of t records paths payloads) _ e (count_implicit t records paths payloads k q)
 
-  pub fields_failed : h ≡ head.Failed → length tally ≡ slots → tally₁ ≡ bumped tally errors_slot 1 → world_of tally₁ records paths payloads ≡ played (fields_stop s bytes base end path h) (world_of tally records paths payloads)
+  pub fields_failed : (k : ℕ) → h ≡ head.Failed → k ≡ added t.errors 1
+      → world_of (record t { errors = k }) records paths payloads ≡ played (fields_stop s bytes base end path h) (world_of t records paths payloads)
   unfolding fields_stop
-  fields_failed e sized q =
-      fields_by head.Failed (world_of tally records paths payloads) (world_of tally₁ records paths payloads) e (ap (λ (x : List ℕ). world_of x records paths payloads) q ∙ count_error records paths payloads tally sized)
+  fields_failed k e q = fields_by head.Failed (world_of t records paths payloads) _ e (count_error t records paths payloads k q)
 
-  pub fields_limit : (n : ℕ) (w' : World) → h ≡ head.Limit n → length tally ≡ slots → tally₁ ≡ bumped tally truncations_slot 1
-      → w' ≡ played (tail s (inner bytes base n end) path 0) (world_of tally₁ records paths payloads) → w' ≡ played (fields_stop s bytes base end path h) (world_of tally records paths payloads)
+  pub fields_limit : (n k : ℕ) (w' : World) → h ≡ head.Limit n → k ≡ added t.truncations 1
+      → w' ≡ played (tail s (inner bytes base n end) path 0) (world_of (record t { truncations = k }) records paths payloads)
+      → w' ≡ played (fields_stop s bytes base end path h) (world_of t records paths payloads)
   unfolding fields_stop
-  fields_limit n w' e sized q r =
-      fields_by (head.Limit n) (world_of tally records paths payloads) w' e
+  fields_limit n k w' e q r =
+      fields_by (head.Limit n) (world_of t records paths payloads) w' e
       (r
-      ∙ ap (played (tail s (inner bytes base n end) path 0)) (ap (λ (x : List ℕ). world_of x records paths payloads) q ∙ count_truncation records paths payloads tally sized)
-      ∙ played_then truncation (tail s (inner bytes base n end) path 0) (world_of tally records paths payloads))
+      ∙ ap (played (tail s (inner bytes base n end) path 0)) (count_truncation t records paths payloads k q)
+      ∙ played_then truncation (tail s (inner bytes base n end) path 0) (world_of t records paths payloads))
 
 module _ (s : W.Sink) (bytes : List ℕ) (base end : ℕ) (path : List ℕ) (h : Head) (w : World) where
   -- the heads that give nothing here

@@ -1,7 +1,5 @@
--- The tally: adding to one of its numbers changes that number and no other, so each count is the event that the slot stands for.
-use Rattle.std.specs.Prelude.{if◌then◌else◌}
-use Rattle.std.proofs.Common.{◌≡◌, ℕ, zero, suc, ◌+◌, ◌%◌, ◌^◌, ◌<◌, Bool, true, false, eqb, List, [], ◌∷◌, ◌++◌, length, set, sym, refl, ap, ◌∙◌, zero-add, arith, length-set, get_or-set_other, get_or-set_same, eqb-true}
-use borrow.Author.Tests.{eqb-false}
+-- The tally: each count of one of its numbers is the event that the number stands for.
+use Rattle.std.proofs.Common.{◌≡◌, ℕ, zero, suc, ◌+◌, ◌%◌, ◌^◌, List, [], ◌∷◌, ◌++◌, length, sym, refl, ap, ◌∙◌, zero-add, arith}
 use Rattle.bits.specs.Runs.{store}
 use Rattle.bits.specs.Packed.{Number}
 use Rattle.bits.specs.Padded.{is_padded, padded_among}
@@ -10,85 +8,39 @@ use Rattle.bits.proofs.PaddedLaws.{among_append}
 use Rattle.framing.specs.Events.{Leaf, Entered, Pair, numbers, Event, number, element, array, leaf, pair, truncation, error, implicit, nested, root, Trace}
 use Rattle.framing.specs.Records.{leaf_words, leaf_record, pair_words, pair_record, payload_of}
 use Rattle.outputs.specs.World.{World, counting, apply}
-use Rattle.steps.specs.Tally.{slots, slot, elements_slot, fields_slot, truncations_slot, errors_slot, nested_slot, root_slot, implicit_slot, records_slot, paths_slot, payloads_slot, padded_slot, world_by, world_of, played, padding, Pads, bumped, reserved}
-
--- ---- the code's sums
-
-pub bump_is : (tally : List ℕ) (place n r : ℕ) → r ≡ (slot tally place + n) % 2 ^ 32 → set tally place r ≡ bumped tally place n
-unfolding bumped
-bump_is tally place n r e = ap (set tally place) e
-
-pub reserve_is : (tally tally₁ tally₂ tally₃ tally₄ : List ℕ) (records paths payloads : ℕ) → tally₁ ≡ bumped tally fields_slot 1 → tally₂ ≡ bumped tally₁ records_slot records
-    → tally₃ ≡ bumped tally₂ paths_slot paths → tally₄ ≡ bumped tally₃ payloads_slot payloads → tally₄ ≡ reserved tally records paths payloads
-unfolding reserved
-reserve_is tally tally₁ tally₂ tally₃ tally₄ records paths payloads e1 e2 e3 e4 =
-    e4
-    ∙ ap (λ (l : List ℕ). bumped l payloads_slot payloads)
-    (e3 ∙ ap (λ (l : List ℕ). bumped l paths_slot paths) (e2 ∙ ap (λ (l : List ℕ). bumped l records_slot records) e1))
-
--- ---- one slot
-
--- n more at one place
-abbrev more : (at : ℕ → ℕ) (place n : ℕ) → ℕ → ℕ
-more at place n k = if eqb k place then (at place + n) % 2 ^ 32 else at k
-
-bumped_at : (tally : List ℕ) (place n : ℕ) → place < length tally → (k : ℕ) → slot (bumped tally place n) k ≡ more (slot tally) place n k
-unfolding bumped
-bumped_at tally place n h k = go (eqb k place) refl
-  where
-    go : (b : Bool) → eqb k place ≡ b → slot (bumped tally place n) k ≡ more (slot tally) place n k
-    go true e =
-        let same = eqb-true k place e in
-        rw e (ap (slot (set tally place ((slot tally place + n) % 2 ^ 32))) same ∙ get_or-set_same tally place ((slot tally place + n) % 2 ^ 32) 0 h)
-    go false e = rw e (get_or-set_other tally place k ((slot tally place + n) % 2 ^ 32) 0 (eqb-false k place e))
-
-bumped_slots : (tally : List ℕ) (place n : ℕ) → place < length tally → slot (bumped tally place n) ≡ more (slot tally) place n
-bumped_slots tally place n h = λ i k. bumped_at tally place n h k i
-
-bumped_length : (tally : List ℕ) (place n : ℕ) → length (bumped tally place n) ≡ length tally
-unfolding bumped
-bumped_length tally place n = length-set tally place ((slot tally place + n) % 2 ^ 32)
+use Rattle.steps.specs.Tally.{world_of, played, padding, Pads, added, reserved}
+use Rattle.steps.specs.declared.tally.Tally.{Tally}
 
 -- ---- one event counted
 
-module _ (records paths payloads : List ℕ) where
-  at_slot : (tally : List ℕ) (place n : ℕ) → place < length tally → world_of (bumped tally place n) records paths payloads ≡ world_by (more (slot tally) place n) records paths payloads
-  unfolding world_of
-  at_slot tally place n h = ap (λ (at : ℕ → ℕ). world_by at records paths payloads) (bumped_slots tally place n h)
+module _ (t : Tally) (records paths payloads : List ℕ) (n : ℕ) where
+  pub count_element : (at : List ℕ) → n ≡ added t.elements 1 → world_of (record t { elements = n }) records paths payloads ≡ played (element at ∷ []) (world_of t records paths payloads)
+  unfolding world_of played apply
+  count_element at e = ap (λ (k : ℕ). world_of (record t { elements = k }) records paths payloads) e
 
-  pub count_element : (tally at : List ℕ) → length tally ≡ slots → world_of (bumped tally elements_slot 1) records paths payloads ≡ played (element at ∷ []) (world_of tally records paths payloads)
-  unfolding world_of world_by played apply
-  count_element tally at sized = at_slot tally elements_slot 1 (omega arith)
+  pub count_truncation : n ≡ added t.truncations 1 → world_of (record t { truncations = n }) records paths payloads ≡ played (truncation ∷ []) (world_of t records paths payloads)
+  unfolding world_of played apply
+  count_truncation e = ap (λ (k : ℕ). world_of (record t { truncations = k }) records paths payloads) e
 
-  pub count_truncation : (tally : List ℕ) → length tally ≡ slots → world_of (bumped tally truncations_slot 1) records paths payloads ≡ played (truncation ∷ []) (world_of tally records paths payloads)
-  unfolding world_of world_by played apply
-  count_truncation tally sized = at_slot tally truncations_slot 1 (omega arith)
+  pub count_error : n ≡ added t.errors 1 → world_of (record t { errors = n }) records paths payloads ≡ played (error ∷ []) (world_of t records paths payloads)
+  unfolding world_of played apply
+  count_error e = ap (λ (k : ℕ). world_of (record t { errors = k }) records paths payloads) e
 
-  pub count_error : (tally : List ℕ) → length tally ≡ slots → world_of (bumped tally errors_slot 1) records paths payloads ≡ played (error ∷ []) (world_of tally records paths payloads)
-  unfolding world_of world_by played apply
-  count_error tally sized = at_slot tally errors_slot 1 (omega arith)
+  pub count_nested : (bits : ℕ) → n ≡ added t.nested bits → world_of (record t { nested = n }) records paths payloads ≡ played (nested bits ∷ []) (world_of t records paths payloads)
+  unfolding world_of played apply
+  count_nested bits e = ap (λ (k : ℕ). world_of (record t { nested = k }) records paths payloads) e
 
-  pub count_nested : (tally : List ℕ) (n : ℕ) → length tally ≡ slots → world_of (bumped tally nested_slot n) records paths payloads ≡ played (nested n ∷ []) (world_of tally records paths payloads)
-  unfolding world_of world_by played apply
-  count_nested tally n sized = at_slot tally nested_slot n (omega arith)
+  pub count_root : (bits : ℕ) → n ≡ added t.root bits → world_of (record t { root = n }) records paths payloads ≡ played (root bits ∷ []) (world_of t records paths payloads)
+  unfolding world_of played apply
+  count_root bits e = ap (λ (k : ℕ). world_of (record t { root = k }) records paths payloads) e
 
-  pub count_root : (tally : List ℕ) (n : ℕ) → length tally ≡ slots → world_of (bumped tally root_slot n) records paths payloads ≡ played (root n ∷ []) (world_of tally records paths payloads)
-  unfolding world_of world_by played apply
-  count_root tally n sized = at_slot tally root_slot n (omega arith)
+  pub count_implicit : n ≡ added t.implicit 1 → world_of (record t { implicit = n }) records paths payloads ≡ played (implicit ∷ []) (world_of t records paths payloads)
+  unfolding world_of played apply
+  count_implicit e = ap (λ (k : ℕ). world_of (record t { implicit = k }) records paths payloads) e
 
-  count_padded_lem : (tally : List ℕ) → length tally ≡ slots → world_of (bumped tally padded_slot 1) records paths payloads ≡ padding 1 (world_of tally records paths payloads)
-  unfolding world_of world_by padding
-  count_padded_lem tally sized = at_slot tally padded_slot 1 (omega arith)
-
-  pub count_implicit : (tally : List ℕ) → length tally ≡ slots → world_of (bumped tally implicit_slot 1) records paths payloads ≡ played (implicit ∷ []) (world_of tally records paths payloads)
-  unfolding world_of world_by played apply
-  count_implicit tally sized = at_slot tally implicit_slot 1 (omega arith)
-
--- the code's count of it: what `count` ensures, and one of the laws above
-pub by_count : (tally tally' records paths payloads : List ℕ) (place n : ℕ) (e : Event) → (tally' ≡ bumped tally place n) × (length tally ≡ slots)
-    → (length tally ≡ slots → world_of (bumped tally place n) records paths payloads ≡ played (e ∷ []) (world_of tally records paths payloads))
-    → world_of tally' records paths payloads ≡ played (e ∷ []) (world_of tally records paths payloads)
-by_count tally tally' records paths payloads place n e did law = ap (λ (l : List ℕ). world_of l records paths payloads) did.0 ∙ law did.1
+  count_padded_lem : n ≡ added t.padded 1 → world_of (record t { padded = n }) records paths payloads ≡ padding 1 (world_of t records paths payloads)
+  unfolding world_of padding
+  count_padded_lem e = ap (λ (k : ℕ). world_of (record t { padded = k }) records paths payloads) e
 
 -- ---- traces
 
@@ -101,24 +53,22 @@ padding_more (suc m) n w =
     ap (λ (k : ℕ). padding k w) e ∙ padding_more m n (counting w.counters ((w.padded + 1) % 2 ^ 32) w)
 
 -- what the code counted of padded numbers: none, as many as the definition's, some and then more
-pub pads_none : (n : ℕ) (tally : List ℕ) → n ≡ 0 → Pads n tally tally
+pub pads_none : (n : ℕ) (tally : Tally) → n ≡ 0 → Pads n tally tally
 unfolding padding
 pads_none n tally e records paths payloads = ap (λ (k : ℕ). padding k (world_of tally records paths payloads)) (sym e)
 
-pub pads_as : (m n : ℕ) (tally tally' : List ℕ) → m ≡ n → Pads n tally tally' → Pads m tally tally'
+pub pads_as : (m n : ℕ) (tally tally' : Tally) → m ≡ n → Pads n tally tally' → Pads m tally tally'
 pads_as m n tally tally' e did records paths payloads = did records paths payloads ∙ ap (λ (k : ℕ). padding k (world_of tally records paths payloads)) (sym e)
 
-pub pads_then : (l m n : ℕ) (tally tally₁ tally₂ : List ℕ) → l ≡ m + n → Pads m tally tally₁ → Pads n tally₁ tally₂ → Pads l tally tally₂
+pub pads_then : (l m n : ℕ) (tally tally₁ tally₂ : Tally) → l ≡ m + n → Pads m tally tally₁ → Pads n tally₁ tally₂ → Pads l tally tally₂
 pads_then l m n tally tally₁ tally₂ e did then-did records paths payloads =
     then-did records paths payloads
     ∙ ap (padding n) (did records paths payloads)
     ∙ sym (ap (λ (k : ℕ). padding k (world_of tally records paths payloads)) e ∙ padding_more m n (world_of tally records paths payloads))
 
-pub pads_one : (n : ℕ) (tally tally' : List ℕ) → n ≡ 1 → (tally' ≡ bumped tally padded_slot 1) × (length tally ≡ slots) → Pads n tally tally'
-pads_one n tally tally' e did records paths payloads =
-    ap (λ (l : List ℕ). world_of l records paths payloads) did.0
-    ∙ count_padded_lem records paths payloads tally did.1
-    ∙ ap (λ (k : ℕ). padding k (world_of tally records paths payloads)) (sym e)
+pub pads_one : (n : ℕ) (t : Tally) (padded : ℕ) → n ≡ 1 → padded ≡ added t.padded 1 → Pads n t (record t { padded = padded })
+pads_one n t padded e did records paths payloads =
+    count_padded_lem t records paths payloads padded did ∙ ap (λ (k : ℕ). padding k (world_of t records paths payloads)) (sym e)
 
 -- no event; one event and then others; a number, of which the code records whether it is padded; an array entered, which it does not record
 pub played_none : (w : World) → w ≡ played [] w
@@ -148,56 +98,21 @@ played_array a t w = refl
 
 -- ---- a leaf or a pair, written and counted
 
-module _ (tally records paths payloads : List ℕ) (sized : length tally ≡ slots) where
-  -- a leaf's four numbers, of whichever tally
-  reserved_slots : (n p y : ℕ)
-      → slot (reserved tally n p y) ≡ more (more (more (more (slot tally) fields_slot 1) records_slot n) paths_slot p) payloads_slot y
-  unfolding reserved
-  reserved_slots n p y =
-      let tally₁ = bumped tally fields_slot 1 in
-      let tally₂ = bumped tally₁ records_slot n in
-      let tally₃ = bumped tally₂ paths_slot p in
-      let n1 = bumped_length tally fields_slot 1 in
-      let n2 = bumped_length tally₁ records_slot n in
-      let n3 = bumped_length tally₂ paths_slot p in
-      bumped_slots tally₃ payloads_slot y (omega arith)
-      ∙ ap (λ (at : ℕ → ℕ). more at payloads_slot y)
-      (bumped_slots tally₂ paths_slot p (omega arith)
-      ∙ ap (λ (at : ℕ → ℕ). more at paths_slot p)
-      (bumped_slots tally₁ records_slot n (omega arith) ∙ ap (λ (at : ℕ → ℕ). more at records_slot n) (bumped_slots tally fields_slot 1 (omega arith))))
-
+module _ (t : Tally) (records paths payloads : List ℕ) where
   leaf_here : (x : Leaf)
-      → world_of (reserved tally leaf_words (length x.path) (length (payload_of x)))
-      (store records (slot tally records_slot) (leaf_record (slot tally paths_slot) (slot tally payloads_slot) x))
-      (store paths (slot tally paths_slot) x.path) (store payloads (slot tally payloads_slot) (payload_of x))
-      ≡ played (leaf x ∷ []) (world_of tally records paths payloads)
-  unfolding world_of world_by played apply
-  leaf_here x =
-      ap
-      (λ (at : ℕ → ℕ). world_by at (store records (slot tally records_slot) (leaf_record (slot tally paths_slot) (slot tally payloads_slot) x))
-      (store paths (slot tally paths_slot) x.path) (store payloads (slot tally payloads_slot) (payload_of x)))
-      (reserved_slots leaf_words (length x.path) (length (payload_of x)))
+      → world_of (reserved t leaf_words (length x.path) (length (payload_of x)))
+      (store records t.records (leaf_record t.paths t.payloads x)) (store paths t.paths x.path) (store payloads t.payloads (payload_of x))
+      ≡ played (leaf x ∷ []) (world_of t records paths payloads)
+  unfolding world_of reserved played apply
+  leaf_here x = refl
 
   pub leaf_counted : (x : Leaf) (n size : ℕ) (records' paths' payloads' : List ℕ) → n ≡ length x.path → size ≡ length (payload_of x)
-      → records' ≡ store records (slot tally records_slot) (leaf_record (slot tally paths_slot) (slot tally payloads_slot) x)
-      → paths' ≡ store paths (slot tally paths_slot) x.path
-      → payloads' ≡ store payloads (slot tally payloads_slot) (payload_of x)
-      → world_of (reserved tally leaf_words n size) records' paths' payloads' ≡ played (leaf x ∷ []) (world_of tally records paths payloads)
+      → records' ≡ store records t.records (leaf_record t.paths t.payloads x) → paths' ≡ store paths t.paths x.path → payloads' ≡ store payloads t.payloads (payload_of x)
+      → world_of (reserved t leaf_words n size) records' paths' payloads' ≡ played (leaf x ∷ []) (world_of t records paths payloads)
   leaf_counted x n size records' paths' payloads' en es er ep ey =
-      (λ i. world_of (reserved tally leaf_words (en i) (es i)) (er i) (ep i) (ey i)) ∙ leaf_here x
+      (λ i. world_of (reserved t leaf_words (en i) (es i)) (er i) (ep i) (ey i)) ∙ leaf_here x
 
-  pair_here : (x : Pair)
-      → world_of (bumped (bumped tally fields_slot 1) records_slot pair_words) (store records (slot tally records_slot) (pair_record x)) paths payloads
-      ≡ played (pair x ∷ []) (world_of tally records paths payloads)
-  unfolding world_of world_by played apply
-  pair_here x =
-      let tally₁ = bumped tally fields_slot 1 in
-      let n1 = bumped_length tally fields_slot 1 in
-      ap (λ (at : ℕ → ℕ). world_by at (store records (slot tally records_slot) (pair_record x)) paths payloads)
-      (bumped_slots tally₁ records_slot pair_words (omega arith)
-      ∙ ap (λ (at : ℕ → ℕ). more at records_slot pair_words) (bumped_slots tally fields_slot 1 (omega arith)))
-
-  pub pair_counted : (x : Pair) (tally₁ tally₂ records' : List ℕ) → records' ≡ store records (slot tally records_slot) (pair_record x) → tally₁ ≡ bumped tally fields_slot 1
-      → tally₂ ≡ bumped tally₁ records_slot pair_words → world_of tally₂ records' paths payloads ≡ played (pair x ∷ []) (world_of tally records paths payloads)
-  pair_counted x tally₁ tally₂ records' er e1 e2 =
-      (λ i. world_of ((e2 ∙ ap (λ (l : List ℕ). bumped l records_slot pair_words) e1) i) (er i) paths payloads) ∙ pair_here x
+  pub pair_counted : (x : Pair) (f n : ℕ) (records' : List ℕ) → records' ≡ store records t.records (pair_record x) → f ≡ added t.fields 1 → n ≡ added t.records pair_words
+      → world_of (record t { fields = f; records = n }) records' paths payloads ≡ played (pair x ∷ []) (world_of t records paths payloads)
+  unfolding world_of played apply
+  pair_counted x f n records' er ef en = λ i. world_of (record t { fields = ef i; records = en i }) (er i) paths payloads

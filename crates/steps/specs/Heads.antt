@@ -1,23 +1,26 @@
 -- What stands at a position of a window, as the code says it.
-use Rattle.std.specs.Prelude.{ℕ, zero, suc, ◌+◌, ◌*◌, leb, ◌==◌, nat_eq, nat_le, nat_lt, if◌then◌else◌}
+use Rattle.std.specs.Prelude.{ℕ, zero, suc, ◌+◌, ◌*◌, leb, ◌==◌, nat_eq, nat_le, nat_lt, Bool, if◌then◌else◌, Option, Some, None}
 use Rattle.bits.specs.Sizes.{max_elements}
 use Rattle.bits.specs.Padded.{padded, once}
 use Rattle.framing.specs.Windows.{Window, Reading, got, failed, reading}
 use Rattle.framing.specs.Walk.{Lead, ends, fails, closes, opens, lead, Due, cut, broken, closed, present, field_at}
 use Rattle.steps.specs.declared.NumberRead.{NumberRead}
-use Rattle.steps.specs.declared.NumberRead.TheVariants as number
 use Rattle.steps.specs.declared.Head.{Head}
 use Rattle.steps.specs.declared.Head.TheVariants as head
 
+-- a number that was read: its value, the bit behind it, and whether it is padded
+abbrev pub number_read : (v q : ℕ) (padded : Bool) → Option NumberRead
+number_read v q x = Some (record { value = v; next = q; padded = x })
+
 -- the number read at bit p
-abbrev pub number_of : (p : ℕ) → Reading → NumberRead
-number_of p failed = number.Failed
-number_of p (got v n) = number.Value v (p + 8 * n) (padded v n)
+abbrev pub number_of : (p : ℕ) → Reading → Option NumberRead
+number_of p failed = None
+number_of p (got v n) = number_read v (p + 8 * n) (padded v n)
 
 -- a level's count
-abbrev pub count_head : NumberRead → Head
-count_head number.Failed = head.Failed
-count_head (number.Value v q x) = if nat_lt max_elements v then head.Limit q else head.Go v q q
+abbrev pub count_head : Option NumberRead → Head
+count_head None = head.Failed
+count_head (Some count) = if nat_lt max_elements count.value then head.Limit count.next else head.Go count.value count.next count.next
 
 unfoldable pub level_head_lem : Window → (p : ℕ) → Head
 level_head_lem w p = count_head (number_of p (reading w p))
@@ -50,9 +53,10 @@ field_head_lem w zero p = last_head p (lead w p)
 field_head_lem w (suc left) p = due_head (field_at w p)
 
 -- a field whose handle is known, its width's number due at bit p
-abbrev pub sized_head : Window → (handle : ℕ) → NumberRead → Head
-sized_head w h number.Failed = head.Failed
-sized_head w h (number.Value width q x) = if nat_lt w.size (q + width) then head.Failed else head.Go h q (q + width)
+abbrev pub sized_head : Window → (handle : ℕ) → Option NumberRead → Head
+sized_head w h None = head.Failed
+sized_head w h (Some width) =
+    if nat_lt w.size (width.next + width.value) then head.Failed else head.Go h width.next (width.next + width.value)
 
 unfoldable pub width_head_lem : Window → (handle p : ℕ) → Head
 width_head_lem w h p = sized_head w h (number_of p (reading w p))

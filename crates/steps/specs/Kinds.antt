@@ -1,17 +1,15 @@
 -- What a field is (01, Walking an array, rules 6 and 8).
-use Rattle.std.specs.Prelude.{ℕ, ◌==◌, nat_eq, if◌then◌else◌}
+use Rattle.std.specs.Prelude.{ℕ, Option, Some, None, ◌==◌, nat_eq, if◌then◌else◌}
 use Rattle.schema.specs.Tables.{Tables, child}
 use Rattle.schema.specs.Labels.{container_label_lem, leaf_label, LabelLies}
-use Rattle.schema.specs.declared.Child.{Child}
-use Rattle.schema.specs.declared.Child.TheVariants as child
 use Rattle.framing.specs.declared.Walk.{Walk}
 use Rattle.framing.specs.Sinks.{gives_leaves_lem}
 use Rattle.steps.specs.declared.Kind.{Kind}
 use Rattle.steps.specs.declared.Kind.TheVariants as kind
 
-abbrev pub kind_by : Tables → (below level handle width : ℕ) → Child → Kind
-kind_by t below level handle width child.Leaf = kind.Leaf (leaf_label t level handle)
-kind_by t below level handle width (child.Array lower) =
+abbrev pub kind_by : Tables → (below level handle width : ℕ) → Option ℕ → Kind
+kind_by t below level handle width None = kind.Leaf (leaf_label t level handle)
+kind_by t below level handle width (Some lower) =
     if width == 0 then kind.Nothing else
     (if nat_eq below 0 then kind.Deep (container_label_lem t level handle) else kind.Array lower (container_label_lem t level handle))
 

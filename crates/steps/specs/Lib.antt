@@ -5,3 +5,4 @@ pub mod Heads
 pub mod Paths
 pub mod Kinds
 pub mod Gives
+pub mod Lent

@@ -7,6 +7,7 @@ use Rattle.framing.specs.Events.{element}
 use Rattle.steps.specs.Tally.{world_of, played}
 use Rattle.framing.specs.Sinks.{gives_leaves_lem}
 use Rattle.steps.specs.declared.Tag.{Tag}
+use Rattle.steps.specs.declared.tally.Tally.{Tally}
 use Rattle.steps.specs.declared.Tag.TheVariants as tag
 use Rattle.framing.specs.declared.Walk.{Walk}
 
@@ -47,6 +48,6 @@ pub record Grew (new : List ℕ) (most plen r : ℕ) (path path' : List ℕ) : T
 
 -- an element was entered: it was counted, whatever path its event carries, since the world keeps none; and in a walk with paths the path grew by
 -- its index
-pub record Entered (s : Walk) (i : ℕ) (tally tally' : List ℕ) (plen r : ℕ) (path path' : List ℕ) : Type 0 where
+pub record Entered (s : Walk) (i : ℕ) (tally tally' : Tally) (plen r : ℕ) (path path' : List ℕ) : Type 0 where
   pub counts : (place records paths payloads : List ℕ) → world_of tally' records paths payloads ≡ played (element place ∷ []) (world_of tally records paths payloads)
   pub grew : Grew (item_path s (take plen path) i) longest_index plen r path path'

@@ -3,7 +3,8 @@ use Rattle.std.specs.Prelude.{◌≡◌, ℕ, ◌+◌, ◌*◌, ◌≤◌, List,
 use Rattle.bits.specs.Sizes.{longest_window}
 use Rattle.framing.specs.Events.{Trace}
 use Rattle.outputs.specs.World.{World}
-use Rattle.steps.specs.Tally.{played}
+use Rattle.steps.specs.Tally.{world_of, played}
+use Rattle.steps.specs.declared.writes.Outputs.{Outputs}
 
 -- the bits from `start` to before `end` lie in the bytes, and are not too many
 abbrev pub Lies : (bytes : List ℕ) (start end : ℕ) → Type 0
@@ -13,7 +14,22 @@ Lies bytes start end = (start ≤ end) × (end ≤ 8 * length bytes) × (end ≤
 abbrev pub InRoot : (base end : ℕ) → Type 0
 InRoot base end = base + end ≤ longest_window
 
--- A step made y of the world x by its trace. The working path, of which the first plen bytes count, is where it was.
-pub record Plays (trace : Trace) (x y : World) (plen : ℕ) (path path' : List ℕ) : Type 0 where
-  pub out : y ≡ played trace x
-  pub kept : take plen path' ≡ take plen path
+-- the world that what is lent stands for
+abbrev pub world_in : Outputs → World
+world_in o = world_of o.tally o.records.now o.paths.now o.payloads.now
+
+-- the same is lent as before, and each output is as long
+pub record SameLent (o o' : Outputs) : Type 0 where
+  pub path : o'.path.ghost_name ≡ o.path.ghost_name
+  pub records : o'.records.ghost_name ≡ o.records.ghost_name
+  pub paths : o'.paths.ghost_name ≡ o.paths.ghost_name
+  pub payloads : o'.payloads.ghost_name ≡ o.payloads.ghost_name
+  pub records_held : length o'.records.now ≡ length o.records.now
+  pub paths_held : length o'.paths.now ≡ length o.paths.now
+  pub payloads_held : length o'.payloads.now ≡ length o.payloads.now
+
+-- A step made of the world what its trace makes of it. The working path, of which the first plen bytes count, is where it was.
+pub record Plays (trace : Trace) (plen : ℕ) (o o' : Outputs) : Type 0 where
+  pub out : world_in o' ≡ played trace (world_in o)
+  pub kept : take plen o'.path.now ≡ take plen o.path.now
+  pub lent : SameLent o o'

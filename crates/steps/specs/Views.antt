@@ -8,15 +8,24 @@ use Rattle.framing.specs.Walk as W
 use Rattle.framing.specs.Sinks.{struct_sink, object_sink_over, gives_leaves_lem, takes_trailer_lem}
 use Rattle.framing.specs.declared.Walk.{Walk}
 use Rattle.steps.specs.declared.Head.{Head}
+use Rattle.steps.specs.declared.pieces.Piece.{Piece}
 use Rattle.steps.specs.declared.Head.TheVariants as head
 
 -- the bits from `from` to before `end`, of bytes that start at bit `base` of the root window
 unfoldable pub inner : (bytes : List ℕ) (base from end : ℕ) → Window
 inner bytes base «from» end = record { bits = field (num bytes) «from» (end - «from»); size = end - «from»; origin = base + «from» }
 
+-- a piece's bits from `start` on
+abbrev pub inner_of : Piece → (start : ℕ) → Window
+inner_of p start = inner p.bytes.now p.base start p.end
+
 -- all bits before `end`: its positions are the code's
 unfoldable pub up_to : (bytes : List ℕ) (end : ℕ) → Window
 up_to bytes end = record { bits = num bytes; size = end; origin = 0 }
+
+-- all bits of a piece
+abbrev pub all_of : Piece → Window
+all_of p = up_to p.bytes.now p.end
 
 -- ---- what a walk of the code stands for
 

@@ -1,55 +1,43 @@
 // What a field is, and what one gives that is no array to walk (01, Walking an array, rules 6 and 8).
-ghost use Rattle.std.specs.Prelude.{◌≡◌, take};
-ghost use Rattle.schema.specs.Tables.{look_ups};
-ghost use Rattle.schema.specs.Spans.{spans_of};
-ghost use Rattle.steps.specs.Tally.{world_of};
-ghost use Rattle.steps.specs.Steps.{Lies, InRoot, Plays};
-ghost use Rattle.steps.specs.Views.{inner};
-ghost use Rattle.steps.specs.Paths.{pools, LabelFits};
-ghost use Rattle.steps.specs.Kinds.{kind_of, KindLies};
+ghost use Rattle.std.specs.Prelude.{◌≡◌, ◌≤◌, take};
+ghost use Rattle.steps.specs.Steps.{Plays};
+ghost use Rattle.steps.specs.Views.{inner_of};
+ghost use Rattle.steps.specs.Paths.{LabelFits};
+ghost use Rattle.steps.specs.Lent.{pools_of, kind_at};
+ghost use Rattle.steps.specs.Kinds.{KindLies};
 ghost use Rattle.steps.specs.Gives.{flat_field};
 
 use crate::leaves::put_leaf;
 use crate::objects::object_field;
-use crate::paths::WorkingPath;
-use crate::tally::{TRUNCATIONS, Tally, count};
+use crate::pieces::Piece;
+use crate::tables::{Pools, Spot};
+use crate::tally::count;
 use crate::walks::gives_leaves;
+use crate::writes::Outputs;
 use crate::{Kind, Tag};
-use framing::Walk;
-use schema::Child;
 use schema::labels::{container_label_from, leaf_label_from};
 use schema::spans::entry_of;
 
-// What a field of `width` bits with this handle is, in a level with `below` levels allowed under it.
-pub fn kind_of(
-    walk: Walk,
-    below: u32,
-    rows: &[u32],
-    spans: &[usize; schema::spans::SPAN_NUMBERS],
-    declared: &[u32],
-    level: u32,
-    handle: u32,
-    width: u64,
-) -> Kind
-    requires { spans.now ≡ spans_of rows.now }
-    ensures { result ≡ kind_of walk (look_ups rows.now declared.now) below level handle width }
+// What a field of `width` bits with this handle is.
+pub fn kind_of(spot: &Spot, handle: u32, width: u64) -> Kind
+    ensures { result ≡ kind_at spot.now handle width }
 {
-    if !gives_leaves(walk) {
+    if !gives_leaves(spot.walk) {
         return Kind::Object;
     }
-    let entry = entry_of(rows, spans, level, handle);
-    let child = entry.child;
-    match child {
-        Child::Leaf => {
-            let label = leaf_label_from(entry, declared, handle);
+    let tables = spot.tables;
+    let entry = entry_of(tables.rows, tables.spans, spot.level, handle);
+    match entry.elements {
+        None => {
+            let label = leaf_label_from(entry, tables.declared, handle);
             Kind::Leaf(label)
         }
-        Child::Array(lower) => {
+        Some(lower) => {
             if width == 0 {
                 return Kind::Nothing;
             }
             let label = container_label_from(entry);
-            if below == 0 {
+            if spot.below == 0 {
                 return Kind::Deep(label);
             }
             Kind::Array(lower, label)
@@ -58,62 +46,38 @@ pub fn kind_of(
 }
 
 // A field that is no array to walk: a leaf, an array below the last level, nothing, or a field of the object walk.
-pub fn put_field<'a>(
-    tally: &mut Tally,
+pub fn put_field(
+    out: &mut Outputs,
     kind: Kind,
-    bytes: &[u8],
-    base: u64,
+    piece: &Piece,
     from: u64,
-    end: u64,
     index: u32,
     first: bool,
     handle: u32,
     plen: usize,
-    names: &'a [u8],
-    declared_names: &'a [u8],
-    path: &mut WorkingPath,
-    records: &mut [u32],
-    paths: &mut [u8],
-    payloads: &mut [u8],
+    pools: &Pools,
 )
-    requires { Lies bytes.now «from» end × InRoot base end × LabelFits plen × KindLies (pools names.now declared_names.now) kind }
+    requires { («from» ≤ piece.now.end) × LabelFits plen × KindLies (pools_of pools.now) kind }
     ensures { Plays
-        (flat_field (pools names.now declared_names.now) index (take plen path.old) first handle
-        (inner bytes.now base «from» end) kind)
-        (world_of tally.old records.old paths.old payloads.old)
-        (world_of tally.new records.new paths.new payloads.new)
-        plen path.old path.new }
+        (flat_field (pools_of pools.now) index (take plen out.old.path.now) first handle
+        (inner_of piece.now «from») kind)
+        plen out.old out.new }
 {
     let label = match kind {
         Kind::Object => {
-            return object_field(tally, bytes, from, end, index, first, records);
+            return object_field(&mut out.tally, piece, from, index, first, out.records);
         }
         Kind::Nothing => {
             return;
         }
         Kind::Leaf(named) => named,
         Kind::Deep(named) => {
-            count(&mut *tally, TRUNCATIONS, 1);
+            count(&mut out.tally.truncations, 1);
             named
         }
         Kind::Array(_, _) => {
             return;
         }
     };
-    put_leaf(
-        tally,
-        bytes,
-        base,
-        from,
-        end,
-        handle,
-        Tag::Label(label),
-        plen,
-        names,
-        declared_names,
-        path,
-        records,
-        paths,
-        payloads,
-    );
+    put_leaf(out, piece, from, handle, Tag::Label(label), plen, pools);
 }

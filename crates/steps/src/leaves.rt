@@ -1,21 +1,26 @@
 // One leaf: its record, its path and its payload.
-ghost use Rattle.std.specs.Prelude.{◌≡◌, ◌+◌, ◌-◌, ◌≤◌, [], length, take};
+ghost use Rattle.std.specs.Prelude.{◌≡◌, ◌+◌, ◌-◌, ◌≤◌, length, take};
 ghost use Rattle.bits.specs.Sizes.{longest_path};
 ghost use Rattle.bits.specs.Bits.{num, field};
 ghost use Rattle.bits.specs.Runs.{bytes_of, bytes_for, store};
 ghost use Rattle.schema.specs.Labels.{dot};
 ghost use Rattle.framing.specs.Events.{raw_handle};
 ghost use Rattle.framing.specs.Records.{leaf_words, leaf_numbers};
-ghost use Rattle.steps.specs.Paths.{pools, tag_bytes, tag_length_lem, TagLies, LabelFits};
-ghost use Rattle.steps.specs.Tally.{slots, slot, records_slot, paths_slot, payloads_slot, world_of, reserved};
-ghost use Rattle.steps.specs.Steps.{Lies, InRoot, Plays};
-ghost use Rattle.steps.specs.Views.{inner};
+ghost use Rattle.steps.specs.Lent.{pools_of, no_pools};
+ghost use Rattle.steps.specs.Paths.{tag_bytes, tag_length_lem, TagLies, LabelFits};
+ghost use Rattle.steps.specs.Tally.{reserved};
+ghost use Rattle.steps.specs.Steps.{Plays};
+ghost use Rattle.steps.specs.Views.{inner_of};
 ghost use Rattle.steps.specs.Gives.{tagged_leaf};
 
 use crate::Tag;
 use crate::paths::{WorkingPath, path_room, tag_length, write_tag};
+use crate::pieces::Piece;
 use crate::runs::{copy_run, store_payload};
-use crate::tally::{PATHS, PAYLOADS, RECORDS, Tally, reserve};
+use crate::tables::Pools;
+use crate::tally::{Tally, reserve};
+use crate::writes::Outputs;
+use outputs::LeafRecord;
 use outputs::records::{LEAF_WORDS, fits, store_leaf};
 
 // The handle of a kept tail.
@@ -25,7 +30,7 @@ const RAW_HANDLE: u32 = 4294967295;
 const RAW_BYTES: usize = 5;
 
 // The path of a leaf, n bytes long: the working path and the tag behind it.
-fn store_path<'a>(
+fn store_path(
     paths: &mut [u8],
     at: u32,
     path: &mut WorkingPath,
@@ -33,13 +38,12 @@ fn store_path<'a>(
     n: usize,
     tag: Tag,
     handle: u32,
-    names: &'a [u8],
-    declared_names: &'a [u8],
+    pools: &Pools,
 )
     requires { (n ≡ plen + 1 + tag_length_lem handle tag) × (n ≤ longest_path)
-        × TagLies (pools names.now declared_names.now) tag }
+        × TagLies (pools_of pools.now) tag }
     ensures out { paths.new ≡ store paths.old at
-        (dot (take plen path.old) (tag_bytes (pools names.now declared_names.now) handle tag)) }
+        (dot (take plen path.old) (tag_bytes (pools_of pools.now) handle tag)) }
     ensures kept { take plen path.new ≡ take plen path.old }
     ensures sized { length path.old ≡ longest_path }
 {
@@ -48,7 +52,7 @@ fn store_path<'a>(
     if !fits(paths.len(), at, n) {
         return;
     }
-    write_tag(&mut *path, plen, tag, handle, names, declared_names);
+    write_tag(&mut *path, plen, tag, handle, pools);
     let whole: &[u8] = path;
     copy_run(paths, at as usize, &whole[0..n]);
 }
@@ -56,119 +60,99 @@ fn store_path<'a>(
 // All of a leaf but its path, which has n bytes: its record and its payload, and it is counted.
 fn put_rest(
     tally: &mut Tally,
-    bytes: &[u8],
-    base: u64,
+    piece: &Piece,
     from: u64,
-    end: u64,
     handle: u32,
     n: usize,
     records: &mut [u32],
     payloads: &mut [u8],
 )
-    requires { Lies bytes.now «from» end × InRoot base end × (n ≤ longest_path) }
-    ensures counts { tally.new ≡ reserved tally.old leaf_words n (bytes_for (end - «from»)) }
-    ensures sized { length tally.old ≡ slots }
-    ensures recorded { records.new ≡ store records.old (slot tally.old records_slot)
-        (leaf_numbers (slot tally.old paths_slot) n handle (end - «from») (slot tally.old payloads_slot) (base + «from»)) }
-    ensures loaded { payloads.new ≡ store payloads.old (slot tally.old payloads_slot)
-        (bytes_of (bytes_for (end - «from»)) (field (num bytes.now) «from» (end - «from»))) }
+    requires { («from» ≤ piece.now.end) × (n ≤ longest_path) }
+    ensures counts { tally.new ≡ reserved tally.old leaf_words n (bytes_for (piece.now.end - «from»)) }
+    ensures recorded { records.new ≡ store records.old tally.old.records
+        (leaf_numbers tally.old.paths n handle (piece.now.end - «from») tally.old.payloads (piece.now.base + «from»)) }
+    ensures loaded { payloads.new ≡ store payloads.old tally.old.payloads
+        (bytes_of (bytes_for (piece.now.end - «from»)) (field (num piece.now.bytes.now) «from» (piece.now.end - «from»))) }
 {
-    let width = end - from;
+    let width = piece.end - from;
     let size = (width + 7) / 8;
-    let at = tally[RECORDS];
-    let path_start = tally[PATHS];
-    let payload_start = tally[PAYLOADS];
-    let window_start = base + from;
-    store_leaf(
-        records,
-        at,
-        path_start,
-        n as u32,
+    let at = tally.records;
+    let payload_start = tally.payloads;
+    let window_start = piece.base + from;
+    let leaf = LeafRecord {
+        path_start: tally.paths,
+        path_length: n as u32,
         handle,
-        width as u32,
+        payload_bits: width as u32,
         payload_start,
-        window_start as u32,
-    );
-    store_payload(payloads, payload_start, bytes, from, end);
+        window_start: window_start as u32,
+    };
+    store_leaf(records, at, leaf);
+    store_payload(payloads, payload_start, piece.bytes, from, piece.end);
     reserve(tally, LEAF_WORDS as u32, n as u32, size as u32);
 }
 
 // A leaf of the bits from..end of bytes, its tag behind the working path; the first bit of bytes is bit `base` of the root window.
-pub fn put_leaf<'a>(
-    tally: &mut Tally,
-    bytes: &[u8],
-    base: u64,
+pub fn put_leaf(
+    out: &mut Outputs,
+    piece: &Piece,
     from: u64,
-    end: u64,
     handle: u32,
     tag: Tag,
     plen: usize,
-    names: &'a [u8],
-    declared_names: &'a [u8],
-    path: &mut WorkingPath,
-    records: &mut [u32],
-    paths: &mut [u8],
-    payloads: &mut [u8],
+    pools: &Pools,
 )
-    requires { Lies bytes.now «from» end × InRoot base end × LabelFits plen × TagLies (pools names.now declared_names.now) tag }
+    requires { («from» ≤ piece.now.end) × LabelFits plen × TagLies (pools_of pools.now) tag }
     ensures { Plays
-        (tagged_leaf (pools names.now declared_names.now) (take plen path.old) handle tag
-        (inner bytes.now base «from» end))
-        (world_of tally.old records.old paths.old payloads.old)
-        (world_of tally.new records.new paths.new payloads.new)
-        plen path.old path.new }
+        (tagged_leaf (pools_of pools.now) (take plen out.old.path.now) handle tag
+        (inner_of piece.now «from»))
+        plen out.old out.new }
 {
     let n = plen + 1 + tag_length(tag, handle);
-    let path_start = tally[PATHS];
-    store_path(
-        paths,
-        path_start,
-        path,
-        plen,
-        n,
-        tag,
+    let path_start = out.tally.paths;
+    store_path(out.paths, path_start, out.path, plen, n, tag, handle, pools);
+    put_rest(
+        &mut out.tally,
+        piece,
+        from,
         handle,
-        names,
-        declared_names,
+        n,
+        out.records,
+        out.payloads,
     );
-    put_rest(tally, bytes, base, from, end, handle, n, records, payloads);
 }
 
 // A tail kept as a leaf `_raw` (01, Walking an array, rule 7). A function of its own: put_leaf then has one caller and is compiled into it.
-pub fn put_tail(
-    tally: &mut Tally,
-    bytes: &[u8],
-    base: u64,
-    from: u64,
-    end: u64,
-    plen: usize,
-    path: &mut WorkingPath,
-    records: &mut [u32],
-    paths: &mut [u8],
-    payloads: &mut [u8],
-)
-    requires { Lies bytes.now «from» end × InRoot base end × LabelFits plen }
+pub fn put_tail(out: &mut Outputs, piece: &Piece, from: u64, plen: usize)
+    requires { («from» ≤ piece.now.end) × LabelFits plen }
     ensures { Plays
-        (tagged_leaf (pools [] []) (take plen path.old) raw_handle Tag.Raw (inner bytes.now base «from» end))
-        (world_of tally.old records.old paths.old payloads.old)
-        (world_of tally.new records.new paths.new payloads.new)
-        plen path.old path.new }
+        (tagged_leaf no_pools (take plen out.old.path.now) raw_handle Tag.Raw (inner_of piece.now «from»))
+        plen out.old out.new }
 {
     let n = plen + RAW_BYTES;
-    let path_start = tally[PATHS];
+    let path_start = out.tally.paths;
     let none = [0u8; 0];
+    let pools = Pools {
+        names: &none,
+        declared_names: &none,
+    };
     store_path(
-        paths,
+        out.paths,
         path_start,
-        path,
+        out.path,
         plen,
         n,
         Tag::Raw,
         RAW_HANDLE,
-        &none,
-        &none,
+        &pools,
     );
     put_rest(
-        tally, bytes, base, from, end, RAW_HANDLE, n, records, payloads,
+        &mut out.tally,
+        piece,
+        from,
+        RAW_HANDLE,
+        n,
+        out.records,
+        out.payloads,
     );
 }

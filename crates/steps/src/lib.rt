@@ -1,10 +1,9 @@
 // One step of a walk (array.rs): what stands at a position, what a field is, and what a step counts and writes. The walkers'
 // cycle only matches, lends and calls; every test on bits and every write stands here.
 //
-// A position is a bit of `bytes`. `names` is the pool of the schema's names, `declared_names` that of the declared ones. The
-// counters and the places of the next writes are lent as one array, the tally; a run that does not fit its output is not
-// written, and its place is counted all the same, so that a walk lent empty outputs measures. `records` takes leaves, in an
-// object walk pairs.
+// A position is a bit of a piece's bytes. The counters and the places of the next writes are the tally, which is lent with the
+// outputs; a run that does not fit its output is not written, and its place is counted all the same, so that a walk lent empty
+// outputs measures. `records` takes leaves, in an object walk pairs.
 #![tactic(auto)]
 
 pub mod exits;
@@ -12,18 +11,23 @@ pub mod heads;
 pub mod kinds;
 pub mod leaves;
 pub mod objects;
+pub mod parts;
 pub mod paths;
+pub mod pieces;
 pub mod runs;
+pub mod tables;
 pub mod tally;
 pub mod walks;
+pub mod writes;
 
 use schema::Label;
 
 // A packed number, the bit behind it, and whether it is padded.
 #[derive(Clone, Copy)]
-pub enum NumberRead {
-    Value(u32, u64, bool),
-    Failed,
+pub struct NumberRead {
+    pub value: u32,
+    pub next: u64,
+    pub padded: bool,
 }
 
 // What stands where a level, an element or a field is due.
@@ -41,7 +45,7 @@ pub enum Head {
     Go { value: u32, body: u64, next: u64 },
 }
 
-// What stands behind the dot of a leaf's path.
+// What stands behind the dot of a leaf's path. No Option of a label, which would be no plainer: `None` doesn't say `_raw`.
 #[derive(Clone, Copy)]
 pub enum Tag {
     Label(Label),

@@ -4,11 +4,13 @@ ghost use Rattle.bits.specs.Sizes.{max_elements, longest_label, longest_path};
 ghost use Rattle.bits.specs.Runs.{put};
 ghost use Rattle.bits.specs.Decimals.{decimal};
 ghost use Rattle.schema.specs.Labels.{dot, label_bytes, label_length_lem, LabelLies};
-ghost use Rattle.steps.specs.Paths.{pools, tag_bytes, tag_length_lem, TagLies, IndexFits, LabelFits, Entered, Grew};
+ghost use Rattle.steps.specs.Lent.{pools_of};
+ghost use Rattle.steps.specs.Paths.{tag_bytes, tag_length_lem, TagLies, IndexFits, LabelFits, Entered, Grew};
 
 use crate::Tag;
 use crate::runs::copy_run;
-use crate::tally::{ELEMENTS, Tally, count};
+use crate::tables::Pools;
+use crate::tally::{Tally, count};
 use crate::walks::gives_leaves;
 use bits::decimal::write_decimal;
 use bits::digits::decimal_length;
@@ -51,17 +53,10 @@ fn write_raw(path: &mut WorkingPath, at: usize)
 }
 
 // The label from byte at of the working path, which has room for it.
-fn write_label<'a>(
-    path: &mut WorkingPath,
-    at: usize,
-    label: Label,
-    handle: u32,
-    names: &'a [u8],
-    declared_names: &'a [u8],
-)
-    requires { (LabelLies (pools names.now declared_names.now) label) × (at + label_length_lem handle label ≤ longest_path) }
+fn write_label(path: &mut WorkingPath, at: usize, label: Label, handle: u32, pools: &Pools)
+    requires { (LabelLies (pools_of pools.now) label) × (at + label_length_lem handle label ≤ longest_path) }
     ensures out { path.new
-        ≡ put path.old at (label_bytes (pools names.now declared_names.now) handle label) }
+        ≡ put path.old at (label_bytes (pools_of pools.now) handle label) }
     ensures sized { length path.old ≡ longest_path }
 {
     match label {
@@ -71,52 +66,44 @@ fn write_label<'a>(
             write_decimal(path, at + 2, handle);
         }
         Label::Declared(_, _) => {
-            let name = label_part(declared_names, names, label);
+            let name = label_part(pools.declared_names, pools.names, label);
             copy_run(path, at, name);
         }
         Label::Named(_, _) => {
-            let name = label_part(declared_names, names, label);
+            let name = label_part(pools.declared_names, pools.names, label);
             copy_run(path, at, name);
         }
     }
 }
 
 // A dot and the tag behind the working path, which has room for them.
-pub fn write_tag<'a>(
-    path: &mut WorkingPath,
-    plen: usize,
-    tag: Tag,
-    handle: u32,
-    names: &'a [u8],
-    declared_names: &'a [u8],
-)
-    requires { (TagLies (pools names.now declared_names.now) tag) × (plen + 1 + tag_length_lem handle tag ≤ longest_path) }
+pub fn write_tag(path: &mut WorkingPath, plen: usize, tag: Tag, handle: u32, pools: &Pools)
+    requires { (TagLies (pools_of pools.now) tag) × (plen + 1 + tag_length_lem handle tag ≤ longest_path) }
     ensures out { path.new
-        ≡ put path.old plen (46 ∷ tag_bytes (pools names.now declared_names.now) handle tag) }
+        ≡ put path.old plen (46 ∷ tag_bytes (pools_of pools.now) handle tag) }
     ensures sized { length path.old ≡ longest_path }
 {
     path[plen] = 46;
     match tag {
-        Tag::Label(label) => write_label(path, plen + 1, label, handle, names, declared_names),
+        Tag::Label(label) => write_label(path, plen + 1, label, handle, pools),
         Tag::Raw => write_raw(path, plen + 1),
     }
 }
 
 // The working path with `.label` behind it: its length.
-pub fn grow_label<'a>(
+pub fn grow_label(
     path: &mut WorkingPath,
     plen: usize,
     label: Label,
     handle: u32,
-    names: &'a [u8],
-    declared_names: &'a [u8],
+    pools: &Pools,
 ) -> usize
-    requires { LabelFits plen × LabelLies (pools names.now declared_names.now) label }
-    ensures { Grew (dot (take plen path.old) (label_bytes (pools names.now declared_names.now) handle label))
+    requires { LabelFits plen × LabelLies (pools_of pools.now) label }
+    ensures { Grew (dot (take plen path.old) (label_bytes (pools_of pools.now) handle label))
         longest_label plen result path.old path.new }
 {
     let n = plen + 1 + label_length(label, handle);
-    write_tag(path, plen, Tag::Label(label), handle, names, declared_names);
+    write_tag(path, plen, Tag::Label(label), handle, pools);
     n
 }
 
@@ -142,7 +129,7 @@ pub fn enter(
     requires { (index < max_elements) × IndexFits plen }
     ensures { Entered walk index tally.old tally.new plen result path.old path.new }
 {
-    count(&mut *tally, ELEMENTS, 1);
+    count(&mut tally.elements, 1);
     if !gives_leaves(walk) {
         return plen;
     }

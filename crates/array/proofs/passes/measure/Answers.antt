@@ -4,4 +4,4 @@ use Rattle.array.proofs.PassLaws.{measures}
 use Rattle.array.proofs.passes.measure.Goals as goal
 
 pub returns : goal.returns
-returns c = measures _ _ _ _ _ (search rules) (search rules) (search rules) c.pass.ensures
+returns c = measures _ _ _ _ _ _ (search rules) (search rules) (search rules) (search rules) c.pass.ensures.played

@@ -10,19 +10,19 @@ returns-then-not-gives_leaves c = kind_object _ _ _ _ _ _ (sym c.gives_leaves.en
 pub returns-then-width-eq0 : goal.returns-then-width-eq0
 returns-then-width-eq0 c =
     let leafy = sym c.gives_leaves.ensures ∙ c.if-not-gives_leaves.false in
-    kind_nothing _ _ _ _ _ _ leafy _ (c.entry_of-entry.ensures ∙ entry_is _ _ _ _ c.requires) _ c.in-Array.is c.if-width-eq0.true
+    kind_nothing _ _ _ _ _ _ leafy _ (c.entry_of-entry.ensures ∙ entry_is _ _ _ _ c.args.spot.now.tables.now.spans_are) _ c.in-Some.is c.if-width-eq0.true
 
-pub returns-then-below-eq0 : goal.returns-then-below-eq0
-returns-then-below-eq0 c =
+pub returns-then-spot-eq0 : goal.returns-then-spot-eq0
+returns-then-spot-eq0 c =
     let leafy = sym c.gives_leaves.ensures ∙ c.if-not-gives_leaves.false in
-    kind_deep _ _ _ _ _ _ leafy _ (c.entry_of-entry.ensures ∙ entry_is _ _ _ _ c.requires) _ c.in-Array.is _ c.container_label_from-label.ensures c.if-width-eq0.false c.if-below-eq0.true
+    kind_deep _ _ _ _ _ _ leafy _ (c.entry_of-entry.ensures ∙ entry_is _ _ _ _ c.args.spot.now.tables.now.spans_are) _ c.in-Some.is _ c.container_label_from-label.ensures c.if-width-eq0.false c.if-spot-eq0.true
 
-pub returns-in-Leaf : goal.returns-in-Leaf
-returns-in-Leaf c =
+pub returns-in-None : goal.returns-in-None
+returns-in-None c =
     let leafy = sym c.gives_leaves.ensures ∙ c.if-not-gives_leaves.false in
-    kind_leaf _ _ _ _ _ _ leafy _ (c.entry_of-entry.ensures ∙ entry_is _ _ _ _ c.requires) _ c.in-Leaf.is c.leaf_label_from-label.ensures
+    kind_leaf _ _ _ _ _ _ leafy _ (c.entry_of-entry.ensures ∙ entry_is _ _ _ _ c.args.spot.now.tables.now.spans_are) _ c.in-None.is c.leaf_label_from-label.ensures
 
-pub returns-else-below-eq0 : goal.returns-else-below-eq0
-returns-else-below-eq0 c =
+pub returns-else-spot-eq0 : goal.returns-else-spot-eq0
+returns-else-spot-eq0 c =
     let leafy = sym c.gives_leaves.ensures ∙ c.if-not-gives_leaves.false in
-    kind_array _ _ _ _ _ _ leafy _ (c.entry_of-entry.ensures ∙ entry_is _ _ _ _ c.requires) _ c.in-Array.is _ c.container_label_from-label.ensures c.if-width-eq0.false c.if-below-eq0.false
+    kind_array _ _ _ _ _ _ leafy _ (c.entry_of-entry.ensures ∙ entry_is _ _ _ _ c.args.spot.now.tables.now.spans_are) _ c.in-Some.is _ c.container_label_from-label.ensures c.if-width-eq0.false c.if-spot-eq0.false

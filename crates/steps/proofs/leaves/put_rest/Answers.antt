@@ -2,4 +2,4 @@
 use Rattle.steps.proofs.leaves.put_rest.Goals as goal
 
 pub returns : goal.returns
-returns c = record { counts = c.reserve.ensures.counts; sized = c.reserve.ensures.sized; recorded = c.store_leaf.ensures; loaded = c.store_payload.ensures }
+returns c = record { counts = c.reserve.ensures; recorded = c.store_leaf.ensures; loaded = c.store_payload.ensures }

@@ -5,7 +5,7 @@ use Rattle.bits.proofs.RunLaws.{store_out}
 use Rattle.outputs.proofs.FitLaws.{fitting, past}
 use Rattle.steps.proofs.PathLaws.{take_kept}
 use Rattle.steps.proofs.LeafLaws.{path_length_lem, path_copied}
-use Rattle.steps.specs.Paths.{pools}
+use Rattle.steps.specs.Lent.{pools_of}
 use Rattle.steps.proofs.leaves.store_path.Goals as goal
 
 pub returns-then-not-fits : goal.returns-then-not-fits
@@ -14,7 +14,7 @@ returns-then-not-fits c =
     let p = c.requires in
     let r = c.path_room.ensures.1 in
     let h : length a.paths.now < a.at + a.n = past _ _ _ c.fits.ensures c.if-not-fits.true in
-    let l = path_length_lem (pools a.names.now a.declared_names.now) a.handle a.tag a.path.now a.plen a.n p.2 r (omega (arith, p.0)) p.0 in
+    let l = path_length_lem (pools_of a.pools.now) a.handle a.tag a.path.now a.plen a.n p.2 r (omega (arith, p.0)) p.0 in
     record { out = sym (store_out _ _ _ (omega (arith, l))); kept = refl; sized = r }
 
 pub write_tag-requires : goal.write_tag-requires
@@ -36,4 +36,4 @@ returns c =
     let p = c.requires in
     let r = c.path_room.ensures.1 in
     let w = c.write_tag.ensures.out in
-    record { out = path_copied (pools a.names.now a.declared_names.now) a.handle a.tag a.path.now a.plen a.n p.2 r (omega (arith, p.0)) p.0 _ _ _ _ _ (sub-zero _) room w c.copy_run.ensures; kept = take_kept _ _ _ _ w (omega (arith, r, p.0)); sized = r }
+    record { out = path_copied (pools_of a.pools.now) a.handle a.tag a.path.now a.plen a.n p.2 r (omega (arith, p.0)) p.0 _ _ _ _ _ (sub-zero _) room w c.copy_run.ensures; kept = take_kept _ _ _ _ w (omega (arith, r, p.0)); sized = r }

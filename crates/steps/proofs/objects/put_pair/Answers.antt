@@ -4,4 +4,4 @@ use Rattle.steps.proofs.objects.put_pair.Goals as goal
 
 pub returns : goal.returns
 returns c = λ paths payloads.
-    pair_counted _ _ paths payloads c.count.ensures.sized _ _ _ _ c.store_pair.ensures c.count.ensures.counts c.count-2.ensures.counts
+    pair_counted _ _ paths payloads _ _ _ _ c.store_pair.ensures c.count.ensures c.count-2.ensures

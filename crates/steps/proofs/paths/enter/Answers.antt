@@ -6,7 +6,7 @@ use Rattle.steps.proofs.paths.enter.Goals as goal
 
 pub returns-then-not-gives_leaves : goal.returns-then-not-gives_leaves
 returns-then-not-gives_leaves c =
-    entered_object c.args.walk _ _ _ _ _ c.count.ensures.sized c.count.ensures.counts (sym c.gives_leaves.ensures ∙ c.if-not-gives_leaves.true)
+    entered_object c.args.walk _ _ _ _ _ c.count.ensures (sym c.gives_leaves.ensures ∙ c.if-not-gives_leaves.true)
 
 pub write_index-requires : goal.write_index-requires
 write_index-requires c =
@@ -26,5 +26,5 @@ unfolding at_index
 returns c =
     let i = c.args.index in
     let h = index_short i c.requires.0 in
-    entered_leafy c.args.walk _ _ _ _ _ c.count.ensures.sized c.count.ensures.counts _ _ (sym c.gives_leaves.ensures ∙ c.if-not-gives_leaves.false)
+    entered_leafy c.args.walk _ _ _ _ _ c.count.ensures _ _ (sym c.gives_leaves.ensures ∙ c.if-not-gives_leaves.false)
     (grew_by _ _ (91 ∷ decimal i ++ (93 ∷ [])) _ _ _ (omega (arith, c.requires.1, c.write_index.ensures.sized)) (omega (arith, c.decimal_length-k.ensures, index_length i)) (omega (arith, index_length i, h)) c.write_index.ensures.out)

@@ -1,6 +1,7 @@
 -- A dot is stored before the tag, which follows it.
 use Rattle.std.proofs.Common.{sym, ap, ◌∙◌, subst, arith, length-set}
-use Rattle.steps.specs.Paths.{pools, tag_length_lem, TagLies}
+use Rattle.steps.specs.Lent.{pools_of}
+use Rattle.steps.specs.Paths.{tag_length_lem, TagLies}
 use Rattle.steps.proofs.PathLaws.{tag_put}
 use Rattle.steps.proofs.paths.write_tag.Goals as goal
 
@@ -8,7 +9,7 @@ pub write_label-requires : goal.write_label-requires
 write_label-requires c =
     let a = c.args in
     let n = ap (tag_length_lem a.handle) c.in-Label.is in
-    (subst (TagLies (pools a.names.now a.declared_names.now)) c.in-Label.is c.requires.0, omega (arith, n))
+    (subst (TagLies (pools_of a.pools.now)) c.in-Label.is c.requires.0, omega (arith, n))
 
 pub write_raw-requires : goal.write_raw-requires
 write_raw-requires c =

@@ -1,16 +1,15 @@
 -- Each exit is one of the laws of the tests and of the two passes.
-use mathlib.Core.Path.{refl, sym, ◌∙◌}
-use Rattle.framing.specs.declared.Walk.TheVariants as how
+use mathlib.Core.Path.{sym, ◌∙◌}
 use Rattle.array.proofs.PassLaws.{passable}
 use Rattle.array.proofs.CallLaws.{leaves_long, leaves_broken, leaves_answered}
-use Rattle.array.proofs.decode_struct_array_exact.Goals as goal
+use Rattle.array.proofs.decode_leaves.Goals as goal
 
 pub returns-then-is_too_long : goal.returns-then-is_too_long
-returns-then-is_too_long c = leaves_long how.Exact refl _ _ _ _ _ _ (sym c.is_too_long.ensures ∙ c.if-is_too_long.true)
+returns-then-is_too_long c = leaves_long _ c.requires _ _ _ _ _ _ (sym c.is_too_long.ensures ∙ c.if-is_too_long.true)
 
 pub returns-then-not-check_tables : goal.returns-then-not-check_tables
 returns-then-not-check_tables c =
-    leaves_broken how.Exact refl _ _ _ _ _ _ (sym c.is_too_long.ensures ∙ c.if-is_too_long.false)
+    leaves_broken _ c.requires _ _ _ _ _ _ (sym c.is_too_long.ensures ∙ c.if-is_too_long.false)
     (sym c.check_tables.ensures ∙ c.if-not-check_tables.true)
 
 pub two_passes-requires : goal.two_passes-requires
@@ -19,5 +18,5 @@ two_passes-requires c =
 
 pub returns : goal.returns
 returns c =
-    leaves_answered how.Exact refl _ _ _ _ _ _ (sym c.is_too_long.ensures ∙ c.if-is_too_long.false)
-    (sym c.check_tables.ensures ∙ c.if-not-check_tables.false) _ _ c.two_passes.ensures
+    leaves_answered _ c.requires _ _ _ _ _ _ (sym c.is_too_long.ensures ∙ c.if-is_too_long.false)
+    (sym c.check_tables.ensures ∙ c.if-not-check_tables.false) _ _ c.two_passes.ensures c.map_err.ensures.cases
