@@ -1,7 +1,7 @@
 -- Three bodies, computed: one deleted id and one item with one field; the same item behind a checksum flag; the same item in padded numbers.
 use mathlib.Core.Path.{◌≡◌, refl}
 use mathlib.Core.List.{[], ◌∷◌}
-use mathlib.Core.Option.{some}
+use Rattle.std.specs.Prelude.{Some}
 use lib.IntN.{pos, negsuc}
 use Rattle.bits.specs.Bits.{num, field}
 use Rattle.bits.specs.Packed.{after, earlier_byte, fifth_byte, packed_from, packed}
@@ -11,11 +11,10 @@ use Rattle.fastarray.specs.Body.{window, as_number, lead_width, lead_handle, wit
 use Rattle.fastarray.specs.Parts.{measured_of}
 use Rattle.fastarray.specs.Answers.{call, found}
 use Rattle.fastarray.specs.declared.ChecksumMode.TheVariants.{Absent, Present}
-use Rattle.fastarray.specs.declared.BodyMeasure.TheVariants as M
 
 -- key 7, base key -1, deleted id -2; item 5 with field handle 2, whose 4 bits of payload start at bit 209; the numbers are 3, 4 and the closing 0
 pub deleted_and_item : found (call (15 ∷ 0 ∷ 0 ∷ 0 ∷ 254 ∷ 255 ∷ 255 ∷ 255 ∷ 3 ∷ 0 ∷ 0 ∷ 0 ∷ 2 ∷ 0 ∷ 0 ∷ 0 ∷ 252 ∷ 255 ∷ 255 ∷ 255 ∷ 11 ∷ 0 ∷ 0 ∷ 0 ∷ 12 ∷ 16 ∷ 20 ∷ 0 ∷ []) 221 Absent)
-    ≡ some
+    ≡ Some
     (record {
       key = pos 7;
       base_key = negsuc 0;
@@ -32,7 +31,7 @@ deleted_and_item = refl
 
 -- the same keys and item, nothing deleted, and a flag of 1 before the fields
 pub item_with_flag : found (call (15 ∷ 0 ∷ 0 ∷ 0 ∷ 254 ∷ 255 ∷ 255 ∷ 255 ∷ 1 ∷ 0 ∷ 0 ∷ 0 ∷ 2 ∷ 0 ∷ 0 ∷ 0 ∷ 10 ∷ 0 ∷ 0 ∷ 0 ∷ 26 ∷ 32 ∷ 40 ∷ 0 ∷ []) 190 Present)
-    ≡ some
+    ≡ Some
     (record {
       key = pos 7;
       base_key = negsuc 0;
@@ -49,6 +48,6 @@ item_with_flag = refl
 
 -- the same keys and item, nothing deleted, no flag; handle, width and closing zero in two bytes each where one would do
 pub item_padded : measured_of (found (call (15 ∷ 0 ∷ 0 ∷ 0 ∷ 254 ∷ 255 ∷ 255 ∷ 255 ∷ 1 ∷ 0 ∷ 0 ∷ 0 ∷ 2 ∷ 0 ∷ 0 ∷ 0 ∷ 10 ∷ 0 ∷ 0 ∷ 0 ∷ 14 ∷ 0 ∷ 18 ∷ 0 ∷ 32 ∷ 0 ∷ 0 ∷ []) 213 Absent))
-    ≡ M.Body (record { key = pos 7; base = negsuc 0; deletes = 0; changes = 1; fields = 1; used = 213; padded = 3 })
+    ≡ Some (record { key = pos 7; base = negsuc 0; deletes = 0; changes = 1; fields = 1; used = 213; padded = 3 })
 unfolding measured_of found body_of window num field headed ended deleted_from items_from on_fields with_item_lem fields_from on_lead with_field lead_handle lead_width as_number packed packed_from earlier_byte fifth_byte after twos fields_of numbers_of padded_among padded
 item_padded = refl

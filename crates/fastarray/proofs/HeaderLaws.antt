@@ -2,7 +2,7 @@
 use Prim.Native.Nat.{ℕ, ◌+◌, ◌*◌, ◌^◌, ◌≤◌, ◌<◌}
 use mathlib.Core.Path.{◌≡◌, refl, sym, ap, ◌∙◌}
 use mathlib.Core.Bool.{Bool, true, false, ◌&&◌}
-use mathlib.Core.Option.{Option, none, some}
+use Rattle.std.specs.Prelude.{Option, None, Some}
 use native.Mathlib.Nat.{mul-le-mul_right}
 use native.Mathlib.Omega.{arith}
 use lib.ListN.{length}
@@ -16,13 +16,9 @@ use Rattle.bits.proofs.Never.{never}
 use Rattle.fastarray.specs.Body.{signed_at, deletes, changes, not_negative_lem, least_bits, headed, Items, items_from, deleted_from, Body, ended, body_of, fields_of, numbers_of}
 use Rattle.fastarray.specs.Parts.{items_read_of, delta_of, measured_of}
 use Rattle.fastarray.proofs.ItemLaws.{ItemsLying, items_lie, deleted_length}
+use Rattle.fastarray.proofs.FieldLaws.{reached}
 use Rattle.fastarray.specs.declared.Delta.{Delta}
-use Rattle.fastarray.specs.declared.ItemsRead.TheVariants as I
-use Rattle.fastarray.specs.declared.BodyMeasure.TheVariants as M
-
--- the product with the flag, bounded by one without it
-pub least_bound : (flag c : ℕ) → flag ≤ 1 → (40 + flag) * c ≤ 41 * c
-least_bound flag c h = let l : 40 + flag ≤ 41 = omega arith in mul-le-mul_right c l
+use Rattle.fastarray.specs.declared.Reached.{Reached}
 
 pub least_above : (flag c : ℕ) → 40 * c ≤ (40 + flag) * c
 least_above flag c = let l : 40 ≤ 40 + flag = omega arith in mul-le-mul_right c l
@@ -75,35 +71,43 @@ headed_fits flag W len e =
 
 record ReadAs (o : Option Items) (count next padded : ℕ) : Type 0 where
   pub read : Items
-  pub is : o ≡ some read
+  pub is : o ≡ Some read
   pub count_is : 0 + length (fields_of read.items) ≡ count
   pub next_is : read.next ≡ next
   pub padded_is : 0 + padded_among (numbers_of read.items) ≡ padded
 
-read_as : (o : Option Items) (count next padded : ℕ) → items_read_of 0 0 o ≡ I.Read count next padded → ReadAs o count next padded
+read_as : (o : Option Items) (t : Reached) → items_read_of 0 0 o ≡ Some t → ReadAs o t.fields t.next t.padded
 unfolding items_read_of
-read_as none count next padded e = let z : ◌≡◌ {A = ℕ} 0 1 = cc in never z
-read_as (some r) count next padded e = record { read = r; is = refl; count_is = cc; next_is = cc; padded_is = cc }
+read_as None t e = let z : ◌≡◌ {A = ℕ} 0 1 = cc in never z
+read_as (Some r) t e =
+    let told : reached (0 + length (fields_of r.items)) r.next (0 + padded_among (numbers_of r.items)) ≡ t = cc in
+    record {
+      read = r;
+      is = refl;
+      count_is = ap (λ (x : Reached). x.fields) told;
+      next_is = ap (λ (x : Reached). x.next) told;
+      padded_is = ap (λ (x : Reached). x.padded) told;
+    }
 
-read_none : (o : Option Items) → items_read_of 0 0 o ≡ I.Broken → o ≡ none
+read_none : (o : Option Items) → items_read_of 0 0 o ≡ None → o ≡ None
 unfolding items_read_of
-read_none none e = refl
-read_none (some r) e = let z : ◌≡◌ {A = ℕ} 0 1 = cc in never z
+read_none None e = refl
+read_none (Some r) e = let z : ◌≡◌ {A = ℕ} 0 1 = cc in never z
 
 -- items that end elsewhere, and items that use all bits
-ends_elsewhere : (W len : ℕ) (r : Items) → (r.next ≡ len → ⊥) → ended W len (some r) ≡ none
+ends_elsewhere : (W len : ℕ) (r : Items) → (r.next ≡ len → ⊥) → ended W len (Some r) ≡ None
 unfolding ended
 ends_elsewhere W len r n = simp (ne_eqb r.next len n)
 
 abbrev pub body_with : (W : ℕ) → Items → Body
 body_with W r = record { key = signed_at W 1; base_key = signed_at W 33; deleted = deleted_from (deletes W) W 129; items = r.items; used = r.next }
 
-ends_here : (W len : ℕ) (r : Items) → r.next ≡ len → ended W len (some r) ≡ some (body_with W r)
+ends_here : (W len : ℕ) (r : Items) → r.next ≡ len → ended W len (Some r) ≡ Some (body_with W r)
 unfolding ended
 ends_here W len r n = simp (eq-eqb r.next len n)
 
 module _ (flag W len : ℕ) where
-  pub not_headed : headed flag W len ≡ false → M.NotFastArray ≡ measured_of (body_of flag W len)
+  pub not_headed : headed flag W len ≡ false → None ≡ measured_of (body_of flag W len)
   unfolding body_of measured_of
   not_headed e = simp e
 
@@ -115,45 +119,45 @@ module _ (flag W len : ℕ) where
     unfolding body_of
     body_is = simp h
 
-    pub no_items : items_read_of 0 0 items ≡ I.Broken → M.NotFastArray ≡ measured_of (body_of flag W len)
+    pub no_items : items_read_of 0 0 items ≡ None → None ≡ measured_of (body_of flag W len)
     unfolding measured_of ended
     no_items e = sym (ap measured_of (body_is ∙ ap (ended W len) (read_none items e)))
 
-    module _ (count next padded : ℕ) (e : items_read_of 0 0 items ≡ I.Read count next padded) where
-      lying : ItemsLying (changes W) len (129 + 32 * deletes W) (read_as items count next padded e).read
+    module _ (r : Reached) (e : items_read_of 0 0 items ≡ Some r) where
+      lying : ItemsLying (changes W) len (129 + 32 * deletes W) (read_as items r e).read
       lying =
           let f = (headed_fits flag W len h).lists in
-          items_lie (changes W) flag W len (129 + 32 * deletes W) _ (omega arith) (read_as items count next padded e).is
+          items_lie (changes W) flag W len (129 + 32 * deletes W) _ (omega arith) (read_as items r e).is
 
-      pub counted_within : (count ≤ len) × (next ≤ len) × (padded ≤ len)
+      pub counted_within : (r.fields ≤ len) × (r.next ≤ len) × (r.padded ≤ len)
       counted_within =
-          let t = read_as items count next padded e in
+          let t = read_as items r e in
           let c = t.count_is in
           let n = t.next_is in
           let m = t.padded_is in
           let l = lying in
           (omega (arith, l.takes, l.within), omega (arith, l.within), omega (arith, l.counts, l.within))
 
-      pub not_ended : (next ≡ len → ⊥) → M.NotFastArray ≡ measured_of (body_of flag W len)
+      pub not_ended : (r.next ≡ len → ⊥) → None ≡ measured_of (body_of flag W len)
       unfolding measured_of
       not_ended n =
-          let t = read_as items count next padded e in
+          let t = read_as items r e in
           sym (ap measured_of (body_is ∙ ap (ended W len) t.is ∙ ends_elsewhere W len t.read (λ z. n (sym t.next_is ∙ z))))
 
-      pub body_measured : next ≡ len → (key base : ℤ) (d c : ℕ) → key ≡ signed_at W 1 → base ≡ signed_at W 33 → d ≡ deletes W → c ≡ changes W
-          → M.Body (record { key = key; base = base; deletes = d; changes = c; fields = count; used = next; padded = padded }) ≡ measured_of (body_of flag W len)
+      pub body_measured : r.next ≡ len → (key base : ℤ) (d c : ℕ) → key ≡ signed_at W 1 → base ≡ signed_at W 33 → d ≡ deletes W → c ≡ changes W
+          → Some (record { key = key; base = base; deletes = d; changes = c; fields = r.fields; used = r.next; padded = r.padded }) ≡ measured_of (body_of flag W len)
       unfolding measured_of
       body_measured n key base d c ek eb ed ec =
-          let t = read_as items count next padded e in
+          let t = read_as items r e in
           let l = lying in
           let e₁ : length (deleted_from (deletes W) W 129) ≡ d = deleted_length (deletes W) W 129 ∙ sym ed in
           let e₂ : length t.read.items ≡ c = l.counted ∙ sym ec in
-          let e₃ : length (fields_of t.read.items) ≡ count = (let q = t.count_is in omega arith) in
-          let e₄ : t.read.next ≡ next = t.next_is in
-          let e₅ : padded_among (numbers_of t.read.items) ≡ padded = (let q = t.padded_is in omega arith) in
+          let e₃ : length (fields_of t.read.items) ≡ r.fields = (let q = t.count_is in omega arith) in
+          let e₄ : t.read.next ≡ r.next = t.next_is in
+          let e₅ : padded_among (numbers_of t.read.items) ≡ r.padded = (let q = t.padded_is in omega arith) in
           sym
           (ap measured_of (body_is ∙ ap (ended W len) t.is ∙ ends_here W len t.read (e₄ ∙ n))
-          ∙ ap M.Body
+          ∙ ap Some
           (λ i. record { key = sym ek i; base = sym eb i; deletes = e₁ i; changes = e₂ i; fields = e₃ i; used = e₄ i; padded = e₅ i }))
 
 -- ---- what a measure says of the body
@@ -161,19 +165,19 @@ module _ (flag W len : ℕ) where
 pub record MeasuredAs (flag W len : ℕ) (delta : Delta) : Type 0 where
   pub read : Items
   pub fits : Fitting W len
-  pub items_are : items_from (changes W) flag W len (129 + 32 * deletes W) ≡ some read
-  pub body_is : body_of flag W len ≡ some (body_with W read)
+  pub items_are : items_from (changes W) flag W len (129 + 32 * deletes W) ≡ Some read
+  pub body_is : body_of flag W len ≡ Some (body_with W read)
   pub delta_is : delta_of (body_with W read) ≡ delta
   pub deletes_are : delta.deletes ≡ deletes W
   pub changes_are : delta.changes ≡ changes W
 
 module _ (flag W len : ℕ) (delta : Delta) where
-  absent : body_of flag W len ≡ none → measured_of (body_of flag W len) ≡ M.Body delta → MeasuredAs flag W len delta
+  absent : body_of flag W len ≡ None → measured_of (body_of flag W len) ≡ Some delta → MeasuredAs flag W len delta
   unfolding measured_of
   absent n e = let f = ap measured_of n in let z : ◌≡◌ {A = ℕ} 0 1 = cc in never z
 
-  present : headed flag W len ≡ true → (r : Items) → items_from (changes W) flag W len (129 + 32 * deletes W) ≡ some r → body_of flag W len ≡ some (body_with W r)
-      → measured_of (body_of flag W len) ≡ M.Body delta → MeasuredAs flag W len delta
+  present : headed flag W len ≡ true → (r : Items) → items_from (changes W) flag W len (129 + 32 * deletes W) ≡ Some r → body_of flag W len ≡ Some (body_with W r)
+      → measured_of (body_of flag W len) ≡ Some delta → MeasuredAs flag W len delta
   unfolding measured_of
   present h r i b e =
       let f = ap measured_of b in
@@ -191,16 +195,16 @@ module _ (flag W len : ℕ) (delta : Delta) where
       }
 
   ended_as : headed flag W len ≡ true → (o : Option Items) → items_from (changes W) flag W len (129 + 32 * deletes W) ≡ o
-      → measured_of (body_of flag W len) ≡ M.Body delta → MeasuredAs flag W len delta
+      → measured_of (body_of flag W len) ≡ Some delta → MeasuredAs flag W len delta
   unfolding ended
-  ended_as h none i e = absent (body_is flag W len h ∙ ap (ended W len) i) e
-  ended_as h (some r) i e = go (eqb r.next len) refl
+  ended_as h None i e = absent (body_is flag W len h ∙ ap (ended W len) i) e
+  ended_as h (Some r) i e = go (eqb r.next len) refl
     where
       go : (x : Bool) → eqb r.next len ≡ x → MeasuredAs flag W len delta
       go true t = present h r i (body_is flag W len h ∙ ap (ended W len) i ∙ ends_here W len r (eqb-true _ _ t)) e
       go false t = absent (body_is flag W len h ∙ ap (ended W len) i ∙ ends_elsewhere W len r (eqb-false _ _ t)) e
 
-  pub measured_as : measured_of (body_of flag W len) ≡ M.Body delta → MeasuredAs flag W len delta
+  pub measured_as : measured_of (body_of flag W len) ≡ Some delta → MeasuredAs flag W len delta
   unfolding body_of
   measured_as e = go (headed flag W len) refl
     where

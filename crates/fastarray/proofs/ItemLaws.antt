@@ -3,7 +3,7 @@ use Prim.Native.Nat.{ℕ, zero, suc, ◌+◌, ◌-◌, ◌*◌, ◌≤◌, ◌<�
 use mathlib.Core.Path.{◌≡◌, refl, sym, ap, ap₂, ◌∙◌, subst}
 use mathlib.Core.Bool.{Bool, true, false}
 use mathlib.Core.List.{List, [], ◌∷◌, ◌++◌}
-use mathlib.Core.Option.{Option, none, some}
+use Rattle.std.specs.Prelude.{Option, None, Some}
 use native.Mathlib.Omega.{arith}
 use native.Mathlib.Nat.{add-zero}
 use lib.ListN.{length, length-append}
@@ -19,17 +19,13 @@ use Rattle.fastarray.specs.Body.{signed_at, deleted_from, Stream, fields_at, Ite
 use Rattle.fastarray.specs.Records.{deleted_record, item_record, field_record, records, store_all}
 use Rattle.fastarray.specs.Parts.{fields_read_of, items_read_of, FieldsStored, ItemsStored}
 use Rattle.fastarray.proofs.StoreLaws.{store_append, records_length}
-use Rattle.fastarray.proofs.FieldLaws.{Lying, fields_lie}
-use Rattle.fastarray.specs.declared.FieldsRead.TheVariants as F
-use Rattle.fastarray.specs.declared.ItemsRead.{ItemsRead}
-use Rattle.fastarray.specs.declared.ItemsRead.TheVariants as I
+use Rattle.fastarray.proofs.FieldLaws.{Lying, fields_lie, reached}
+use Rattle.fastarray.specs.declared.Reached.{Reached}
 
 -- ---- deleted ids
 
 -- the reading of `count` ids from bit `at` on, of which `done` are stored
 pub record Deleting (W at count : ℕ) (d₀ d : List ℤ) (done : ℕ) : Type 0 where
-  pub below : done ≤ count
-  pub same : length d ≡ length d₀
   pub stores : store_all deleted_record d done (deleted_from (count - done) W (at + 32 * done)) ≡ store_all deleted_record d₀ 0 (deleted_from count W at)
 
 deleted_more : (n W p : ℕ) → 0 < n → deleted_from n W p ≡ signed_at W p ∷ deleted_from (n - 1) W (p + 32)
@@ -46,26 +42,14 @@ unfolding store_all deleted_from
 stored_none d i W p = refl
 
 module _ (W at count : ℕ) (d₀ : List ℤ) where
-  pub deleting_starts : Deleting W at count d₀ d₀ 0
-  deleting_starts =
-      let e₁ : count - 0 ≡ count = omega arith in
-      let e₂ : at + 32 * 0 ≡ at = omega arith in
-      record {
-        below = omega arith;
-        same = refl;
-        stores = ap₂ (λ (n p : ℕ). store_all deleted_record d₀ 0 (deleted_from n W p)) e₁ e₂;
-      }
-
   module _ (d : List ℤ) (done : ℕ) where
-    pub deleting_next : (z : ℤ) (d' : List ℤ) → done < count → Deleting W at count d₀ d done → z ≡ signed_at W (at + 32 * done) → d' ≡ store d done (z ∷ []) → length d' ≡ length d
+    pub deleting_next : (z : ℤ) (d' : List ℤ) → done < count → Deleting W at count d₀ d done → z ≡ signed_at W (at + 32 * done) → d' ≡ store d done (z ∷ [])
         → Deleting W at count d₀ d' (done + 1)
-    deleting_next z d' h v ez es l =
+    deleting_next z d' h v ez es =
         let e₁ : count - (done + 1) ≡ count - done - 1 = omega arith in
         let e₂ : at + 32 * (done + 1) ≡ at + 32 * done + 32 = omega arith in
         let rest = deleted_from (count - done - 1) W (at + 32 * done + 32) in
         record {
-          below = omega arith;
-          same = l ∙ v.same;
           stores = ap₂ (λ (n p : ℕ). store_all deleted_record d' (done + 1) (deleted_from n W p)) e₁ e₂
               ∙ ap (λ (x : List ℤ). store_all deleted_record x (done + 1) rest) es
               ∙ sym (stored_cons d done z rest)
@@ -86,28 +70,35 @@ module _ (W at count : ℕ) (d₀ : List ℤ) where
 -- an item's fields, as the code read them
 pub record ReadAs (o : Option Stream) (slot padded after next count : ℕ) : Type 0 where
   pub stream : Stream
-  pub is : o ≡ some stream
+  pub is : o ≡ Some stream
   pub after_is : slot + length stream.fields ≡ after
   pub next_is : stream.next ≡ next
   pub count_is : padded + padded_among stream.numbers ≡ count
 
-read_as : (o : Option Stream) (slot padded after next count : ℕ) → fields_read_of slot padded o ≡ F.Read after next count
-    → ReadAs o slot padded after next count
+read_as : (o : Option Stream) (slot padded : ℕ) (t : Reached) → fields_read_of slot padded o ≡ Some t → ReadAs o slot padded t.fields t.next t.padded
 unfolding fields_read_of
-read_as none slot padded after next count e = let z : ◌≡◌ {A = ℕ} 0 1 = cc in never z
-read_as (some r) slot padded after next count e = record { stream = r; is = refl; after_is = cc; next_is = cc; count_is = cc }
+read_as None slot padded t e = let z : ◌≡◌ {A = ℕ} 0 1 = cc in never z
+read_as (Some r) slot padded t e =
+    let told : reached (slot + length r.fields) r.next (padded + padded_among r.numbers) ≡ t = cc in
+    record {
+      stream = r;
+      is = refl;
+      after_is = ap (λ (x : Reached). x.fields) told;
+      next_is = ap (λ (x : Reached). x.next) told;
+      count_is = ap (λ (x : Reached). x.padded) told;
+    }
 
-read_none : (o : Option Stream) (slot padded : ℕ) → fields_read_of slot padded o ≡ F.Broken → o ≡ none
+read_none : (o : Option Stream) (slot padded : ℕ) → fields_read_of slot padded o ≡ None → o ≡ None
 unfolding fields_read_of
-read_none none slot padded e = refl
-read_none (some r) slot padded e = let z : ◌≡◌ {A = ℕ} 0 1 = cc in never z
+read_none None slot padded e = refl
+read_none (Some r) slot padded e = let z : ◌≡◌ {A = ℕ} 0 1 = cc in never z
 
 -- they take at least as many bits as they are, and as the padded numbers are
-pub read_within : (W end p slot padded after next count : ℕ) → slot ≤ p → padded ≤ p
-    → fields_read_of slot padded (fields_at W end p) ≡ F.Read after next count
-    → (slot ≤ after) × (after ≤ next) × (p ≤ next) × (next ≤ end) × (count ≤ next)
-read_within W end p slot padded after next count h g e =
-    let t = read_as _ slot padded after next count e in
+pub read_within : (W end p slot padded : ℕ) (r : Reached) → slot ≤ p → padded ≤ p
+    → fields_read_of slot padded (fields_at W end p) ≡ Some r
+    → (slot ≤ r.fields) × (r.fields ≤ r.next) × (p ≤ r.next) × (r.next ≤ end) × (r.padded ≤ r.next)
+read_within W end p slot padded r h g e =
+    let t = read_as _ slot padded r e in
     let l = fields_lie (end - p) W end p t.stream t.is in
     let a = t.after_is in
     let b = t.next_is in
@@ -118,7 +109,7 @@ read_within W end p slot padded after next count h g e =
     (omega arith, omega arith, omega arith, omega arith, omega arith)
 
 module _ (flag W len p : ℕ) where
-  items_cut : (n : ℕ) → 0 < n → len < p + (32 + flag) → items_from n flag W len p ≡ none
+  items_cut : (n : ℕ) → 0 < n → len < p + (32 + flag) → items_from n flag W len p ≡ None
   unfolding items_from
   items_cut zero z k = never (let e : ◌≡◌ {A = ℕ} 0 1 = omega arith in e)
   items_cut (suc n) z k = simp (lt-leb _ _ k)
@@ -133,20 +124,20 @@ module _ (flag W len p : ℕ) where
 said_item : (slot padded after count : ℕ) (x : Item) (o : Option Items) → slot + length x.fields ≡ after
     → padded + padded_among x.numbers ≡ count → items_read_of after count o ≡ items_read_of slot padded (with_item_lem x o)
 unfolding items_read_of with_item_lem fields_of numbers_of
-said_item slot padded after count x none e f = refl
-said_item slot padded after count x (some r) e f =
+said_item slot padded after count x None e f = refl
+said_item slot padded after count x (Some r) e f =
     let l = length-append x.fields (fields_of r.items) in
     let m = among_append x.numbers (numbers_of r.items) in
     let q : after + length (fields_of r.items) ≡ slot + length (x.fields ++ fields_of r.items) = omega arith in
     let s : count + padded_among (numbers_of r.items) ≡ padded + padded_among (x.numbers ++ numbers_of r.items) = omega arith in
-    ap₂ (λ (j k : ℕ). I.Read j r.next k) q s
+    ap₂ (λ (j k : ℕ). Some (reached j r.next k)) q s
 
 stored_item : (done slot after : ℕ) (x : Item) (o : Option Items) (di df df' ei ef : List ℕ) → slot + length x.fields ≡ after
     → df' ≡ store_all field_record df (3 * slot) x.fields → ItemsStored o (done + 1) after (store di (2 * done) (item_record x)) df' ei ef
     → ItemsStored (with_item_lem x o) done slot di df ei ef
 unfolding ItemsStored with_item_lem fields_of store_all
-stored_item done slot after x none di df df' ei ef e f s = tt
-stored_item done slot after x (some r) di df df' ei ef e f s =
+stored_item done slot after x None di df df' ei ef e f s = tt
+stored_item done slot after x (Some r) di df df' ei ef e f s =
     let q₁ : 2 * (done + 1) ≡ 2 * done + 2 = omega arith in
     let n = records_length field_record 3 (λ y. refl) x.fields in
     let q₂ : 3 * after ≡ 3 * slot + length (records field_record x.fields) = omega arith in (
@@ -159,50 +150,33 @@ stored_item done slot after x (some r) di df df' ei ef e f s =
 -- the reading of `count` items from bit `at` on, of which `done` are stored, with `slot` fields and c padded numbers, up to bit pos
 pub record Walking (W end at count flag : ℕ) (di₀ df₀ di df : List ℕ) (pos done slot c : ℕ) : Type 0 where
   pub within : pos ≤ end
-  pub below : done ≤ count
   pub slots : slot ≤ pos
   pub counts : c ≤ pos
-  pub same_items : length di ≡ length di₀
-  pub same_fields : length df ≡ length df₀
   pub says : items_read_of slot c (items_from (count - done) flag W end pos) ≡ items_read_of 0 0 (items_from count flag W end at)
   pub stores : (ei ef : List ℕ) → ItemsStored (items_from (count - done) flag W end pos) done slot di df ei ef
       → ItemsStored (items_from count flag W end at) 0 0 di₀ df₀ ei ef
 
 module _ (W end at count flag : ℕ) (di₀ df₀ : List ℕ) where
   -- what the reading answers and leaves
-  abbrev pub Walked : ItemsRead → (ei ef : List ℕ) → Type 0
+  abbrev pub Walked : Option Reached → (ei ef : List ℕ) → Type 0
   Walked r ei ef = (r ≡ items_read_of 0 0 (items_from count flag W end at)) × ItemsStored (items_from count flag W end at) 0 0 di₀ df₀ ei ef
 
-  pub walk_starts : at ≤ end → Walking W end at count flag di₀ df₀ di₀ df₀ at 0 0 0
-  walk_starts h =
-      let e : count - 0 ≡ count = omega arith in
-      record {
-        within = h;
-        below = omega arith;
-        slots = omega arith;
-        counts = omega arith;
-        same_items = refl;
-        same_fields = refl;
-        says = ap (λ (n : ℕ). items_read_of 0 0 (items_from n flag W end at)) e;
-        stores = λ ei ef s. subst (λ (n : ℕ). ItemsStored (items_from n flag W end at) 0 0 di₀ df₀ ei ef) e s;
-      }
-
   module _ (di df : List ℕ) (pos done slot c : ℕ) (v : Walking W end at count flag di₀ df₀ di df pos done slot c) where
-    nothing : items_from (count - done) flag W end pos ≡ none → (ei ef : List ℕ) → Walked I.Broken ei ef
+    nothing : items_from (count - done) flag W end pos ≡ None → (ei ef : List ℕ) → Walked None ei ef
     unfolding items_read_of ItemsStored
     nothing f ei ef = (
       sym (ap (items_read_of slot c) f) ∙ v.says,
       v.stores ei ef (subst (λ (o : Option Items). ItemsStored o done slot di df ei ef) (sym f) tt),
     )
 
-    pub walk_cut : done < count → end < pos + (32 + flag) → (ei ef : List ℕ) → Walked I.Broken ei ef
+    pub walk_cut : done < count → end < pos + (32 + flag) → (ei ef : List ℕ) → Walked None ei ef
     walk_cut h k ei ef = nothing (items_cut flag W end pos (count - done) (omega arith) k) ei ef
 
-    pub walk_ends : count ≤ done → Walked (I.Read slot pos c) di df
+    pub walk_ends : count ≤ done → Walked (Some (reached slot pos c)) di df
     unfolding items_read_of ItemsStored items_from fields_of numbers_of padded_among store_all
     walk_ends h =
         let e : count - done ≡ 0 = omega arith in (
-          ap₂ (λ (j k : ℕ). I.Read j pos k) (sym (add-zero slot)) (sym (add-zero c))
+          ap₂ (λ (j k : ℕ). Some (reached j pos k)) (sym (add-zero slot)) (sym (add-zero c))
               ∙ sym (ap (λ (n : ℕ). items_read_of slot c (items_from n flag W end pos)) e)
               ∙ v.says,
           v.stores di df (subst (λ (n : ℕ). ItemsStored (items_from n flag W end pos) done slot di df di df) (sym e) (refl, refl)),
@@ -213,52 +187,54 @@ module _ (W end at count flag : ℕ) (di₀ df₀ : List ℕ) where
           ≡ on_fields (field W pos 32) (fields_at W end (pos + (32 + flag))) (λ q. items_from (count - done - 1) flag W end q)
       more = items_more flag W end pos (count - done) (omega arith) k
 
-      pub walk_broken : fields_read_of slot c (fields_at W end (pos + (32 + flag))) ≡ F.Broken → (ei ef : List ℕ) → Walked I.Broken ei ef
+      -- the fields behind a lead of f bits
+      led : (f : ℕ) → f ≡ flag → fields_at W end (pos + (32 + f)) ≡ fields_at W end (pos + (32 + flag))
+      led f z = ap (λ (x : ℕ). fields_at W end (pos + (32 + x))) z
+
+      pub walk_broken : (f : ℕ) → f ≡ flag → fields_read_of slot c (fields_at W end (pos + (32 + f))) ≡ None → (ei ef : List ℕ) → Walked None ei ef
       unfolding on_fields
-      walk_broken e ei ef =
+      walk_broken f z e ei ef =
           nothing
-          (more ∙ ap (λ (o : Option Stream). on_fields (field W pos 32) o (λ q. items_from (count - done - 1) flag W end q)) (read_none _ slot c e))
+          (more ∙ ap (λ (o : Option Stream). on_fields (field W pos 32) o (λ q. items_from (count - done - 1) flag W end q)) (read_none _ slot c (ap (fields_read_of slot c) (sym (led f z)) ∙ e)))
           ei
           ef
 
-      pub walk_next : (id after next padded here : ℕ) (di' df' : List ℕ)
-          → fields_read_of slot c (fields_at W end (pos + (32 + flag))) ≡ F.Read after next padded
-          → FieldsStored (fields_at W end (pos + (32 + flag))) df slot df' → id ≡ field W pos 32 → here ≡ after - slot
-          → di' ≡ store di (2 * done) (id ∷ here ∷ []) → length di' ≡ length di → length df' ≡ length df
-          → Walking W end at count flag di₀ df₀ di' df' next (done + 1) after padded
+      pub walk_next : (f : ℕ) → f ≡ flag → (id here : ℕ) (r : Reached) (di' df' : List ℕ)
+          → fields_read_of slot c (fields_at W end (pos + (32 + f))) ≡ Some r
+          → FieldsStored (fields_at W end (pos + (32 + f))) df slot df' → id ≡ field W pos 32 → here ≡ r.fields - slot
+          → di' ≡ store di (2 * done) (id ∷ here ∷ [])
+          → Walking W end at count flag di₀ df₀ di' df' r.next (done + 1) r.fields r.padded
       unfolding on_fields FieldsStored
-      walk_next id after next padded here di' df' e fs ei eh s li lf =
-          let t = read_as _ slot c after next padded e in
+      walk_next f z id here r di' df' e fs ei eh s =
+          let g = ap (fields_read_of slot c) (sym (led f z)) ∙ e in
+          let t = read_as _ slot c r g in
           let st = t.stream in
           let x = item (field W pos 32) st in
-          let b = read_within W end (pos + (32 + flag)) slot c after next padded (omega (arith, v.slots)) (omega (arith, v.counts)) e in
+          let b = read_within W end (pos + (32 + flag)) slot c r (omega (arith, v.slots)) (omega (arith, v.counts)) g in
           let ai = t.after_is in
           let hi : here ≡ length st.fields = omega arith in
           let c₁ : count - (done + 1) ≡ count - done - 1 = omega arith in
-          let rest = items_from (count - done - 1) flag W end next in
-          let f : items_from (count - done) flag W end pos ≡ with_item_lem x rest
+          let rest = items_from (count - done - 1) flag W end r.next in
+          let i : items_from (count - done) flag W end pos ≡ with_item_lem x rest
           = more
           ∙ ap (λ (o : Option Stream). on_fields (field W pos 32) o (λ q. items_from (count - done - 1) flag W end q)) t.is
           ∙ ap (λ (q : ℕ). with_item_lem x (items_from (count - done - 1) flag W end q)) t.next_is in
-          let fs' : df' ≡ store_all field_record df (3 * slot) st.fields = subst (λ (o : Option Stream). FieldsStored o df slot df') t.is fs in
+          let fs' : df' ≡ store_all field_record df (3 * slot) st.fields = subst (λ (o : Option Stream). FieldsStored o df slot df') (led f z ∙ t.is) fs in
           let s' : di' ≡ store di (2 * done) (item_record x) = s ∙ ap₂ (λ (a n : ℕ). store di (2 * done) (a ∷ n ∷ [])) ei hi in
           record {
             within = b.3;
-            below = omega arith;
             slots = b.1;
             counts = b.4;
-            same_items = li ∙ v.same_items;
-            same_fields = lf ∙ v.same_fields;
-            says = ap (λ (n : ℕ). items_read_of after padded (items_from n flag W end next)) c₁
-                ∙ said_item slot c after padded x rest ai t.count_is
-                ∙ sym (ap (items_read_of slot c) f)
+            says = ap (λ (n : ℕ). items_read_of r.fields r.padded (items_from n flag W end r.next)) c₁
+                ∙ said_item slot c r.fields r.padded x rest ai t.count_is
+                ∙ sym (ap (items_read_of slot c) i)
                 ∙ v.says;
             stores = λ a z u.
                 v.stores a z
-                (subst (λ (o : Option Items). ItemsStored o done slot di df a z) (sym f)
-                (stored_item done slot after x rest di df df' a z ai fs'
-                (subst (λ (y : List ℕ). ItemsStored rest (done + 1) after y df' a z) s'
-                (subst (λ (n : ℕ). ItemsStored (items_from n flag W end next) (done + 1) after di' df' a z) c₁ u))));
+                (subst (λ (o : Option Items). ItemsStored o done slot di df a z) (sym i)
+                (stored_item done slot r.fields x rest di df df' a z ai fs'
+                (subst (λ (y : List ℕ). ItemsStored rest (done + 1) r.fields y df' a z) s'
+                (subst (λ (n : ℕ). ItemsStored (items_from n flag W end r.next) (done + 1) r.fields di' df' a z) c₁ u))));
           }
 
 -- ---- how many items there are, and the bits that they take: as many as they have fields, and eight for each padded number
@@ -270,10 +246,10 @@ pub record ItemsLying (n len p : ℕ) (r : Items) : Type 0 where
   pub within : r.next ≤ len
 
 with_item_lies : (n len p : ℕ) (x : Item) (o : Option Items) (r : Items) (q : ℕ) → p + length x.fields ≤ q
-    → p + 8 * padded_among x.numbers ≤ q → ((rs : Items) → o ≡ some rs → ItemsLying n len q rs) → with_item_lem x o ≡ some r → ItemsLying (suc n) len p r
+    → p + 8 * padded_among x.numbers ≤ q → ((rs : Items) → o ≡ Some rs → ItemsLying n len q rs) → with_item_lem x o ≡ Some r → ItemsLying (suc n) len p r
 unfolding with_item_lem fields_of numbers_of
-with_item_lies n len p x none r q h g f e = let z : ◌≡◌ {A = ℕ} 0 1 = cc in never z
-with_item_lies n len p x (some rs) r q h g f e =
+with_item_lies n len p x None r q h g f e = let z : ◌≡◌ {A = ℕ} 0 1 = cc in never z
+with_item_lies n len p x (Some rs) r q h g f e =
     let l = f rs refl in
     let a = length-append x.fields (fields_of rs.items) in
     let b = among_append x.numbers (numbers_of rs.items) in
@@ -282,17 +258,17 @@ with_item_lies n len p x (some rs) r q h g f e =
     (record { counted = ap suc l.counted; takes = omega (arith, l.takes); counts = omega (arith, l.counts); within = l.within })
 
 on_fields_lie : (n len p q id : ℕ) (o : Option Stream) (rest : ℕ → Option Items) (r : Items) → p ≤ q
-    → ((st : Stream) → o ≡ some st → Lying len q st) → ((k : ℕ) (rs : Items) → k ≤ len → rest k ≡ some rs → ItemsLying n len k rs)
-    → on_fields id o rest ≡ some r → ItemsLying (suc n) len p r
+    → ((st : Stream) → o ≡ Some st → Lying len q st) → ((k : ℕ) (rs : Items) → k ≤ len → rest k ≡ Some rs → ItemsLying n len k rs)
+    → on_fields id o rest ≡ Some r → ItemsLying (suc n) len p r
 unfolding on_fields
-on_fields_lie n len p q id none rest r h f g e = let z : ◌≡◌ {A = ℕ} 0 1 = cc in never z
-on_fields_lie n len p q id (some st) rest r h f g e =
+on_fields_lie n len p q id None rest r h f g e = let z : ◌≡◌ {A = ℕ} 0 1 = cc in never z
+on_fields_lie n len p q id (Some st) rest r h f g e =
     let l = f st refl in
     let a = l.takes in
     let b = l.within in
     with_item_lies n len p (item id st) (rest st.next) r st.next (omega arith) (omega (arith, l.counts)) (λ rs k. g st.next rs b k) e
 
-pub items_lie : (n flag W len p : ℕ) (r : Items) → p ≤ len → items_from n flag W len p ≡ some r → ItemsLying n len p r
+pub items_lie : (n flag W len p : ℕ) (r : Items) → p ≤ len → items_from n flag W len p ≡ Some r → ItemsLying n len p r
 unfolding items_from fields_of numbers_of padded_among
 items_lie zero flag W len p r h e =
     let w : ◌≡◌ {A = Items} (record { items = []; next = p }) r = cc in
@@ -303,7 +279,7 @@ items_lie (suc n) flag W len p r h e = go (leb (p + (32 + flag)) len) refl (λ k
         ≡ on_fields (field W p 32) (fields_at W len (p + (32 + flag))) (λ q. items_from n flag W len q)
     less = let m : suc n - 1 ≡ n = omega arith in rw m refl
 
-    go : (x : Bool) → leb (p + (32 + flag)) len ≡ x → ((k : ℕ) (rs : Items) → k ≤ len → items_from n flag W len k ≡ some rs → ItemsLying n len k rs)
+    go : (x : Bool) → leb (p + (32 + flag)) len ≡ x → ((k : ℕ) (rs : Items) → k ≤ len → items_from n flag W len k ≡ Some rs → ItemsLying n len k rs)
         → ItemsLying (suc n) len p r
     go true t g =
         on_fields_lie n len p (p + (32 + flag)) (field W p 32) (fields_at W len (p + (32 + flag))) (λ q. items_from n flag W len q) r (omega arith)

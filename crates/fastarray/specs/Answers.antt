@@ -1,14 +1,14 @@
 -- What `decode_fast_array_delta` answers and what it leaves in the lent buffers, as functions of the call's inputs alone.
-use Rattle.std.specs.Prelude.{ℕ, ◌/◌, ◌≡◌, Bool, ◌&&◌, List, [], length, leb, ltb, eqb, ℤ, if◌then◌else◌}
-use Rattle.std.proofs.Math.Option.{Option, none, some}
+use Rattle.std.specs.Prelude.{ℕ, ◌/◌, ◌≡◌, Bool, ◌&&◌, List, [], length, leb, ltb, eqb, ℤ, Option, None, Some, Result, Ok, Err, if◌then◌else◌}
 use Rattle.bits.specs.Runs.{bytes_for, filled}
 use Rattle.bits.specs.Sizes.{longest_window}
 use Rattle.fastarray.specs.Body.{window, flag_bits_lem, Item, Body, body_of, fields_of}
 use Rattle.fastarray.specs.Records.{item_words, item_record, field_words, field_record, records}
-use Rattle.fastarray.specs.Parts.{delta_of}
+use Rattle.fastarray.specs.Parts.{delta_of, need_of}
 use Rattle.fastarray.specs.declared.ChecksumMode.{ChecksumMode}
-use Rattle.fastarray.specs.declared.FastArray.{FastArray}
-use Rattle.fastarray.specs.declared.FastArray.TheVariants.{Decoded, TooLong, NotFastArray, Short}
+use Rattle.fastarray.specs.declared.Delta.{Delta}
+use Rattle.fastarray.specs.declared.Refusal.{Refusal}
+use Rattle.fastarray.specs.declared.Refusal.TheVariants.{TooLong, NotFastArray, Short}
 
 pub record Call : Type 0 where
   pub bytes : List ℕ
@@ -28,7 +28,7 @@ lent d i f = record { deleted = d; items = i; fields = f }
 
 -- the body that the bytes hold; as many bytes as the bits take, no more and no fewer
 unfoldable pub found : Call → Option Body
-found c = if eqb (length c.bytes) (bytes_for c.bits) then body_of (flag_bits_lem c.mode) (window c.bytes c.bits) c.bits else none
+found c = if eqb (length c.bytes) (bytes_for c.bits) then body_of (flag_bits_lem c.mode) (window c.bytes c.bits) c.bits else None
 
 -- room for so many records in buffers of these lengths: only whole records count, and a ragged end is never written
 unfoldable pub room_for : (deletes items fields : ℕ) → (deletedLen itemsLen fieldsLen : ℕ) → Bool
@@ -39,29 +39,26 @@ fits_in b l =
     room_for (length b.deleted) (length b.items) (length (fields_of b.items)) (length l.deleted) (length l.items) (length l.fields)
 
 -- refusals 6 and 3
-unfoldable pub decided : Option Body → Lent → FastArray
-decided none l = NotFastArray
-decided (some b) l =
-    if fits_in b l then Decoded (delta_of b) else Short (length b.deleted) (length b.items) (length (fields_of b.items))
+unfoldable pub decided : Option Body → Lent → Result Delta Refusal
+decided None l = Err NotFastArray
+decided (Some b) l = if fits_in b l then Ok (delta_of b) else Err (Short (need_of b))
 
 -- refusal 1 comes before them
-unfoldable pub answer : Call → Lent → FastArray
-answer c l = if ltb longest_window c.bits then TooLong else decided (found c) l
+unfoldable pub answer : Call → Lent → Result Delta Refusal
+answer c l = if ltb longest_window c.bits then Err TooLong else decided (found c) l
 
 -- a buffer at the end: the new contents and behind them what was lent; if the call is refused, what was lent
-unfoldable pub at_exit : {A : Type 0} → FastArray → (new lent : List A) → List A
-at_exit (Decoded d) new lent = filled new lent
-at_exit TooLong new lent = lent
-at_exit NotFastArray new lent = lent
-at_exit (Short d i f) new lent = lent
+unfoldable pub at_exit : {A : Type 0} → Result Delta Refusal → (new lent : List A) → List A
+at_exit (Ok d) new lent = filled new lent
+at_exit (Err e) new lent = lent
 
 unfoldable pub deleted_in : Option Body → List ℤ
-deleted_in none = []
-deleted_in (some b) = b.deleted
+deleted_in None = []
+deleted_in (Some b) = b.deleted
 
 unfoldable pub items_in : Option Body → List Item
-items_in none = []
-items_in (some b) = b.items
+items_in None = []
+items_in (Some b) = b.items
 
 abbrev pub final_deleted : Call → Lent → List ℤ
 final_deleted c l = at_exit (answer c l) (deleted_in (found c)) l.deleted
@@ -73,7 +70,7 @@ abbrev pub final_fields : Call → Lent → List ℕ
 final_fields c l = at_exit (answer c l) (records field_record (fields_of (items_in (found c)))) l.fields
 
 -- the contract: r is the answer, and `end` what the buffers hold at the exit
-pub record Answered (c : Call) (l : Lent) (r : FastArray) (end : Lent) : Type 0 where
+pub record Answered (c : Call) (l : Lent) (r : Result Delta Refusal) (end : Lent) : Type 0 where
   pub says : r ≡ answer c l
   pub deleted : end.deleted ≡ final_deleted c l
   pub items : end.items ≡ final_items c l

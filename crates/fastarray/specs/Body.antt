@@ -5,13 +5,10 @@
 --     field   = handle + 1 (packed), width (packed), `width` bits of payload
 --
 -- Keys, counts and ids are i32. The window is a number W of len bits.
-use Rattle.std.specs.Prelude.{ℕ, zero, suc, ◌+◌, ◌-◌, ◌*◌, ◌^◌, Bool, ◌&&◌, List, [], ◌∷◌, ◌++◌, leb, ltb, eqb, ℤ, if◌then◌else◌}
-use Rattle.std.proofs.Math.Option.{Option, none, some}
+use Rattle.std.specs.Prelude.{ℕ, zero, suc, ◌+◌, ◌-◌, ◌*◌, ◌^◌, Bool, ◌&&◌, List, [], ◌∷◌, ◌++◌, leb, ltb, eqb, ℤ, Option, None, Some, if◌then◌else◌, Ok, Err}
 use Rattle.bits.specs.Bits.{num, field}
-use Rattle.bits.specs.Packed.{packed, Number}
+use Rattle.bits.specs.Packed.{Packed, packed, Number}
 use Rattle.bits.specs.TwosComplement.{twos}
-use Rattle.bits.specs.declared.Packed.{Packed}
-use Rattle.bits.specs.declared.Packed.TheVariants.{Whole, Cut, GoesOn, Overflows}
 use Rattle.fastarray.specs.declared.ChecksumMode.{ChecksumMode}
 use Rattle.fastarray.specs.declared.ChecksumMode.TheVariants.{Absent, Present}
 
@@ -26,10 +23,8 @@ abbrev pub number_end : Number → ℕ
 number_end x = x.start + 8 * x.bytes
 
 unfoldable pub as_number : (p : ℕ) → Packed → Option Number
-as_number p (Whole v n) = some (record { start = p; bytes = n; value = v })
-as_number p (Cut n) = none
-as_number p GoesOn = none
-as_number p Overflows = none
+as_number p (Ok x) = Some (record { start = p; bytes = x.bytes; value = x.value })
+as_number p (Err why) = None
 
 -- the packed number at bit p, if one can be read
 abbrev pub packed_at : (W len p : ℕ) → Option Number
@@ -51,12 +46,12 @@ pub data Lead : Type 0 where
   opens : (handle width : Number) → Lead
 
 unfoldable pub lead_width : (len : ℕ) (handle : Number) → Option Number → Lead
-lead_width len h none = breaks
-lead_width len h (some w) = if leb (number_end w + w.value) len then opens h w else breaks
+lead_width len h None = breaks
+lead_width len h (Some w) = if leb (number_end w + w.value) len then opens h w else breaks
 
 unfoldable pub lead_handle : (W len : ℕ) → Option Number → Lead
-lead_handle W len none = breaks
-lead_handle W len (some h) = if eqb h.value 0 then closes h else lead_width len h (packed_at W len (number_end h))
+lead_handle W len None = breaks
+lead_handle W len (Some h) = if eqb h.value 0 then closes h else lead_width len h (packed_at W len (number_end h))
 
 abbrev pub lead_at : (W len p : ℕ) → Lead
 lead_at W len p = lead_handle W len (packed_at W len p)
@@ -77,17 +72,17 @@ abbrev pub before : (handle width : Number) → Stream → Stream
 before h w r = record { fields = raw_field h w ∷ r.fields; numbers = h ∷ w ∷ r.numbers; next = r.next }
 
 unfoldable pub with_field : (handle width : Number) → Option Stream → Option Stream
-with_field h w none = none
-with_field h w (some r) = some (before h w r)
+with_field h w None = None
+with_field h w (Some r) = Some (before h w r)
 
 unfoldable pub on_lead : Lead → (rest : (p : ℕ) → Option Stream) → Option Stream
-on_lead breaks rest = none
-on_lead (closes h) rest = some (closing_stream h)
+on_lead breaks rest = None
+on_lead (closes h) rest = Some (closing_stream h)
 on_lead (opens h w) rest = with_field h w (rest (number_end w + w.value))
 
 -- The fields from bit p on, of which there are fewer than `most`: a bound for the recursion, no limit of the format.
 unfoldable pub fields_from : (most W len p : ℕ) → Option Stream
-fields_from zero W len p = none
+fields_from zero W len p = None
 fields_from (suc most) W len p = on_lead (lead_at W len p) (λ next. fields_from most W len next)
 
 -- The fields from bit p on. Each takes 16 bits at least, so there are fewer than bits left, and a larger bound gives the same (`fields_enough`
@@ -112,12 +107,12 @@ abbrev pub item : (id : ℕ) → Stream → Item
 item id st = record { id = id; fields = st.fields; numbers = st.numbers }
 
 unfoldable pub with_item_lem : Item → Option Items → Option Items
-with_item_lem x none = none
-with_item_lem x (some r) = some (record { items = x ∷ r.items; next = r.next })
+with_item_lem x None = None
+with_item_lem x (Some r) = Some (record { items = x ∷ r.items; next = r.next })
 
 unfoldable pub on_fields : (id : ℕ) → Option Stream → (rest : (p : ℕ) → Option Items) → Option Items
-on_fields id none rest = none
-on_fields id (some st) rest = with_item_lem (item id st) (rest st.next)
+on_fields id None rest = None
+on_fields id (Some st) rest = with_item_lem (item id st) (rest st.next)
 
 -- the flag is stepped past; its value says nothing
 abbrev pub flag_bits_lem : ChecksumMode → ℕ
@@ -126,10 +121,10 @@ flag_bits_lem Present = 1
 
 -- `count` items from bit p on; flag: the bits between an id and its fields
 unfoldable pub items_from : (count flag W len p : ℕ) → Option Items
-items_from zero flag W len p = some (record { items = []; next = p })
+items_from zero flag W len p = Some (record { items = []; next = p })
 items_from (suc count) flag W len p =
     if leb (p + (32 + flag)) len
-    then on_fields (field W p 32) (fields_at W len (p + (32 + flag))) (λ next. items_from count flag W len next) else none
+    then on_fields (field W p 32) (fields_at W len (p + (32 + flag))) (λ next. items_from count flag W len next) else None
 
 -- ---- the body
 
@@ -186,16 +181,16 @@ pub record Body : Type 0 where
 
 -- the items have to use all bits
 unfoldable pub ended : (W len : ℕ) → Option Items → Option Body
-ended W len none = none
-ended W len (some r) =
+ended W len None = None
+ended W len (Some r) =
     if eqb r.next len
-    then some (record { key = signed_at W key_bit; base_key = signed_at W base_bit; deleted = deleted_from (deletes W) W header_bits; items = r.items; used = r.next })
-    else none
+    then Some (record { key = signed_at W key_bit; base_key = signed_at W base_bit; deleted = deleted_from (deletes W) W header_bits; items = r.items; used = r.next })
+    else None
 
 -- the body that the len bits of W are, if they are one
 unfoldable pub body_of : (flag W len : ℕ) → Option Body
 body_of flag W len =
-    if headed flag W len then ended W len (items_from (changes W) flag W len (header_bits + 32 * deletes W)) else none
+    if headed flag W len then ended W len (items_from (changes W) flag W len (header_bits + 32 * deletes W)) else None
 
 -- all fields of some items, and all packed numbers
 unfoldable pub fields_of : List Item → List RawField

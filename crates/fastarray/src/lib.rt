@@ -17,7 +17,7 @@ mod store;
 
 ghost use Rattle.std.specs.Prelude.{◌≡◌, ◌+◌, ◌*◌, ◌≤◌, length};
 ghost use Rattle.bits.specs.Sizes.{longest_window};
-ghost use Rattle.fastarray.specs.Body.{header_bits, window, deleted_from, items_from};
+ghost use Rattle.fastarray.specs.Body.{header_bits, window, deleted_from, items_from, flag_bits_lem};
 ghost use Rattle.fastarray.specs.Records.{deleted_record, store_all};
 ghost use Rattle.fastarray.specs.Parts.{ItemsStored};
 ghost use Rattle.fastarray.specs.Answers.{call, lent, room_for, Answered};
@@ -49,102 +49,119 @@ pub struct Delta {
     pub padded: u32,
 }
 
+// The records that a body needs room for in the lent buffers.
 #[derive(Clone, Copy)]
-pub enum FastArray {
-    Decoded(Delta),
+pub struct Need {
+    pub deletes: u32,
+    pub items: u32,
+    pub fields: u32,
+}
+
+#[derive(Clone, Copy)]
+pub enum Refusal {
     // 1: the window is longer than 524,288 bits.
     TooLong,
     // 6: the bits are no fast-array body, or the bytes are not as many as the bits take.
     NotFastArray,
-    // 3: a lent buffer is too short. The deletes, items and fields that are needed.
-    Short(u32, u32, u32),
+    // 3: a lent buffer is too short.
+    Short(Need),
 }
 
-// ---- what the parts of a reading say
+// ---- what is read, and what the parts of a reading say
+
+// The first `end` bits of the bytes.
+#[derive(Clone, Copy)]
+struct Window<'a> {
+    bytes: &'a [u8],
+    end: u64,
+    ghost held: { end ≤ 8 * length bytes.now },
+    ghost short: { end ≤ longest_window },
+}
 
 // A packed number and its bytes.
 #[derive(Clone, Copy)]
-enum Taken {
-    Broken,
-    Value(u32, u64),
+struct Taken {
+    value: u32,
+    bytes: u64,
 }
 
 // What stands where a handle number is due.
 #[derive(Clone, Copy)]
 enum FieldHead {
-    // A number that can't be read, or a payload that passes the window.
-    Broken,
     // Zero: the bit behind it, and the padded numbers so far.
-    Closes(u64, u64),
-    // The handle, the payload's first bit, its width, and the padded numbers so far.
-    Opens(u32, u64, u32, u64),
+    Closes {
+        next: u64,
+        padded: u64,
+    },
+    // A field, whose payload starts at bit offset, and the padded numbers so far.
+    Opens {
+        handle: u32,
+        offset: u64,
+        width: u32,
+        padded: u64,
+    },
 }
 
-// The fields so far, the bit behind the item, and the padded numbers so far.
+// How far a reading has come.
 #[derive(Clone, Copy)]
-enum FieldsRead {
-    Broken,
-    Read(u64, u64, u64),
-}
-
-// The fields so far, the bit behind the last item, and the padded numbers so far.
-#[derive(Clone, Copy)]
-enum ItemsRead {
-    Broken,
-    Read(u64, u64, u64),
-}
-
-#[derive(Clone, Copy)]
-enum BodyMeasure {
-    NotFastArray,
-    Body(Delta),
+struct Reached {
+    // The fields so far.
+    fields: u64,
+    // The bit behind what was read.
+    next: u64,
+    // The padded numbers so far.
+    padded: u64,
 }
 
 // ---- the call
 
-// Whether the records of such a body fit buffers of these lengths.
-fn has_room(delta: Delta, dlen: usize, ilen: usize, flen: usize) -> bool
-    ensures { result ≡ room_for delta.deletes delta.changes delta.fields dlen ilen flen }
+// What such a body needs.
+fn need_of(delta: Delta) -> Need
+    ensures { result ≡ record { deletes = delta.deletes; items = delta.changes; fields = delta.fields } }
 {
-    let deletes = delta.deletes as usize;
-    let changes = delta.changes as usize;
-    let count = delta.fields as usize;
-    if dlen < deletes {
-        return false;
+    Need {
+        deletes: delta.deletes,
+        items: delta.changes,
+        fields: delta.fields,
     }
-    if ilen / 2 < changes {
-        return false;
-    }
-    count <= flen / 3
+}
+
+// Whether so many records fit buffers of these lengths.
+#[tactic(auto, unfolding(crate::specs::Answers::room_for))]
+fn has_room(need: Need, dlen: usize, ilen: usize, flen: usize) -> bool
+    ensures { result ≡ room_for need.deletes need.items need.fields dlen ilen flen }
+{
+    need.deletes as usize <= dlen
+        && need.items as usize <= ilen / 2
+        && need.fields as usize <= flen / 3
 }
 
 // The second reading, of a body with these counts.
 fn write_body(
-    s: &[u8],
-    end: u64,
-    flag: u64,
+    w: &Window,
+    mode: ChecksumMode,
     delta: Delta,
     deleted: &mut [i32],
     items: &mut [u32],
     fields: &mut [u32],
 )
-    requires { (header_bits + 32 * delta.deletes ≤ end) × (end ≤ 8 * length s.now) × (end ≤ longest_window)
-        × (delta.changes ≤ longest_window) × (flag ≤ 1) }
+    requires { (header_bits + 32 * delta.deletes ≤ w.now.end) × (delta.changes ≤ longest_window) }
     ensures ids { deleted.new ≡ store_all deleted_record deleted.old 0
-        (deleted_from delta.deletes (window s.now end) header_bits) }
+        (deleted_from delta.deletes (window w.now.bytes.now w.now.end) header_bits) }
     ensures stored { ItemsStored
-        (items_from delta.changes flag (window s.now end) end (header_bits + 32 * delta.deletes)) 0 0
+        (items_from delta.changes (flag_bits_lem mode) (window w.now.bytes.now w.now.end) w.now.end (header_bits + 32 * delta.deletes)) 0 0
         items.old fields.old items.new fields.new }
 {
     let deletes = delta.deletes as u64;
     let changes = delta.changes as u64;
-    items::read_deleted(s, HEADER_BITS, end, deletes, deleted);
+    items::read_deleted(w, HEADER_BITS, deletes, deleted);
     let at = HEADER_BITS + 32 * deletes;
-    items::read_items(s, at, end, changes, flag, items, fields);
+    items::read_items(w, at, changes, mode, items, fields);
 }
 
 // The body that the first `bits` bits of the payload are. Deleted ids are an i32 each; an item is two numbers, the bits of its id
 // and how many fields it has; a field is its handle, the first bit of its payload and its width.
+// Items and fields stay flat numbers: the C interface lends them so.
 pub fn decode_fast_array_delta(
     payload: &[u8],
     bits: u32,
@@ -152,33 +169,28 @@ pub fn decode_fast_array_delta(
     deleted: &mut [i32],
     items: &mut [u32],
     fields: &mut [u32],
-) -> FastArray
+) -> Result<Delta, Refusal>
     ensures { Answered (call payload.now bits mode)
         (lent deleted.old items.old fields.old) result
         (lent deleted.new items.new fields.new) }
 {
     if LONGEST_WINDOW < bits {
-        return FastArray::TooLong;
+        return Err(Refusal::TooLong);
     }
     let end = bits as u64;
     let size = ((end + 7) / 8) as usize;
     if payload.len() != size {
-        return FastArray::NotFastArray;
+        return Err(Refusal::NotFastArray);
     }
-    let flag = read::flag_bits(mode);
-    let measured = header::measure(payload, end, flag);
-    match measured {
-        BodyMeasure::NotFastArray => FastArray::NotFastArray,
-        BodyMeasure::Body(delta) => {
-            let room = has_room(delta, deleted.len(), items.len(), fields.len());
-            if !room {
-                let deletes = delta.deletes;
-                let changes = delta.changes;
-                let count = delta.fields;
-                return FastArray::Short(deletes, changes, count);
-            }
-            write_body(payload, end, flag, delta, deleted, items, fields);
-            FastArray::Decoded(delta)
-        }
+    let window = Window {
+        bytes: payload,
+        end,
+    };
+    let delta = header::measure(&window, mode).ok_or(Refusal::NotFastArray)?;
+    let need = need_of(delta);
+    if !has_room(need, deleted.len(), items.len(), fields.len()) {
+        return Err(Refusal::Short(need));
     }
+    write_body(&window, mode, delta, deleted, items, fields);
+    Ok(delta)
 }

@@ -1,13 +1,12 @@
-// Reads inside a window of end bits at the front of the bytes.
-ghost use Rattle.std.specs.Prelude.{◌≡◌, ◌+◌, ◌*◌, ◌≤◌, ◌<◌, length};
+// Reads inside a window.
+ghost use Rattle.std.specs.Prelude.{◌≡◌, ◌+◌, ◌≤◌, ◌<◌};
 ghost use Rattle.bits.specs.Bits.{field};
 ghost use Rattle.bits.specs.Packed.{most_bytes};
 ghost use Rattle.bits.specs.Sizes.{longest_window};
 ghost use Rattle.fastarray.specs.Body.{window, packed_at, signed_at, flag_bits_lem};
 ghost use Rattle.fastarray.specs.Parts.{taken_of, padded_one_lem};
 
-use crate::{ChecksumMode, Taken};
-use bits::Found;
+use crate::{ChecksumMode, Taken, Window};
 
 // The bits between an item's id and its fields.
 pub fn flag_bits(mode: ChecksumMode) -> u64
@@ -20,66 +19,65 @@ pub fn flag_bits(mode: ChecksumMode) -> u64
 }
 
 // The support bit.
-pub fn first_bit(s: &[u8], end: u64) -> u64
-    requires { (1 ≤ end) × (end ≤ 8 * length s.now) }
-    ensures { result ≡ field (window s.now end) 0 1 }
+#[tactic(auto, using(crate::proofs::ReadLaws::window_field))]
+pub fn first_bit(w: &Window) -> u64
+    requires { 1 ≤ w.now.end }
+    ensures { result ≡ field (window w.now.bytes.now w.now.end) 0 1 }
 {
-    bits::field::field_of(s, 0, 1)
+    bits::field::field_of(w.bytes, 0, 1)
 }
 
 // The 32 bits at bit at.
-pub fn word_of(s: &[u8], at: u64, end: u64) -> u32
-    requires { (at + 32 ≤ end) × (end ≤ 8 * length s.now) }
-    ensures { result ≡ field (window s.now end) at 32 }
+#[tactic(auto, using(crate::proofs::ReadLaws::window_field))]
+pub fn word_of(w: &Window, at: u64) -> u32
+    requires { at + 32 ≤ w.now.end }
+    ensures { result ≡ field (window w.now.bytes.now w.now.end) at 32 }
 {
-    let word = bits::field::field_of(s, at, 32);
+    let word = bits::field::field_of(w.bytes, at, 32);
     word as u32
 }
 
 // The same as an i32.
-pub fn signed_of(s: &[u8], at: u64, end: u64) -> i32
-    requires { (at + 32 ≤ end) × (end ≤ 8 * length s.now) }
-    ensures { result ≡ signed_at (window s.now end) at }
+pub fn signed_of(w: &Window, at: u64) -> i32
+    requires { at + 32 ≤ w.now.end }
+    ensures { result ≡ signed_at (window w.now.bytes.now w.now.end) at }
 {
-    let word = word_of(s, at, end);
+    let word = word_of(w, at);
     let raw = word as u64;
     let value = bits::integer::signed(raw, 32);
     value as i32
 }
 
 // The packed number at bit at.
-pub fn number_of(s: &[u8], at: u64, end: u64) -> Taken
-    requires { (at ≤ end) × (end ≤ 8 * length s.now) × (end ≤ longest_window) }
-    ensures { result ≡ taken_of (packed_at (window s.now end) end at) }
+pub fn number_of(w: &Window, at: u64) -> Option<Taken>
+    requires { at ≤ w.now.end }
+    ensures { result ≡ taken_of (packed_at (window w.now.bytes.now w.now.end) w.now.end at) }
 {
-    let number = bits::number::packed_at(s, at, end);
-    match number {
-        Found::Whole(value, n, _) => Taken::Value(value, n),
-        Found::Cut(_) => Taken::Broken,
-        Found::GoesOn => Taken::Broken,
-        Found::Overflows => Taken::Broken,
+    match bits::number::packed_at(w.bytes, at, w.end) {
+        Ok(found) => Some(Taken {
+            value: found.value,
+            bytes: found.bytes,
+        }),
+        Err(_) => None,
     }
 }
 
-// One more than count if a value in n bytes is padded.
-pub fn padded_one(count: u64, value: u32, n: u64) -> u64
-    requires { (count ≤ longest_window) × (n ≤ most_bytes) }
-    ensures { result ≡ count + padded_one_lem value n }
+// One more than count if the number is padded.
+pub fn padded_one(count: u64, number: Taken) -> u64
+    requires { (count ≤ longest_window) × (number.bytes ≤ most_bytes) }
+    ensures { result ≡ count + padded_one_lem number.value number.bytes }
 {
-    if bits::number::is_padded(value, n) {
-        return count + 1;
-    }
-    count
+    count + bits::number::is_padded(number.value, number.bytes) as u64
 }
 
-// The same of two values, in n and in m bytes. Mostly each has one byte; then none is padded.
-pub fn padded_two(count: u64, value: u32, n: u64, second: u32, m: u64) -> u64
-    requires { (count < longest_window) × (1 ≤ n) × (n ≤ most_bytes) × (1 ≤ m) × (m ≤ most_bytes) }
-    ensures { result ≡ count + padded_one_lem value n + padded_one_lem second m }
+// The same of two numbers. Mostly each has one byte; then none is padded.
+pub fn padded_two(count: u64, first: Taken, second: Taken) -> u64
+    requires { (count < longest_window) × (1 ≤ first.bytes) × (first.bytes ≤ most_bytes) × (1 ≤ second.bytes) × (second.bytes ≤ most_bytes) }
+    ensures { result ≡ count + padded_one_lem first.value first.bytes + padded_one_lem second.value second.bytes }
 {
-    if n + m == 2 {
+    if first.bytes + second.bytes == 2 {
         return count;
     }
-    let one = padded_one(count, value, n);
-    padded_one(one, second, m)
+    let one = padded_one(count, first);
+    padded_one(one, second)
 }

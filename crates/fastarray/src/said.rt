@@ -3,9 +3,9 @@ ghost use Rattle.std.specs.Prelude.{◌≡◌};
 ghost use Rattle.bits.specs.Refusals.{refusal};
 ghost use Rattle.fastarray.specs.Refusals.{said, saying_as};
 
-use crate::FastArray;
+use crate::{Delta, Refusal};
 
-// The number, and what the buffers need; of the other refusals the three are 0.
+// The number, and what the buffers need; of the other refusals the three are 0. Numbers stay, since the C interface says them.
 #[derive(Clone, Copy)]
 pub struct Saying {
     pub number: u32,
@@ -25,13 +25,13 @@ fn numbers(number: u32, deletes: u32, items: u32, fields: u32) -> Saying
     }
 }
 
-pub fn said(answer: FastArray) -> Saying
+pub fn said(answer: Result<Delta, Refusal>) -> Saying
     ensures { result ≡ said answer }
 {
     match answer {
-        FastArray::Decoded(_) => numbers(0, 0, 0, 0),
-        FastArray::TooLong => numbers(1, 0, 0, 0),
-        FastArray::NotFastArray => numbers(6, 0, 0, 0),
-        FastArray::Short(deletes, items, fields) => numbers(3, deletes, items, fields),
+        Ok(_) => numbers(0, 0, 0, 0),
+        Err(Refusal::TooLong) => numbers(1, 0, 0, 0),
+        Err(Refusal::NotFastArray) => numbers(6, 0, 0, 0),
+        Err(Refusal::Short(need)) => numbers(3, need.deletes, need.items, need.fields),
     }
 }

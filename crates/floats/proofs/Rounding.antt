@@ -1,5 +1,5 @@
 -- Products and quotients of floats by the fractions that they equal, and where a rounding changes nothing.
-use Rattle.std.proofs.Common.{◌≡◌, ℕ, zero, suc, ◌+◌, ◌-◌, ◌*◌, ◌^◌, ◌<◌, ◌≤◌, Bool, true, false, cond, eqb, ℤ, pos, negsuc, nat_abs, sym, refl, ap, ◌∙◌, subst, lt_of_lt_of_le, lt_irrefl, zero-lt-suc, mul_assoc, mul_comm, mul-pos, one-mul, zero-mul, arith, pow_pos, pow_mono, pow-add, shl_lt}
+use Rattle.std.proofs.Common.{◌≡◌, ℕ, zero, suc, ◌+◌, ◌-◌, ◌*◌, ◌^◌, ◌<◌, ◌≤◌, Bool, true, false, cond, eqb, ℤ, pos, negsuc, nat_abs, sym, refl, ap, ◌∙◌, subst, lt_of_lt_of_le, lt_irrefl, zero-lt-suc, mul_assoc, mul_comm, mul-pos, mul-one, one-mul, zero-mul, arith, pow_pos, pow_mono, pow-add, shl_lt}
 use native.Mathlib.Nat.{mul-mul-mul_comm}
 use lib.Dec.{eqb-suc-zero}
 use lib.Ieee.{Float, nan, inf, fin, Format, binary32, binary64, up, down, unlike, round, mul, div, of_int}
@@ -81,30 +81,41 @@ module _ (k j : ℕ) (y : Float) (step : HasValue y false 45 (2 ^ j)) (h : k < 6
       mul_at binary32 (round binary32 false k 1) y false false k 1 45 (2 ^ j) (zero-lt-suc 0) (pow_pos j) (round_whole binary32 false k (omega arith)) step
       ∙ ap (λ (x : ℕ). round binary32 false x (1 * 2 ^ j)) (mul_comm k 45) ∙ ap (round binary32 false (45 * k)) (one-mul (2 ^ j))
 
-  pub steps_exact : HasValue (mul binary32 (of_int binary32 (pos k)) y) false (45 * k) (2 ^ j)
-  steps_exact = subst (λ (x : Float). HasValue x false (45 * k) (2 ^ j)) (sym steps) (dyadic false (45 * k) j (omega arith) J)
+-- k * 360 / 2 ^ w (01, Bits and numbers) is 45 * k / 2 ^ (w - 3)
+pub angle_over : (w k : ℕ) → 3 ≤ w → round binary32 false (45 * k) (2 ^ (w - 3)) ≡ angle w k
+angle_over w k lo =
+    let p = 2 ^ (w - 3) in
+    let eighths : 2 ^ w ≡ p * 8 = ap (λ (x : ℕ). 2 ^ x) (back lo) ∙ pow-add 2 (w - 3) 3 in
+    let left : 45 * k * 2 ^ w ≡ 45 * (k * p) * 8 = ap (λ (x : ℕ). 45 * k * x) eighths ∙ sym (mul_assoc (45 * k) p 8) ∙ ap (λ (x : ℕ). x * 8) (mul_assoc 45 k p) in
+    let right : k * 360 * p ≡ 360 * (k * p) = ap (λ (x : ℕ). x * p) (mul_comm k 360) ∙ mul_assoc 360 k p in
+    round_same binary32 false (45 * k) p (k * 360) (2 ^ w) (pow_pos (w - 3)) (pow_pos w) (left ∙ omega arith ∙ sym right)
+  where
+    back : 3 ≤ w → w ≡ (w - 3) + 3
+    back h = omega arith
 
--- k * 360 / 2 ^ w (01, Bits and numbers) is 45 * k / 2 ^ (w - 3), at the two widths
-pub angle_byte : (k : ℕ) → round binary32 false (45 * k) 32 ≡ angle 8 k
-angle_byte k = round_same binary32 false (45 * k) 32 (k * 360) 256 (zero-lt-suc 31) (zero-lt-suc 255) (omega arith)
+-- ---- a number of at most 24 digits over a power of 2, as the reader divides it
+pub whole_over : (n j : ℕ) → n ≤ 2 ^ 24 → j ≤ 24 → div binary32 (of_int binary32 (pos n)) (of_int binary32 (pos (2 ^ j))) ≡ round binary32 false n (2 ^ j)
+unfolding of_int
+whole_over n j h J =
+    div_at binary32 (of_int binary32 (pos n)) (of_int binary32 (pos (2 ^ j))) false false n 1 (2 ^ j) 1 (zero-lt-suc 0) (zero-lt-suc 0) (pow_pos j)
+    (round_whole binary32 false n h) (round_whole binary32 false (2 ^ j) (pow_mono {i = j} {j = 24} J))
+    ∙ ap (λ (x : ℕ). round binary32 false x (2 ^ j * 1)) (mul-one n) ∙ ap (round binary32 false n) (mul-one (2 ^ j))
 
-pub angle_short : (k : ℕ) → round binary32 false (45 * k) 8192 ≡ angle 16 k
-angle_short k = round_same binary32 false (45 * k) 8192 (k * 360) 65536 (zero-lt-suc 8191) (zero-lt-suc 65535) (omega arith)
+-- ---- a rotation's angle: no rounding changes it
+module _ (w k : ℕ) (lo : 3 ≤ w) (hi : w ≤ 16) (few : k < 2 ^ w) where
+  small : 45 * k < 2 ^ 24
+  small = let m : 2 ^ w ≤ 2 ^ 16 = pow_mono {i = w} {j = 16} hi in omega arith
 
--- ---- a rotation's angle itself: no rounding changes it
-pub byte_exact : (k : ℕ) → k < 256 → Angle 8 k (angle 8 k)
-byte_exact k h =
-    record {
-      value = refl;
-      exact = subst (λ (x : Float). HasValue x false (45 * k) 32) (angle_byte k) (dyadic false (45 * k) 5 (omega arith) (omega arith));
-    }
+  pub exact_angle : Angle w k (angle w k)
+  exact_angle =
+      record {
+        value = refl;
+        exact = subst (λ (x : Float). HasValue x false (45 * k) (2 ^ (w - 3))) (angle_over w k lo) (dyadic false (45 * k) (w - 3) small (omega arith));
+      }
 
-pub short_exact : (k : ℕ) → k < 65536 → Angle 16 k (angle 16 k)
-short_exact k h =
-    record {
-      value = refl;
-      exact = subst (λ (x : Float). HasValue x false (45 * k) 8192) (angle_short k) (dyadic false (45 * k) 13 (omega arith) (omega arith));
-    }
+  -- so made, it is that angle
+  pub divided_angle : Angle w k (div binary32 (of_int binary32 (pos (45 * k))) (of_int binary32 (pos (2 ^ (w - 3)))))
+  divided_angle = subst (Angle w k) (sym (whole_over (45 * k) (w - 3) (omega (arith, small)) (omega arith) ∙ angle_over w k lo)) exact_angle
 
 -- the angle of 0 is +0
 pub angle_zero : (angle 8 0 ≡ fin false 0 (pos 0)) × (angle 16 0 ≡ fin false 0 (pos 0))

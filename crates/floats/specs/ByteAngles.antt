@@ -12,7 +12,7 @@ thirty_seconds k = 45 * k
 abbrev pub by_the_whole : (k : ℕ) → Float
 by_the_whole k = div binary32 (of_int binary32 (pos (thirty_seconds k))) (of_int binary32 (pos 32))
 
--- the formula that stood in `byte_angle` before, (k as f32) * (360.0 / 256.0), each operation in binary32
+-- the original's formula, (k as f32) * (360.0 / 256.0), each operation in binary32
 abbrev pub by_the_product : (k : ℕ) → Float
 by_the_product k = mul binary32 (of_int binary32 (pos k)) (div binary32 (of_int binary32 (pos 360)) (of_int binary32 (pos 256)))
 

@@ -4,8 +4,9 @@
 
 pub mod byte_angles;
 
-ghost use Rattle.std.specs.Prelude.{◌≡◌, ◌^◌, ◌<◌, ◌≤◌, true, from_bits};
+ghost use Rattle.std.specs.Prelude.{◌≡◌, ℕ, ◌^◌, ◌<◌, ◌≤◌, true, from_bits};
 ghost use Rattle.std.specs.Float.{binary32, binary64};
+ghost use Rattle.std.specs.Float.Ieee.{Format};
 ghost use Rattle.std.specs.Float.Ieee.Scale.{finite};
 ghost use Rattle.bits.specs.TwosComplement.{twos};
 ghost use Rattle.floats.specs.Numbers.{quotient, normal_axis_lem, Angle};
@@ -26,46 +27,58 @@ pub fn normal_axis(k: u32) -> f64
     (((k as i32) - 32768) as f64) / 32767.0
 }
 
-// k steps of 360 / 256 degrees: the table's entry, worked out, over 32.
-pub fn byte_angle(k: u32) -> f32
-    requires { k < 256 }
-    ensures { Angle 8 k result }
+// k steps of 360 / 2^W degrees: 45 k, a byte's entry in the table, over 2^(W - 3).
+pub fn angle<const W: u64>(k: u32) -> f32
+    requires width { (8 ≤ W) × (W ≤ 16) }
+    requires steps { k < 2 ^ W }
+    ensures { Angle W k result }
 {
-    (byte_angles::worked_out(k) as f32) / 32.0
+    (byte_angles::worked_out(k) as f32) / ((1u32 << (W - 3)) as f32)
 }
 
-// k steps of 360 / 65,536 degrees.
-pub fn short_angle(k: u32) -> f32
-    requires { k < 65536 }
-    ensures { Angle 16 k result }
-{
-    (k as f32) * (360.0 / 65536.0)
+// The format of a float that is read as a pattern.
+pub trait Pattern {
+    ghost format: { Format };
+
+    // The bits of a pattern.
+    ghost width: { ℕ };
+
+    // Whether a pattern is that of a finite number: tested before a float is made of it.
+    fn is_finite(n: u64) -> bool
+        requires { n < 2 ^ width }
+        ensures { result ≡ finite (from_bits format n) };
+
+    // A finite pattern as a double: the same number.
+    fn double(n: u64) -> f64
+        requires bits { n < 2 ^ width }
+        requires finite { finite (from_bits format n) ≡ true }
+        ensures { result ≡ from_bits format n };
 }
 
-// Whether a pattern is that of a finite number: tested before a float is made of it.
-pub fn finite_single(n: u32) -> bool
-    ensures { result ≡ finite (from_bits binary32 n) }
-{
-    n % 0x8000_0000 < 0x7f80_0000
+impl Pattern for f32 {
+    ghost format = { binary32 };
+
+    ghost width = { 32 };
+
+    fn is_finite(n: u64) -> bool {
+        n % 0x8000_0000 < 0x7f80_0000
+    }
+
+    fn double(n: u64) -> f64 {
+        f32::from_bits(n as u32) as f64
+    }
 }
 
-pub fn finite_double(n: u64) -> bool
-    ensures { result ≡ finite (from_bits binary64 n) }
-{
-    n % 0x8000_0000_0000_0000 < 0x7ff0_0000_0000_0000
-}
+impl Pattern for f64 {
+    ghost format = { binary64 };
 
-// A finite single's pattern as a double: the same number.
-pub fn double_of_single(n: u32) -> f64
-    requires { finite (from_bits binary32 n) ≡ true }
-    ensures { result ≡ from_bits binary32 n }
-{
-    f32::from_bits(n) as f64
-}
+    ghost width = { 64 };
 
-pub fn double(n: u64) -> f64
-    requires { finite (from_bits binary64 n) ≡ true }
-    ensures { result ≡ from_bits binary64 n }
-{
-    f64::from_bits(n)
+    fn is_finite(n: u64) -> bool {
+        n % 0x8000_0000_0000_0000 < 0x7ff0_0000_0000_0000
+    }
+
+    fn double(n: u64) -> f64 {
+        f64::from_bits(n)
+    }
 }

@@ -2,7 +2,6 @@ pub mod PartLaws
 pub mod RoomLaws
 pub mod VectorLaws
 pub mod RotationLaws
-pub mod MovementLaws
 pub mod CasesProved
 pub mod ExactAngles
 pub mod FiniteVectors

@@ -1,5 +1,5 @@
--- The laws of vectors and normals: what each way through the reads gives.
-use Rattle.std.specs.Prelude.{if◌then◌else◌}
+-- The laws of vectors: what each way through the reads gives.
+use Rattle.std.specs.Prelude.{if◌then◌else◌, Result, Ok, Err}
 use Prim.Native.Nat.{ℕ, ◌/◌, ◌%◌, ◌^◌, ◌≤◌, ◌<◌}
 use mathlib.Core.Path.{◌≡◌, sym, ap, ◌∙◌}
 use mathlib.Core.Bool.{Bool, true, false}
@@ -11,74 +11,58 @@ use lib.Ieee.Scale.{finite}
 use borrow.Author.Tests.{eq-eqb, ne_eqb}
 use Rattle.bits.specs.TwosComplement.{twos}
 use Rattle.bits.proofs.TwosLaws.{twos_bound}
-use Rattle.floats.specs.Numbers.{quotient, normal_axis_lem}
 use Rattle.floats.proofs.Finite.{quotient_finite}
 use Rattle.bitio.specs.Reads.{read_bits_lem}
-use Rattle.bitio.specs.Numbers.{read_serialized_int_lem}
 use Rattle.bitio.specs.declared.Cursor.{Cursor}
+use Rattle.bitio.specs.declared.Read.{Read}
 use Rattle.bitio.specs.declared.Refusal as bitio
-use Rattle.bitio.specs.declared.BitsRead.TheVariants as B
-use Rattle.geometry.specs.Parts.{at, after_read, as_bits, three_at, components_at, Below}
-use Rattle.geometry.specs.Vectors.{vector, checked, vector_of, divisor, vector_behind, header_maximum, quantized_at, normal_of_lem}
-use Rattle.geometry.proofs.PartLaws.{below_at}
+use Rattle.geometry.specs.Parts.{at, and_then, unread, three_at, components_at, Below}
+use Rattle.geometry.specs.Vectors.{components, checked, vector_of, integer_over, divisor, vector_behind, quantized_at}
 use Rattle.geometry.proofs.RoomLaws.{power_maximum}
-use Rattle.geometry.specs.declared.VectorRead.{VectorRead}
-use Rattle.geometry.specs.declared.VectorRead.TheVariants as Vec
-use Rattle.geometry.specs.declared.Refusal.TheVariants.{Unread, NoScale, NotFinite}
+use Rattle.geometry.specs.declared.Vector.{Vector}
+use Rattle.geometry.specs.declared.Refusal.{Refusal}
+use Rattle.geometry.specs.declared.Refusal.TheVariants.{Unread, NotFinite}
 use Rattle.geometry.specs.declared.parts.Part.TheVariants.{Bits}
 use Rattle.geometry.specs.declared.parts.Three.{Three}
-use Rattle.geometry.specs.declared.parts.Three.TheVariants as T
+
+-- ---- what comes after a step of the bit reader
+module _ {A B : Type 0} {a : Result A bitio.Refusal} (next : A → Result B Refusal) where
+  pub onward : {x : A} {v : Result B Refusal} → Ok x ≡ a → v ≡ next x → v ≡ and_then (unread a) next
+  unfolding and_then unread
+  onward e k = let e' = sym e in rw e' k
+
+  pub halted : {r : bitio.Refusal} {v : Result B Refusal} → Err r ≡ a → v ≡ Err (Unread r) → v ≡ and_then (unread a) next
+  unfolding and_then unread
+  halted e k = let e' = sym e in rw e' k
 
 -- ---- the test of three components
-module _ (x y z : Float) (p : ℕ) where
-  pub first_infinite : finite x ≡ false → Vec.Refused (NotFinite p) ≡ checked x y z p
+module _ (v : Read Vector) where
+  pub first_infinite : finite v.value.x ≡ false → Err (NotFinite v.next) ≡ checked v
   unfolding checked
   first_infinite h = rw h
 
-  pub second_infinite : finite x ≡ true → finite y ≡ false → Vec.Refused (NotFinite p) ≡ checked x y z p
+  pub second_infinite : finite v.value.x ≡ true → finite v.value.y ≡ false → Err (NotFinite v.next) ≡ checked v
   unfolding checked
   second_infinite h k = rw (h, k)
 
-  pub third_infinite : finite x ≡ true → finite y ≡ true → finite z ≡ false → Vec.Refused (NotFinite p) ≡ checked x y z p
+  pub third_infinite : finite v.value.x ≡ true → finite v.value.y ≡ true → finite v.value.z ≡ false → Err (NotFinite v.next) ≡ checked v
   unfolding checked
   third_infinite h k l = rw (h, k, l)
 
-  pub all_finite : finite x ≡ true → finite y ≡ true → finite z ≡ true → Vec.Value (vector x y z) p ≡ checked x y z p
+  pub all_finite : finite v.value.x ≡ true → finite v.value.y ≡ true → finite v.value.z ≡ true → Ok v ≡ checked v
   unfolding checked
   all_finite h k l = rw (h, k, l)
 
 -- ---- three integers of w bits over d: every quotient is finite
-fine : (w d x : ℕ) → 1 ≤ w → w ≤ 63 → 0 < d → d < 2 ^ 32 → x < 2 ^ w → finite (quotient (twos w x) d) ≡ true
+fine : (w d x : ℕ) → 1 ≤ w → w ≤ 63 → 0 < d → d < 2 ^ 32 → x < 2 ^ w → finite (integer_over w d x) ≡ true
 fine w d x lo hi D E f = quotient_finite (twos w x) d (twos_bound w x lo hi f) D (omega arith)
 
-pub integers_read : (w d : ℕ) {t : Three} {a b e p : ℕ} {x y z : Float} {v : VectorRead}
-    → 1 ≤ w → w ≤ 63 → 0 < d → d < 2 ^ 32 → Below (2 ^ w) t → t ≡ T.Value a b e p
-    → x ≡ quotient (twos w a) d → y ≡ quotient (twos w b) d → z ≡ quotient (twos w e) d → v ≡ Vec.Value (vector x y z) p
-    → v ≡ vector_of (λ k. quotient (twos w k) d) t
-unfolding vector_of
-integers_read w d {t} {a} {b} {e} {p} {x} {y} {z} {v} lo hi D E small g ex ey ez ev =
-    let k = below_at g small in
-    ev ∙ rw (ex, ey, ez) (all_finite (quotient (twos w a) d) (quotient (twos w b) d) (quotient (twos w e) d) p (fine w d a lo hi D E k.0) (fine w d b lo hi D E k.1) (fine w d e lo hi D E k.2))
-    ∙ sym (ap (vector_of (λ k. quotient (twos w k) d)) g)
-
--- ---- a vector whose components are refused, or are read
-pub vector_refused : (f : ℕ → Float) {t : Three} {r : bitio.Refusal} → t ≡ T.Refused r → Vec.Refused (Unread r) ≡ vector_of f t
-unfolding vector_of
-vector_refused f g = sym (ap (vector_of f) g)
-
-pub vector_read : (f : ℕ → Float) {t : Three} {a b e p : ℕ} {v : VectorRead} → t ≡ T.Value a b e p → v ≡ checked (f a) (f b) (f e) p → v ≡ vector_of f t
-unfolding vector_of
-vector_read f g k = k ∙ sym (ap (vector_of f) g)
+integers_checked : (w d : ℕ) (t : Read Three) → 1 ≤ w → w ≤ 63 → 0 < d → d < 2 ^ 32 → Below (2 ^ w) t.value
+    → Ok (components (integer_over w d) t) ≡ checked (components (integer_over w d) t)
+integers_checked w d t lo hi D E b =
+    all_finite (components (integer_over w d) t) (fine w d t.value.x lo hi D E b.below_x) (fine w d t.value.y lo hi D E b.below_y) (fine w d t.value.z lo hi D E b.below_z)
 
 -- ---- the divisor
-pub divisor_one : (e d : ℕ) → e ≡ 0 → 1 ≡ divisor e d
-unfolding divisor
-divisor_one e d h = sym (simp (eq-eqb e 0 h))
-
-pub divisor_scale : (e d : ℕ) → (e ≡ 0 → ⊥) → d ≡ divisor e d
-unfolding divisor
-divisor_scale e d h = sym (simp (ne_eqb e 0 h))
-
 pub divisor_pos : (e d : ℕ) {k : ℕ} → 0 < d → k ≡ divisor e d → 0 < k
 unfolding divisor
 divisor_pos e d h g = rw g (go (eqb e 0))
@@ -88,51 +72,41 @@ divisor_pos e d h g = rw g (go (eqb e 0))
     go false = h
 
 -- ---- behind a header
-module _ (s : List ℕ) (scale w e : ℕ) (c : Cursor) {t : Three} {v : VectorRead} where
-  pub singles_behind : w ≡ 0 → e ≡ 0 → t ≡ three_at s (Bits 32) c → v ≡ vector_of (of_bits binary32) t → v ≡ vector_behind s scale w e c
-  unfolding vector_behind
-  singles_behind hw he et ev = ev ∙ ap (vector_of (of_bits binary32)) et ∙ sym (simp (eq-eqb w 0 hw, eq-eqb e 0 he))
-
-  pub doubles_behind : w ≡ 0 → (e ≡ 0 → ⊥) → t ≡ three_at s (Bits 64) c → v ≡ vector_of (of_bits binary64) t → v ≡ vector_behind s scale w e c
-  unfolding vector_behind
-  doubles_behind hw he et ev = ev ∙ ap (vector_of (of_bits binary64)) et ∙ sym (simp (eq-eqb w 0 hw, ne_eqb e 0 he))
-
-  pub integers_behind : {d : ℕ} → (w ≡ 0 → ⊥) → d ≡ divisor e scale → t ≡ components_at s w c → v ≡ vector_of (λ x. quotient (twos w x) d) t
+module _ (s : List ℕ) (scale w e : ℕ) (c : Cursor) where
+  pub singles_behind : {v : Result (Read Vector) Refusal} → w ≡ 0 → e ≡ 0 → v ≡ vector_of (of_bits binary32) (three_at s (Bits 32) c)
       → v ≡ vector_behind s scale w e c
   unfolding vector_behind
-  integers_behind hw ed et ev =
-      ev ∙ ap (λ (k : ℕ). vector_of (λ x. quotient (twos w x) k) t) ed
-      ∙ ap (vector_of (λ x. quotient (twos w x) (divisor e scale))) et
-      ∙ sym (simp (ne_eqb w 0 hw))
+  singles_behind hw he ev = ev ∙ sym (simp (eq-eqb w 0 hw, eq-eqb e 0 he))
 
--- ---- a header, and what is behind it
-header_bits_lem : (s : List ℕ) (c : Cursor) → as_bits (read_serialized_int_lem s c header_maximum) ≡ read_bits_lem s c 7
-header_bits_lem s c = power_maximum s c 7 (omega arith)
+  pub doubles_behind : {v : Result (Read Vector) Refusal} → w ≡ 0 → (e ≡ 0 → ⊥) → v ≡ vector_of (of_bits binary64) (three_at s (Bits 64) c)
+      → v ≡ vector_behind s scale w e c
+  unfolding vector_behind
+  doubles_behind hw he ev = ev ∙ sym (simp (eq-eqb w 0 hw, ne_eqb e 0 he))
 
-module _ (s : List ℕ) (scale : ℕ) (c : Cursor) where
-  pub header_refused : {r : bitio.Refusal} → read_bits_lem s c 7 ≡ B.Refused r → Vec.Refused (Unread r) ≡ quantized_at s scale c
-  unfolding quantized_at after_read
-  header_refused g = let e = header_bits_lem s c ∙ g in rw e
+  pub integers_behind : {d : ℕ} {v : Result (Read Vector) Refusal} → (w ≡ 0 → ⊥) → d ≡ divisor e scale
+      → v ≡ vector_of (integer_over w d) (components_at s w c) → v ≡ vector_behind s scale w e c
+  unfolding vector_behind
+  integers_behind hw ed ev =
+      ev ∙ ap (λ (k : ℕ). vector_of (integer_over w k) (components_at s w c)) ed ∙ sym (simp (ne_eqb w 0 hw))
 
-  pub header_read : {h p : ℕ} {d : Cursor} {v : VectorRead}
-      → read_bits_lem s c 7 ≡ B.Value h p → d ≡ at c p → v ≡ vector_behind s scale (h % 64) (h / 64) d → v ≡ quantized_at s scale c
-  unfolding quantized_at after_read
-  header_read {h} g m ev = let e = header_bits_lem s c ∙ g in ev ∙ ap (vector_behind s scale (h % 64) (h / 64)) m ∙ sym (rw e)
+-- ---- a vector whose components are refused, or are read
+module _ (f : ℕ → Float) {r : Result (Read Three) bitio.Refusal} where
+  pub vector_refused : {q : bitio.Refusal} {v : Result (Read Vector) Refusal} → Err q ≡ r → v ≡ Err (Unread q) → v ≡ vector_of f r
+  unfolding vector_of
+  vector_refused e k = halted _ e k
 
--- ---- a normal
-pub normal_read : {t : Three} {a b e p : ℕ} {x y z : Float} {v : VectorRead}
-    → t ≡ T.Value a b e p → x ≡ normal_axis_lem a → y ≡ normal_axis_lem b → z ≡ normal_axis_lem e → v ≡ Vec.Value (vector x y z) p → v ≡ normal_of_lem t
-unfolding normal_of_lem
-normal_read g ex ey ez ev = ev ∙ rw (ex, ey, ez) (sym (ap normal_of_lem g))
+  pub vector_read : {t : Read Three} {v : Result (Read Vector) Refusal} → Ok t ≡ r → v ≡ checked (components f t) → v ≡ vector_of f r
+  unfolding vector_of
+  vector_read e k = onward _ e k
 
-pub normal_refused : {t : Three} {r : bitio.Refusal} → t ≡ T.Refused r → Vec.Refused (Unread r) ≡ normal_of_lem t
-unfolding normal_of_lem
-normal_refused g = sym (ap normal_of_lem g)
+pub integers_read : (w d : ℕ) {r : Result (Read Three) bitio.Refusal} {t : Read Three} {v : Read Vector} → 1 ≤ w → w ≤ 63 → 0 < d → d < 2 ^ 32
+    → Below (2 ^ w) t.value → Ok t ≡ r → v ≡ components (integer_over w d) t → Ok v ≡ vector_of (integer_over w d) r
+integers_read w d {t = t} lo hi D E b e ev = ap Ok ev ∙ vector_read (integer_over w d) e (integers_checked w d t lo hi D E b)
 
--- ---- the public call, behind the test of the cursor
-pub no_scale : (s : List ℕ) (c : Cursor) (n : ℕ) → n ≡ 0 → Vec.Refused NoScale ≡ (if eqb n 0 then Vec.Refused NoScale else quantized_at s n c)
-no_scale s c n h = sym (simp (eq-eqb n 0 h))
-
-pub some_scale : (s : List ℕ) (c : Cursor) (n : ℕ) {v : VectorRead} → (n ≡ 0 → ⊥) → v ≡ quantized_at s n c
-    → v ≡ (if eqb n 0 then Vec.Refused NoScale else quantized_at s n c)
-some_scale s c n h e = e ∙ sym (simp (ne_eqb n 0 h))
+-- ---- a header is seven bits
+pub by_seven_bits : (s : List ℕ) (scale : ℕ) (c : Cursor)
+    → quantized_at s scale c ≡ and_then (unread (read_bits_lem s c 7)) (λ h. vector_behind s scale (h.value % 64) (h.value / 64) (at c h.next))
+unfolding quantized_at
+by_seven_bits s scale c =
+    ap (λ (r : Result (Read ℕ) bitio.Refusal). and_then (unread r) (λ h. vector_behind s scale (h.value % 64) (h.value / 64) (at c h.next)))
+    (power_maximum s c 7 (omega arith))

@@ -1,12 +1,10 @@
 -- Document 01's proved case 14: a movement of scale 1 and width 8 in the bytes 10 08 02 00.
-use Rattle.std.specs.Prelude.{false, List, [], ◌∷◌, ℕ, pos, negsuc}
+use Rattle.std.specs.Prelude.{false, List, [], ◌∷◌, ℕ, pos, negsuc, None}
 use Rattle.std.specs.Float.{binary32, binary64}
 use Rattle.std.specs.Float.Ieee.{of_int}
 use Rattle.geometry.specs.Vectors.{vector}
 use Rattle.geometry.specs.Rotations.{rotation}
 use Rattle.geometry.specs.declared.Movement.{Movement}
-use Rattle.geometry.specs.declared.Spin.TheVariants as spin
-use Rattle.geometry.specs.declared.OptionalNumber.TheVariants as number
 
 abbrev pub bytes : List ℕ
 bytes = 0x10 ∷ 0x08 ∷ 0x02 ∷ 0x00 ∷ []
@@ -20,10 +18,10 @@ moved =
       location = vector (of_int binary64 (negsuc 0)) zero zero;
       rotation = rotation level level level;
       linear = vector zero zero zero;
-      angular = spin.Absent;
+      angular = None;
       sleep = false;
       physics = false;
-      frame = number.Absent;
-      handle = number.Absent;
+      frame = None;
+      handle = None;
       padded = 0;
     }

@@ -1,11 +1,9 @@
 -- What is sound in what was read: a vector's components are finite, a rotation's angles exact.
-use Rattle.std.specs.Prelude.{ℕ, ◌^◌, ◌<◌, ◌≡◌, true, Float}
+use Rattle.std.specs.Prelude.{ℕ, ◌^◌, ◌<◌, ◌≡◌, true, Float, Option, None, Some}
 use Rattle.std.specs.Float.Ieee.Scale.{finite}
 use Rattle.floats.specs.Numbers.{Angle}
 use Rattle.geometry.specs.declared.Vector.{Vector}
 use Rattle.geometry.specs.declared.Rotation.{Rotation}
-use Rattle.geometry.specs.declared.Spin.{Spin}
-use Rattle.geometry.specs.declared.Spin.TheVariants as spin
 use Rattle.geometry.specs.declared.Movement.{Movement}
 
 -- none of three floats is a NaN or infinite
@@ -32,9 +30,9 @@ abbrev pub ExactRotation : (w : ℕ) → Rotation → Type 0
 ExactRotation w v = AllExact w v.pitch v.yaw v.roll
 
 -- an angular velocity, if there is one
-abbrev pub FiniteSpin : Spin → Type 0
-FiniteSpin spin.Absent = Unit {0}
-FiniteSpin (spin.Present v) = FiniteVector v
+abbrev pub FiniteSpin : Option Vector → Type 0
+FiniteSpin None = Unit {0}
+FiniteSpin (Some v) = FiniteVector v
 
 -- a movement whose angles have w bits
 pub record SoundMovement (w : ℕ) (m : Movement) : Type 0 where

@@ -24,8 +24,9 @@ ghost use Rattle.geometry.specs.Vectors.{read_vector, read_normal};
 ghost use Rattle.geometry.specs.Rotations.{read_rotation_lem};
 ghost use Rattle.geometry.specs.ByteAngles.{byte_angle_steps_lem};
 ghost use Rattle.geometry.specs.Movements.{read_movement};
+ghost use Rattle.geometry.specs.declared.Refusal.TheVariants.{Unread};
 
-use bitio::{Cursor, Measured, Opened};
+use bitio::{Cursor, Read};
 
 // ---- values
 
@@ -44,30 +45,17 @@ pub struct Rotation {
     pub roll: f32,
 }
 
-// An angular velocity: absent is never a zero.
-#[derive(Clone, Copy)]
-pub enum Spin {
-    Absent,
-    Present(Vector),
-}
-
-// A server's frame or a physics handle: absent is never a zero.
-#[derive(Clone, Copy)]
-pub enum OptionalNumber {
-    Absent,
-    Present(u32),
-}
-
+// What is absent is None and never a zero.
 #[derive(Clone, Copy)]
 pub struct Movement {
     pub location: Vector,
     pub rotation: Rotation,
     pub linear: Vector,
-    pub angular: Spin,
+    pub angular: Option<Vector>,
     pub sleep: bool,
     pub physics: bool,
-    pub frame: OptionalNumber,
-    pub handle: OptionalNumber,
+    pub frame: Option<u32>,
+    pub handle: Option<u32>,
     // How many of frame and handle took more bytes than they need: 0, 1 or 2.
     pub padded: u32,
 }
@@ -90,8 +78,6 @@ pub enum VectorQuantization {
     RoundTwoDecimals,
 }
 
-// ---- answers
-
 // Why a call gives no value, with the values of document 01's table.
 #[derive(Clone, Copy)]
 pub enum Refusal {
@@ -105,84 +91,66 @@ pub enum Refusal {
     NoSuchWidth,
 }
 
-// What was read, and the next position.
-#[derive(Clone, Copy)]
-pub enum VectorRead {
-    Value(Vector, u64),
-    Refused(Refusal),
-}
+impl From<bitio::Refusal> for Refusal {
+    ghost from_gives = { λ r why. why ≡ Unread r };
 
-#[derive(Clone, Copy)]
-pub enum RotationRead {
-    Value(Rotation, u64),
-    Refused(Refusal),
-}
-
-// The bits used stand in the place of the next position: a movement starts at bit 0.
-#[derive(Clone, Copy)]
-pub enum MovementRead {
-    Value(Movement, u64),
-    Refused(Refusal),
+    fn from(r: bitio::Refusal) -> Refusal {
+        Refusal::Unread(r)
+    }
 }
 
 // ---- calls
 
 // A quantized vector. Refusals: 14 for a bad cursor, 11, then 7 and 12.
-pub fn read_vector_net_quantize(bytes: &[u8], c: Cursor, scale: u32) -> VectorRead
+pub fn read_vector_net_quantize(
+    bytes: &[u8],
+    c: Cursor,
+    scale: u32,
+) -> Result<Read<Vector>, Refusal>
     ensures { result ≡ read_vector bytes.now c scale }
 {
-    let found = bitio::position(bytes, c);
-    match found {
-        Measured::Value(_) => {
-            if scale == 0 {
-                return VectorRead::Refused(Refusal::NoScale);
-            }
-            vectors::quantized(bytes, c, scale)
-        }
-        Measured::Refused(r) => VectorRead::Refused(Refusal::Unread(r)),
+    bitio::position(bytes, c)?;
+    if scale == 0 {
+        return Err(Refusal::NoScale);
     }
+    vectors::quantized(bytes, c, scale)
 }
 
 // A fixed-point normal. Refusals: 14 for a bad cursor, then 7.
-pub fn read_fixed_vector_normal(bytes: &[u8], c: Cursor) -> VectorRead
+pub fn read_fixed_vector_normal(bytes: &[u8], c: Cursor) -> Result<Read<Vector>, Refusal>
     ensures { result ≡ read_normal bytes.now c }
 {
-    let axes = parts::three_shorts(bytes, c);
-    vectors::normal_of(axes)
+    let axes = parts::three_shorts(bytes, c)?;
+    Ok(vectors::normal_of(axes))
 }
 
 // A rotation of 8 or 16 bits an axis. Refusals: 14 for a bad cursor, 13, then 7. The axes' reads test the cursor, so it is asked
 // by itself only where nothing is read.
-pub fn read_rotation(bytes: &[u8], c: Cursor, width: u32) -> RotationRead
+pub fn read_rotation(bytes: &[u8], c: Cursor, width: u32) -> Result<Read<Rotation>, Refusal>
     ensures { result ≡ read_rotation_lem bytes.now c width }
 {
     if width == 8 {
-        return rotations::byte_rotation(bytes, c);
+        return rotations::read::<8>(bytes, c);
     }
     if width == 16 {
-        return rotations::short_rotation(bytes, c);
+        return rotations::read::<16>(bytes, c);
     }
-    let found = bitio::position(bytes, c);
-    match found {
-        Measured::Value(_) => RotationRead::Refused(Refusal::NoSuchWidth),
-        Measured::Refused(r) => RotationRead::Refused(Refusal::Unread(r)),
-    }
+    bitio::position(bytes, c)?;
+    Err(Refusal::NoSuchWidth)
 }
 
-// The movement record in the first `count` bits; bits may be left over. Refusals: 1, 14, then those of its parts.
+// The movement record in the first `count` bits; bits may be left over. The bits used stand in the place of the next position, as a
+// movement starts at bit 0. Refusals: 1, 14, then those of its parts.
 pub fn read_rep_movement(
     bytes: &[u8],
     count: u64,
     rotation: RotatorQuantization,
     location: VectorQuantization,
-) -> MovementRead
+) -> Result<Read<Movement>, Refusal>
     ensures { result ≡ read_movement bytes.now count rotation location }
 {
-    let opened = bitio::open(bytes, count);
-    match opened {
-        Opened::Reader(c) => movements::read_record(bytes, c, rotation, location),
-        Opened::Refused(r) => MovementRead::Refused(Refusal::Unread(r)),
-    }
+    let c = bitio::open(bytes, count)?;
+    movements::read_record(bytes, c, rotation, location)
 }
 
 // A byte's angle as a whole number: thirty-seconds of a degree, 45 times the byte. A number above 255 is no byte and gets

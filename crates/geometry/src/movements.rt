@@ -1,14 +1,13 @@
 // Movement records.
 ghost use Rattle.std.specs.Prelude.{◌≡◌};
 ghost use Rattle.geometry.specs.Rotations.{rotation_at};
-ghost use Rattle.geometry.specs.declared.MovementRead.TheVariants as Read;
 ghost use Rattle.geometry.specs.Movements.{width_of, scale_of, flags_at, pose_at, spin_at, flagged_at, how_many_lem, extras_at, movement, movement_at};
 
 use crate::{
-    Movement, MovementRead, OptionalNumber, Refusal, Rotation, RotationRead, RotatorQuantization,
-    Spin, Vector, VectorQuantization, VectorRead, parts, rotations, vectors,
+    Movement, Refusal, Rotation, RotatorQuantization, Vector, VectorQuantization, rotations,
+    vectors,
 };
-use bitio::{BitRead, Cursor, PackedRead, Skipped};
+use bitio::{Cursor, Read};
 
 // The four bits that a record starts with.
 #[derive(Clone, Copy)]
@@ -27,111 +26,83 @@ pub struct Pose {
     pub linear: Vector,
 }
 
+// A packed number that a flag announces, and whether it is padded.
+#[derive(Clone, Copy)]
+pub struct Flagged {
+    pub number: Option<u32>,
+    pub padded: bool,
+}
+
 // What the flags announce.
 #[derive(Clone, Copy)]
 pub struct Extras {
-    pub angular: Spin,
-    pub frame: OptionalNumber,
-    pub handle: OptionalNumber,
+    pub angular: Option<Vector>,
+    pub frame: Option<u32>,
+    pub handle: Option<u32>,
     // How many of these two are padded.
     pub padded: u32,
 }
 
-#[derive(Clone, Copy)]
-pub enum FlagsRead {
-    Value(Flags, u64),
-    Refused(Refusal),
-}
-
-#[derive(Clone, Copy)]
-pub enum PoseRead {
-    Value(Pose, u64),
-    Refused(Refusal),
-}
-
-#[derive(Clone, Copy)]
-pub enum SpinRead {
-    Value(Spin, u64),
-    Refused(Refusal),
-}
-
-// The number, the next position, and whether the number is padded.
-#[derive(Clone, Copy)]
-pub enum OptionalNumberRead {
-    Value(OptionalNumber, u64, bool),
-    Refused(Refusal),
-}
-
-#[derive(Clone, Copy)]
-pub enum ExtrasRead {
-    Value(Extras, u64),
-    Refused(Refusal),
-}
-
 // One after another: where there are fewer than four, this says which is refused.
-fn single_flags(bytes: &[u8], c: Cursor) -> FlagsRead
+fn single_flags(bytes: &[u8], c: Cursor) -> Result<Read<Flags>, Refusal>
     ensures { result ≡ flags_at bytes.now c }
 {
-    let first = bitio::read_bit(bytes, c);
-    match first {
-        BitRead::Value(sleep, at1) => {
-            let c1 = parts::moved(c, at1);
-            let second = bitio::read_bit(bytes, c1);
-            match second {
-                BitRead::Value(physics, at2) => {
-                    let c2 = parts::moved(c, at2);
-                    let third = bitio::read_bit(bytes, c2);
-                    match third {
-                        BitRead::Value(frame, at3) => {
-                            let c3 = parts::moved(c, at3);
-                            let fourth = bitio::read_bit(bytes, c3);
-                            match fourth {
-                                BitRead::Value(handle, at4) => {
-                                    let f = Flags {
-                                        sleep,
-                                        physics,
-                                        frame,
-                                        handle,
-                                    };
-                                    FlagsRead::Value(f, at4)
-                                }
-                                BitRead::Refused(r) => FlagsRead::Refused(Refusal::Unread(r)),
-                            }
-                        }
-                        BitRead::Refused(r) => FlagsRead::Refused(Refusal::Unread(r)),
-                    }
-                }
-                BitRead::Refused(r) => FlagsRead::Refused(Refusal::Unread(r)),
-            }
-        }
-        BitRead::Refused(r) => FlagsRead::Refused(Refusal::Unread(r)),
-    }
+    let sleep = bitio::read_bit(bytes, c)?;
+    let physics = bitio::read_bit(
+        bytes,
+        Cursor {
+            pos: sleep.next,
+            ..c
+        },
+    )?;
+    let frame = bitio::read_bit(
+        bytes,
+        Cursor {
+            pos: physics.next,
+            ..c
+        },
+    )?;
+    let handle = bitio::read_bit(
+        bytes,
+        Cursor {
+            pos: frame.next,
+            ..c
+        },
+    )?;
+    let value = Flags {
+        sleep: sleep.value,
+        physics: physics.value,
+        frame: frame.value,
+        handle: handle.value,
+    };
+    Ok(Read {
+        value,
+        next: handle.next,
+    })
 }
 
-fn read_flags(bytes: &[u8], c: Cursor) -> FlagsRead
+fn read_flags(bytes: &[u8], c: Cursor) -> Result<Read<Flags>, Refusal>
     ensures { result ≡ flags_at bytes.now c }
 {
-    let room = bitio::skip_bits(bytes, c, 4);
-    match room {
-        Skipped::Done(next) => {
-            let first = c.start + c.pos;
-            let four = bits::field::field_at(bytes, first, 4);
-            let sleep = four % 2 == 1;
-            let physics = four / 2 % 2 == 1;
-            let frame = four / 4 % 2 == 1;
-            let handle = four / 8 % 2 == 1;
-            let f = Flags {
-                sleep,
-                physics,
-                frame,
-                handle,
-            };
-            FlagsRead::Value(f, next)
-        }
-        Skipped::Refused(_) => single_flags(bytes, c),
-    }
+    let Ok(next) = bitio::skip_bits(bytes, c, 4) else {
+        return single_flags(bytes, c);
+    };
+    let first = c.start + c.pos;
+    let four = bits::field::field_at(bytes, first, 4);
+    let sleep = four % 2 == 1;
+    let physics = four / 2 % 2 == 1;
+    let frame = four / 4 % 2 == 1;
+    let handle = four / 8 % 2 == 1;
+    let value = Flags {
+        sleep,
+        physics,
+        frame,
+        handle,
+    };
+    Ok(Read { value, next })
 }
 
+// A function, since tools/audit reads no method of a type that callers can name.
 fn scale_of(q: VectorQuantization) -> u32
     ensures { result ≡ scale_of q }
 {
@@ -142,12 +113,12 @@ fn scale_of(q: VectorQuantization) -> u32
     }
 }
 
-fn read_rotation(bytes: &[u8], c: Cursor, q: RotatorQuantization) -> RotationRead
+fn read_rotation(bytes: &[u8], c: Cursor, q: RotatorQuantization) -> Result<Read<Rotation>, Refusal>
     ensures { result ≡ rotation_at bytes.now (width_of q) c }
 {
     match q {
-        RotatorQuantization::ByteComponents => rotations::byte_rotation(bytes, c),
-        RotatorQuantization::ShortComponents => rotations::short_rotation(bytes, c),
+        RotatorQuantization::ByteComponents => rotations::read::<8>(bytes, c),
+        RotatorQuantization::ShortComponents => rotations::read::<16>(bytes, c),
     }
 }
 
@@ -156,146 +127,117 @@ fn read_pose(
     c: Cursor,
     rotation: RotatorQuantization,
     location: VectorQuantization,
-) -> PoseRead
+) -> Result<Read<Pose>, Refusal>
     ensures { result ≡ pose_at bytes.now rotation location c }
 {
-    let scale = scale_of(location);
-    let place = vectors::quantized(bytes, c, scale);
-    match place {
-        VectorRead::Value(at, at1) => {
-            let c1 = parts::moved(c, at1);
-            let turn = read_rotation(bytes, c1, rotation);
-            match turn {
-                RotationRead::Value(turned, at2) => {
-                    let c2 = parts::moved(c, at2);
-                    let speed = vectors::quantized(bytes, c2, 1);
-                    match speed {
-                        VectorRead::Value(linear, at3) => {
-                            let p = Pose {
-                                location: at,
-                                rotation: turned,
-                                linear,
-                            };
-                            PoseRead::Value(p, at3)
-                        }
-                        VectorRead::Refused(r) => PoseRead::Refused(r),
-                    }
-                }
-                RotationRead::Refused(r) => PoseRead::Refused(r),
-            }
-        }
-        VectorRead::Refused(r) => PoseRead::Refused(r),
-    }
+    let place = vectors::quantized(bytes, c, scale_of(location))?;
+    let behind = Cursor {
+        pos: place.next,
+        ..c
+    };
+    let turn = read_rotation(bytes, behind, rotation)?;
+    let last = Cursor {
+        pos: turn.next,
+        ..c
+    };
+    let linear = vectors::quantized(bytes, last, 1)?;
+    let value = Pose {
+        location: place.value,
+        rotation: turn.value,
+        linear: linear.value,
+    };
+    Ok(Read {
+        value,
+        next: linear.next,
+    })
 }
 
 // The angular velocity, if there is one.
-fn read_spin(bytes: &[u8], c: Cursor, physics: bool) -> SpinRead
+fn read_spin(bytes: &[u8], c: Cursor, physics: bool) -> Result<Read<Option<Vector>>, Refusal>
     ensures { result ≡ spin_at bytes.now physics c }
 {
     if !physics {
-        let pos = c.pos;
-        return SpinRead::Value(Spin::Absent, pos);
+        return Ok(Read {
+            value: None,
+            next: c.pos,
+        });
     }
-    let read = vectors::quantized(bytes, c, 1);
-    match read {
-        VectorRead::Value(v, next) => {
-            let spin = Spin::Present(v);
-            SpinRead::Value(spin, next)
-        }
-        VectorRead::Refused(r) => SpinRead::Refused(r),
-    }
+    let v = vectors::quantized(bytes, c, 1)?;
+    Ok(Read {
+        value: Some(v.value),
+        next: v.next,
+    })
 }
 
 // A packed number, if there is one.
-fn read_number(bytes: &[u8], c: Cursor, there: bool) -> OptionalNumberRead
+fn read_number(bytes: &[u8], c: Cursor, there: bool) -> Result<Read<Flagged>, Refusal>
     ensures { result ≡ flagged_at bytes.now there c }
 {
     if !there {
-        let pos = c.pos;
-        return OptionalNumberRead::Value(OptionalNumber::Absent, pos, false);
+        let value = Flagged {
+            number: None,
+            padded: false,
+        };
+        return Ok(Read { value, next: c.pos });
     }
-    let read = bitio::read_int_packed(bytes, c);
-    match read {
-        PackedRead::Value(n, next) => {
-            let value = n.value;
-            let padded = n.padded;
-            let number = OptionalNumber::Present(value);
-            OptionalNumberRead::Value(number, next, padded)
-        }
-        PackedRead::Refused(r) => OptionalNumberRead::Refused(Refusal::Unread(r)),
-    }
+    let n = bitio::read_int_packed(bytes, c)?;
+    let value = Flagged {
+        number: Some(n.value.value),
+        padded: n.value.padded,
+    };
+    Ok(Read {
+        value,
+        next: n.next,
+    })
 }
 
 // How many of the two hold.
 fn how_many(one: bool, other: bool) -> u32
     ensures { result ≡ how_many_lem one other }
 {
-    if one {
-        if other {
-            return 2;
-        }
-        return 1;
-    }
-    if other { 1 } else { 0 }
+    one as u32 + other as u32
 }
 
-fn read_extras(bytes: &[u8], c: Cursor, physics: bool, frame: bool, handle: bool) -> ExtrasRead
-    ensures { result ≡ extras_at bytes.now physics frame handle c }
+fn read_extras(bytes: &[u8], c: Cursor, announced: Flags) -> Result<Read<Extras>, Refusal>
+    ensures { result ≡ extras_at bytes.now announced.physics announced.frame announced.handle c }
 {
-    let first = read_spin(bytes, c, physics);
-    match first {
-        SpinRead::Value(angular, at1) => {
-            let c1 = parts::moved(c, at1);
-            let second = read_number(bytes, c1, frame);
-            match second {
-                OptionalNumberRead::Value(f, at2, first_padded) => {
-                    let c2 = parts::moved(c, at2);
-                    let third = read_number(bytes, c2, handle);
-                    match third {
-                        OptionalNumberRead::Value(h, at3, second_padded) => {
-                            let padded = how_many(first_padded, second_padded);
-                            let x = Extras {
-                                angular,
-                                frame: f,
-                                handle: h,
-                                padded,
-                            };
-                            ExtrasRead::Value(x, at3)
-                        }
-                        OptionalNumberRead::Refused(r) => ExtrasRead::Refused(r),
-                    }
-                }
-                OptionalNumberRead::Refused(r) => ExtrasRead::Refused(r),
-            }
-        }
-        SpinRead::Refused(r) => ExtrasRead::Refused(r),
-    }
-}
-
-fn whole(f: Flags, p: Pose, x: Extras, next: u64) -> MovementRead
-    ensures { result ≡ Read.Value (movement f p x) next }
-{
-    let location = p.location;
-    let rotation = p.rotation;
-    let linear = p.linear;
-    let angular = x.angular;
-    let sleep = f.sleep;
-    let physics = f.physics;
-    let frame = x.frame;
-    let handle = x.handle;
-    let padded = x.padded;
-    let m = Movement {
-        location,
-        rotation,
-        linear,
-        angular,
-        sleep,
-        physics,
-        frame,
-        handle,
-        padded,
+    let spin = read_spin(bytes, c, announced.physics)?;
+    let behind = Cursor {
+        pos: spin.next,
+        ..c
     };
-    MovementRead::Value(m, next)
+    let frame = read_number(bytes, behind, announced.frame)?;
+    let last = Cursor {
+        pos: frame.next,
+        ..c
+    };
+    let handle = read_number(bytes, last, announced.handle)?;
+    let value = Extras {
+        angular: spin.value,
+        frame: frame.value.number,
+        handle: handle.value.number,
+        padded: how_many(frame.value.padded, handle.value.padded),
+    };
+    Ok(Read {
+        value,
+        next: handle.next,
+    })
+}
+
+fn whole(f: Flags, p: Pose, x: Extras) -> Movement
+    ensures { result ≡ movement f p x }
+{
+    Movement {
+        location: p.location,
+        rotation: p.rotation,
+        linear: p.linear,
+        angular: x.angular,
+        sleep: f.sleep,
+        physics: f.physics,
+        frame: x.frame,
+        handle: x.handle,
+        padded: x.padded,
+    }
 }
 
 // The movement record at a cursor.
@@ -304,29 +246,14 @@ pub fn read_record(
     c: Cursor,
     rotation: RotatorQuantization,
     location: VectorQuantization,
-) -> MovementRead
+) -> Result<Read<Movement>, Refusal>
     ensures { result ≡ movement_at bytes.now rotation location c }
 {
-    let first = read_flags(bytes, c);
-    match first {
-        FlagsRead::Value(f, at1) => {
-            let c1 = parts::moved(c, at1);
-            let second = read_pose(bytes, c1, rotation, location);
-            match second {
-                PoseRead::Value(p, at2) => {
-                    let c2 = parts::moved(c, at2);
-                    let physics = f.physics;
-                    let frame = f.frame;
-                    let handle = f.handle;
-                    let third = read_extras(bytes, c2, physics, frame, handle);
-                    match third {
-                        ExtrasRead::Value(x, at3) => whole(f, p, x, at3),
-                        ExtrasRead::Refused(r) => MovementRead::Refused(r),
-                    }
-                }
-                PoseRead::Refused(r) => MovementRead::Refused(r),
-            }
-        }
-        FlagsRead::Refused(r) => MovementRead::Refused(r),
-    }
+    let f = read_flags(bytes, c)?;
+    let p = read_pose(bytes, Cursor { pos: f.next, ..c }, rotation, location)?;
+    let x = read_extras(bytes, Cursor { pos: p.next, ..c }, f.value)?;
+    Ok(Read {
+        value: whole(f.value, p.value, x.value),
+        next: x.next,
+    })
 }

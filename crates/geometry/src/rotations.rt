@@ -1,61 +1,24 @@
 // Rotations.
-ghost use Rattle.std.specs.Prelude.{◌≡◌};
-ghost use Rattle.geometry.specs.Parts.{Below};
-ghost use Rattle.geometry.specs.Rotations.{rotation, rotation_at, rotation_of};
+ghost use Rattle.std.specs.Prelude.{◌≡◌, ◌≤◌};
+ghost use Rattle.geometry.specs.Rotations.{rotation_at};
 
-use crate::parts::Three;
-use crate::{Refusal, Rotation, RotationRead, parts};
-use bitio::Cursor;
+use crate::{Refusal, Rotation, parts};
+use bitio::{Cursor, Read};
 
-fn made(pitch: f32, yaw: f32, roll: f32, next: u64) -> RotationRead
-    ensures { result ≡ RotationRead.Value (rotation pitch yaw roll) next }
+// W bits an axis: a const parameter, so that each width is compiled by itself.
+pub fn read<const W: u64>(bytes: &[u8], c: Cursor) -> Result<Read<Rotation>, Refusal>
+    requires { (8 ≤ W) × (W ≤ 16) }
+    ensures { result ≡ rotation_at bytes.now W c }
 {
-    let v = Rotation { pitch, yaw, roll };
-    RotationRead::Value(v, next)
-}
-
-fn of_bytes(t: Three) -> RotationRead
-    requires { Below 256 t }
-    ensures { result ≡ rotation_of 8 t }
-{
-    match t {
-        Three::Value(x, y, z, next) => {
-            let pitch = floats::byte_angle(x as u32);
-            let yaw = floats::byte_angle(y as u32);
-            let roll = floats::byte_angle(z as u32);
-            made(pitch, yaw, roll, next)
-        }
-        Three::Refused(r) => RotationRead::Refused(Refusal::Unread(r)),
-    }
-}
-
-fn of_shorts(t: Three) -> RotationRead
-    requires { Below 65536 t }
-    ensures { result ≡ rotation_of 16 t }
-{
-    match t {
-        Three::Value(x, y, z, next) => {
-            let pitch = floats::short_angle(x as u32);
-            let yaw = floats::short_angle(y as u32);
-            let roll = floats::short_angle(z as u32);
-            made(pitch, yaw, roll, next)
-        }
-        Three::Refused(r) => RotationRead::Refused(Refusal::Unread(r)),
-    }
-}
-
-// 8 bits an axis.
-pub fn byte_rotation(bytes: &[u8], c: Cursor) -> RotationRead
-    ensures { result ≡ rotation_at bytes.now 8 c }
-{
-    let axes = parts::three_axes(bytes, c, 8);
-    of_bytes(axes)
-}
-
-// 16 bits an axis.
-pub fn short_rotation(bytes: &[u8], c: Cursor) -> RotationRead
-    ensures { result ≡ rotation_at bytes.now 16 c }
-{
-    let axes = parts::three_axes(bytes, c, 16);
-    of_shorts(axes)
+    let axes = parts::three_axes(bytes, c, W)?;
+    let k = axes.value;
+    let value = Rotation {
+        pitch: floats::angle::<W>(k.x as u32),
+        yaw: floats::angle::<W>(k.y as u32),
+        roll: floats::angle::<W>(k.z as u32),
+    };
+    Ok(Read {
+        value,
+        next: axes.next,
+    })
 }

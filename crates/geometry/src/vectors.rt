@@ -1,105 +1,45 @@
 // Quantized vectors and fixed normals.
-ghost use Rattle.std.specs.Prelude.{◌≡◌, ◌≤◌, ◌<◌, ◌^◌};
-ghost use Rattle.std.specs.Float.{binary32, binary64};
-ghost use Rattle.std.specs.Float.Ieee.{of_bits};
-ghost use Rattle.bits.specs.TwosComplement.{twos};
-ghost use Rattle.floats.specs.Numbers.{quotient};
+ghost use Rattle.std.specs.Prelude.{◌≡◌, ◌≤◌, ◌<◌, ◌^◌, from_bits};
+ghost use Rattle.floats.specs.Numbers.{normal_axis_lem};
 ghost use Rattle.geometry.specs.Parts.{Below};
-ghost use Rattle.geometry.specs.declared.Refusal.TheVariants.{NotFinite};
-ghost use Rattle.geometry.specs.Vectors.{vector, checked, vector_of, divisor, vector_behind, quantized_at, normal_of_lem};
+ghost use Rattle.geometry.specs.Vectors.{components, checked, integer_over, divisor, vector_behind, quantized_at};
 
 use crate::parts::Three;
-use crate::{Refusal, Vector, VectorRead, parts};
-use bitio::{BitsRead, Cursor};
+use crate::{Refusal, Vector, parts};
+use bitio::{Cursor, Read};
+use floats::Pattern;
 
-fn made(x: f64, y: f64, z: f64, next: u64) -> VectorRead
-    ensures { result ≡ VectorRead.Value (vector x y z) next }
+// Three patterns of one format.
+fn of_patterns<F: Pattern>(t: Read<Three>) -> Result<Read<Vector>, Refusal>
+    requires { Below (2 ^ F.width) t.value }
+    ensures { result ≡ checked (components (from_bits F.format) t) }
 {
-    let v = Vector { x, y, z };
-    VectorRead::Value(v, next)
-}
-
-fn not_finite(next: u64) -> VectorRead
-    ensures { result ≡ VectorRead.Refused (NotFinite next) }
-{
-    VectorRead::Refused(Refusal::NotFinite(next))
-}
-
-fn of_singles(a: u32, b: u32, d: u32, next: u64) -> VectorRead
-    ensures { result ≡ checked (of_bits binary32 a) (of_bits binary32 b) (of_bits binary32 d) next }
-{
-    if !floats::finite_single(a) {
-        return not_finite(next);
+    let next = t.next;
+    let t = t.value;
+    if !F::is_finite(t.x) || !F::is_finite(t.y) || !F::is_finite(t.z) {
+        return Err(Refusal::NotFinite(next));
     }
-    if !floats::finite_single(b) {
-        return not_finite(next);
-    }
-    if !floats::finite_single(d) {
-        return not_finite(next);
-    }
-    let x = floats::double_of_single(a);
-    let y = floats::double_of_single(b);
-    let z = floats::double_of_single(d);
-    made(x, y, z, next)
-}
-
-fn of_doubles(a: u64, b: u64, d: u64, next: u64) -> VectorRead
-    ensures { result ≡ checked (of_bits binary64 a) (of_bits binary64 b) (of_bits binary64 d) next }
-{
-    if !floats::finite_double(a) {
-        return not_finite(next);
-    }
-    if !floats::finite_double(b) {
-        return not_finite(next);
-    }
-    if !floats::finite_double(d) {
-        return not_finite(next);
-    }
-    let x = floats::double(a);
-    let y = floats::double(b);
-    let z = floats::double(d);
-    made(x, y, z, next)
-}
-
-// Three binary32 values.
-fn singles(t: Three) -> VectorRead
-    requires { Below (2 ^ 32) t }
-    ensures { result ≡ vector_of (of_bits binary32) t }
-{
-    match t {
-        Three::Value(x, y, z, next) => {
-            let a = x as u32;
-            let b = y as u32;
-            let d = z as u32;
-            of_singles(a, b, d, next)
-        }
-        Three::Refused(r) => VectorRead::Refused(Refusal::Unread(r)),
-    }
-}
-
-// Three binary64 values.
-fn doubles(t: Three) -> VectorRead
-    ensures { result ≡ vector_of (of_bits binary64) t }
-{
-    match t {
-        Three::Value(a, b, d, next) => of_doubles(a, b, d, next),
-        Three::Refused(r) => VectorRead::Refused(Refusal::Unread(r)),
-    }
+    let value = Vector {
+        x: F::double(t.x),
+        y: F::double(t.y),
+        z: F::double(t.z),
+    };
+    Ok(Read { value, next })
 }
 
 // Three integers of w bits over a divisor: always finite.
-fn integers(t: Three, w: u32, by: u32) -> VectorRead
-    requires { (1 ≤ w) × (w ≤ 63) × (0 < by) × Below (2 ^ w) t }
-    ensures { result ≡ vector_of (λ x. quotient (twos w x) by) t }
+fn integers(t: Read<Three>, w: u32, by: u32) -> Read<Vector>
+    requires { (1 ≤ w) × (w ≤ 63) × (0 < by) × Below (2 ^ w) t.value }
+    ensures { result ≡ components (integer_over w by) t }
 {
-    match t {
-        Three::Value(a, b, d, next) => {
-            let x = floats::component(a, w, by);
-            let y = floats::component(b, w, by);
-            let z = floats::component(d, w, by);
-            made(x, y, z, next)
-        }
-        Three::Refused(r) => VectorRead::Refused(Refusal::Unread(r)),
+    let value = Vector {
+        x: floats::component(t.value.x, w, by),
+        y: floats::component(t.value.y, w, by),
+        z: floats::component(t.value.z, w, by),
+    };
+    Read {
+        value,
+        next: t.next,
     }
 }
 
@@ -111,53 +51,55 @@ fn divisor_of(e: u32, scale: u32) -> u32
 }
 
 // The components behind a header of width w and rest e.
-fn components_behind(bytes: &[u8], c: Cursor, scale: u32, w: u32, e: u32) -> VectorRead
+fn components_behind(
+    bytes: &[u8],
+    c: Cursor,
+    scale: u32,
+    w: u32,
+    e: u32,
+) -> Result<Read<Vector>, Refusal>
     requires { (w ≤ 63) × (0 < scale) }
     ensures { result ≡ vector_behind bytes.now scale w e c }
 {
     if w == 0 {
         if e == 0 {
-            let three = parts::three_singles(bytes, c);
-            return singles(three);
+            let three = parts::three_singles(bytes, c)?;
+            return of_patterns::<f32>(three);
         }
-        let three = parts::three_bits(bytes, c, 64);
-        return doubles(three);
+        let three = parts::three_bits(bytes, c, 64)?;
+        return of_patterns::<f64>(three);
     }
     let by = divisor_of(e, scale);
-    let three = parts::read_components(bytes, c, w);
-    integers(three, w, by)
+    let three = parts::read_components(bytes, c, w)?;
+    Ok(integers(three, w, by))
 }
 
 // A serialized integer with maximum 128 is seven bits.
-pub fn quantized(bytes: &[u8], c: Cursor, scale: u32) -> VectorRead
+pub fn quantized(bytes: &[u8], c: Cursor, scale: u32) -> Result<Read<Vector>, Refusal>
     requires { 0 < scale }
     ensures { result ≡ quantized_at bytes.now scale c }
 {
-    let header = bitio::read_bits(bytes, c, 7);
-    match header {
-        BitsRead::Value(seven, next) => {
-            let here = parts::moved(c, next);
-            let h = seven as u32;
-            let w = h % 64;
-            let e = h / 64;
-            components_behind(bytes, here, scale, w, e)
-        }
-        BitsRead::Refused(r) => VectorRead::Refused(Refusal::Unread(r)),
-    }
+    let header = bitio::read_bits(bytes, c, 7)?;
+    let h = header.value as u32;
+    let behind = Cursor {
+        pos: header.next,
+        ..c
+    };
+    components_behind(bytes, behind, scale, h % 64, h / 64)
 }
 
 // The normal of three axes.
-pub fn normal_of(t: Three) -> VectorRead
-    requires { Below 65536 t }
-    ensures { result ≡ normal_of_lem t }
+pub fn normal_of(t: Read<Three>) -> Read<Vector>
+    requires { Below 65536 t.value }
+    ensures { result ≡ components normal_axis_lem t }
 {
-    match t {
-        Three::Value(a, b, d, next) => {
-            let x = floats::normal_axis(a as u32);
-            let y = floats::normal_axis(b as u32);
-            let z = floats::normal_axis(d as u32);
-            made(x, y, z, next)
-        }
-        Three::Refused(r) => VectorRead::Refused(Refusal::Unread(r)),
+    let value = Vector {
+        x: floats::normal_axis(t.value.x as u32),
+        y: floats::normal_axis(t.value.y as u32),
+        z: floats::normal_axis(t.value.z as u32),
+    };
+    Read {
+        value,
+        next: t.next,
     }
 }

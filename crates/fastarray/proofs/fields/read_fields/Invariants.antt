@@ -4,8 +4,8 @@ use Rattle.fastarray.specs.Body.{window}
 use Rattle.fastarray.proofs.FieldLaws.{Reading}
 use Rattle.fastarray.proofs.fields.read_fields.Given as goal
 
-abbrev pub invariant-loop-next : goal.invariant-loop-next
-invariant-loop-next l = Reading (window l.s l.end) l.end l.at l.slot l.padded l.initial.fields l.fields l.pos l.n l.count
+abbrev pub invariant-loop-head : goal.invariant-loop-head
+invariant-loop-head l = Reading (window l.w.bytes.now l.w.end) l.w.end l.fn.from.next l.fn.from.fields l.fn.from.padded l.initial.fields l.fields l.reached.next l.reached.fields l.reached.padded
 
-abbrev pub decreases-loop-next : goal.decreases-loop-next
-decreases-loop-next l = l.end - l.pos
+abbrev pub decreases-loop-head : goal.decreases-loop-head
+decreases-loop-head l = l.w.end - l.reached.next

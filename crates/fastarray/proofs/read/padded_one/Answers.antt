@@ -1,17 +1,15 @@
 -- `fastarray::padded_one` meets its contract: the test is the definition's.
 use Rattle.std.specs.Prelude.{if◌then◌else◌}
-use mathlib.Core.Path.{◌≡◌, sym, ap, ◌∙◌}
+use mathlib.Core.Path.{◌≡◌, refl, ap, ◌∙◌}
 use mathlib.Core.Bool.{Bool, true, false}
-use native.Mathlib.Nat.{add-zero}
 use Prim.Native.Nat.{ℕ, ◌+◌}
+use mir.Val.{bool_byte}
 use Rattle.fastarray.proofs.read.padded_one.Goals as goal
 
--- what a test with this outcome adds
-counted : (k : ℕ) (x y z : Bool) → x ≡ y → x ≡ z → k + (if z then 1 else 0) ≡ k + (if y then 1 else 0)
-counted k x y z e f = ap (λ (b : Bool). k + (if b then 1 else 0)) (sym f ∙ e)
-
-pub returns-then-is_padded : goal.returns-then-is_padded
-returns-then-is_padded c = counted _ _ _ true c.is_padded.ensures c.if-is_padded.true
+-- what a test adds
+counted : (k : ℕ) (b : Bool) → k + bool_byte b ≡ k + (if b then 1 else 0)
+counted k true = refl
+counted k false = refl
 
 pub returns : goal.returns
-returns c = sym (add-zero _) ∙ counted _ _ _ false c.is_padded.ensures c.if-is_padded.false
+returns c = ap (λ (b : Bool). c.args.count + bool_byte b) c.is_padded.ensures ∙ counted _ _

@@ -1,13 +1,9 @@
 -- `fastarray::signed_of` meets its contract: 32 bits as two's complement are an i32.
 use mathlib.Core.Path.{ap, ◌∙◌}
-use native.Mathlib.Omega.{arith}
 use Rattle.bits.specs.TwosComplement.{twos}
 use Rattle.bits.proofs.FieldLaws.{bound}
 use Rattle.bits.proofs.TwosLaws.{twos_narrows, twos_i32}
 use Rattle.fastarray.proofs.read.signed_of.Goals as goal
-
-pub signed-value-requires : goal.signed-value-requires
-signed-value-requires c = (omega arith, omega arith, bound _ _ _ _ c.word_of-word.ensures)
 
 pub overflow_cast-result : goal.overflow_cast-result
 overflow_cast-result c = twos_narrows _ _ (bound _ _ _ _ c.word_of-word.ensures) c.signed-value.ensures

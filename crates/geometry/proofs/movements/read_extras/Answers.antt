@@ -1,23 +1,21 @@
--- `geometry::movements::read_extras` meets its contract: each way out has its law, by the reads that led there.
-use Rattle.geometry.proofs.MovementLaws.{extras_first_refused, extras_second_refused, extras_third_refused, extras_read}
+-- `geometry::movements::read_extras` meets its contract: the parts are read as the definition says, one after another.
+use Rattle.std.proofs.Common.{rules}
+use Rattle.geometry.specs.Parts.{and_then}
+use Rattle.geometry.specs.Movements.{extras_at}
 use Rattle.geometry.proofs.movements.read_extras.Goals as goal
 
-pub returns-in-Value-third : goal.returns-in-Value-third
-returns-in-Value-third c =
-    extras_read _ _ _ _ _ c.read_spin-first.ensures c.in-Value.is c.moved-c1.ensures
-    c.read_number-second.ensures c.in-Value-second.is c.moved-c2.ensures
-    c.read_number-third.ensures c.in-Value-third.is c.how_many-padded.ensures
+pub returns-in_err-spin : goal.returns-in_err-spin
+unfolding extras_at and_then
+returns-in_err-spin c = search rules
 
-pub returns-in-Refused-third : goal.returns-in-Refused-third
-returns-in-Refused-third c =
-    extras_third_refused _ _ _ _ _ c.read_spin-first.ensures c.in-Value.is c.moved-c1.ensures
-    c.read_number-second.ensures c.in-Value-second.is c.moved-c2.ensures
-    c.read_number-third.ensures c.in-Refused-third.is
+pub returns-in_err-frame : goal.returns-in_err-frame
+unfolding extras_at and_then
+returns-in_err-frame c = search rules
 
-pub returns-in-Refused-second : goal.returns-in-Refused-second
-returns-in-Refused-second c =
-    extras_second_refused _ _ _ _ _ c.read_spin-first.ensures c.in-Value.is c.moved-c1.ensures c.read_number-second.ensures c.in-Refused-second.is
+pub returns-in_err-handle : goal.returns-in_err-handle
+unfolding extras_at and_then
+returns-in_err-handle c = search rules
 
-pub returns-in-Refused : goal.returns-in-Refused
-returns-in-Refused c =
-    extras_first_refused _ _ _ _ _ c.read_spin-first.ensures c.in-Refused.is
+pub returns : goal.returns
+unfolding extras_at and_then
+returns c = search rules

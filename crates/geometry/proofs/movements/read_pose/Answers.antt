@@ -1,26 +1,33 @@
--- `geometry::movements::read_pose` meets its contract: each way out has its law, by the reads that led there.
-use Rattle.geometry.proofs.MovementLaws.{scale_pos, scaled, pose_first_refused, pose_second_refused, pose_third_refused, pose_read}
+-- `geometry::movements::read_pose` meets its contract: the parts are read as the definition says, one after another; every scale is above 0.
+use Rattle.std.proofs.Common.{◌≡◌, ℕ, ◌<◌, arith, rules}
+use Rattle.geometry.specs.Parts.{and_then}
+use Rattle.geometry.specs.Movements.{scale_of, pose_at}
+use Rattle.geometry.specs.declared.VectorQuantization.{VectorQuantization}
+use Rattle.geometry.specs.declared.VectorQuantization.TheVariants.{RoundWholeNumber, RoundOneDecimal, RoundTwoDecimals}
 use Rattle.geometry.proofs.movements.read_pose.Goals as goal
 
-pub quantized-place-requires : goal.quantized-place-requires
-quantized-place-requires c = scale_pos _ c.scale_of-scale.ensures
+scale_pos : (q : VectorQuantization) {k : ℕ} → k ≡ scale_of q → 0 < k
+unfolding scale_of
+scale_pos RoundWholeNumber e = omega arith
+scale_pos RoundOneDecimal e = omega arith
+scale_pos RoundTwoDecimals e = omega arith
 
-pub returns-in-Value-speed : goal.returns-in-Value-speed
-returns-in-Value-speed c =
-    pose_read _ _ _ _ (scaled _ _ c.quantized-place.ensures c.scale_of-scale.ensures) c.in-Value.is
-    c.moved-c1.ensures c.read_rotation-turn.ensures c.in-Value-turn.is
-    c.moved-c2.ensures c.quantized-speed.ensures c.in-Value-speed.is
+pub quantized-requires : goal.quantized-requires
+unfolding pose_at and_then
+quantized-requires c = scale_pos c.args.location c.scale_of.ensures
 
-pub returns-in-Refused-speed : goal.returns-in-Refused-speed
-returns-in-Refused-speed c =
-    pose_third_refused _ _ _ _ (scaled _ _ c.quantized-place.ensures c.scale_of-scale.ensures)
-    c.in-Value.is c.moved-c1.ensures c.read_rotation-turn.ensures c.in-Value-turn.is
-    c.moved-c2.ensures c.quantized-speed.ensures c.in-Refused-speed.is
+pub returns-in_err-place : goal.returns-in_err-place
+unfolding pose_at and_then
+returns-in_err-place c = search rules
 
-pub returns-in-Refused-turn : goal.returns-in-Refused-turn
-returns-in-Refused-turn c =
-    pose_second_refused _ _ _ _ (scaled _ _ c.quantized-place.ensures c.scale_of-scale.ensures) c.in-Value.is c.moved-c1.ensures c.read_rotation-turn.ensures c.in-Refused-turn.is
+pub returns-in_err-turn : goal.returns-in_err-turn
+unfolding pose_at and_then
+returns-in_err-turn c = search rules
 
-pub returns-in-Refused : goal.returns-in-Refused
-returns-in-Refused c =
-    pose_first_refused _ _ _ _ (scaled _ _ c.quantized-place.ensures c.scale_of-scale.ensures) c.in-Refused.is
+pub returns-in_err-linear : goal.returns-in_err-linear
+unfolding pose_at and_then
+returns-in_err-linear c = search rules
+
+pub returns : goal.returns
+unfolding pose_at and_then
+returns c = search rules

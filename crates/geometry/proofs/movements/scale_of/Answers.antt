@@ -1,16 +1,16 @@
 -- `geometry::movements::scale_of` meets its contract: by its cases.
-use mathlib.Core.Path.{sym, ap}
+use Rattle.std.proofs.Common.{rules}
 use Rattle.geometry.specs.Movements.{scale_of}
 use Rattle.geometry.proofs.movements.scale_of.Goals as goal
 
 pub returns-in-RoundWholeNumber : goal.returns-in-RoundWholeNumber
 unfolding scale_of
-returns-in-RoundWholeNumber c = sym (ap scale_of c.in-RoundWholeNumber.is)
+returns-in-RoundWholeNumber c = search rules
 
 pub returns-in-RoundOneDecimal : goal.returns-in-RoundOneDecimal
 unfolding scale_of
-returns-in-RoundOneDecimal c = sym (ap scale_of c.in-RoundOneDecimal.is)
+returns-in-RoundOneDecimal c = search rules
 
 pub returns-in-RoundTwoDecimals : goal.returns-in-RoundTwoDecimals
 unfolding scale_of
-returns-in-RoundTwoDecimals c = sym (ap scale_of c.in-RoundTwoDecimals.is)
+returns-in-RoundTwoDecimals c = search rules

@@ -1,21 +1,26 @@
 -- `geometry::parts::read_together` meets its contract: skipping the bits tells what the read does, and the three numbers are the fields of the one.
-use mathlib.Core.Path.{refl, sym, ap, ◌∙◌}
-use native.Mathlib.Omega.{arith}
-use Rattle.geometry.specs.Parts.{together}
-use Rattle.geometry.proofs.PartLaws.{together_refused}
+use Rattle.std.proofs.Common.{◌*◌, sym, refl, arith, rules}
+use Rattle.geometry.specs.Parts.{and_then, together}
 use Rattle.geometry.proofs.RoomLaws.{room_there, bits_there, read_refused}
 use Rattle.geometry.proofs.parts.read_together.Goals as goal
 
 pub overflow_add-first : goal.overflow_add-first
-overflow_add-first c = let d = room_there _ _ _ c.skip_bits-room.ensures c.in-Done.is in omega arith
+unfolding together and_then
+overflow_add-first c = let d = room_there _ _ _ c.in_ok-next.ensures in omega arith
 
 pub field_of-all-requires : goal.field_of-all-requires
-field_of-all-requires c = let d = room_there _ _ _ c.skip_bits-room.ensures c.in-Done.is in omega arith
+unfolding together and_then
+field_of-all-requires c = let d = room_there _ _ _ c.in_ok-next.ensures in omega arith
 
-pub returns-in-Done : goal.returns-in-Done
-returns-in-Done c =
-    let d = room_there _ _ _ c.skip_bits-room.ensures c.in-Done.is in
-    c.cut_apart.ensures ∙ ap (together _) (bits_there _ _ d.0 _ _ _ (omega arith) d.1 refl d.3 c.field_of-all.ensures)
+pub returns : goal.returns
+unfolding together and_then
+returns c =
+    let d = room_there _ _ _ c.in_ok-next.ensures in
+    let read = sym (bits_there _ _ d.0 _ _ _ (omega arith) d.1 refl d.3 c.field_of-all.ensures) in
+    rw (read, c.cut_apart-value.ensures) refl
 
-pub returns-in-Refused : goal.returns-in-Refused
-returns-in-Refused c = together_refused _ (sym (read_refused _ _ _ (omega arith) c.skip_bits-room.ensures c.in-Refused.is))
+pub returns-in_err-next : goal.returns-in_err-next
+unfolding together and_then
+returns-in_err-next c =
+    let read = sym (read_refused _ _ (3 * c.args.w) (omega arith) c.in_err-next.ensures) in
+    rw read (search rules)
