@@ -11,7 +11,7 @@ use Rattle.geometry.specs.Movements.{read_movement}
 use Rattle.geometry.specs.Rotations.{read_rotation_lem}
 use Rattle.geometry.specs.Vectors.{read_vector, read_normal}
 use Rattle.exports.specs.MoveResults.{vector_result, rotation_result, movement_result, rotation_kind_lem, location_kind_lem}
-use Rattle.exports.specs.ReadResults.{cursor_of_lem, bits_result, packed_result, serialized_result, copy_result}
+use Rattle.exports.specs.ReadResults.{cursor_of_lem, read_result, packed_result, copy_result}
 use Rattle.exports.specs.WalkResults.{counters_in, merge_result, verdict_number_lem, schema_result}
 use Rattle.exports.specs.declared.VrfCounters.{VrfCounters}
 use Rattle.exports.specs.declared.VrfCursor.{VrfCursor}
@@ -41,13 +41,13 @@ FillsForC rows names r endRows endNames =
 -- ---- reads and copies at a cursor
 
 abbrev pub vrf_read_bits_lem : List ℕ → VrfCursor → (count : ℕ) → VrfRead
-vrf_read_bits_lem bytes cursor count = bits_result cursor.pos (read_bits_lem bytes (cursor_of_lem cursor) count)
+vrf_read_bits_lem bytes cursor count = read_result cursor.pos (read_bits_lem bytes (cursor_of_lem cursor) count)
 
 abbrev pub vrf_read_packed_lem : List ℕ → VrfCursor → VrfPacked
 vrf_read_packed_lem bytes cursor = packed_result cursor.pos (read_int_packed_lem bytes (cursor_of_lem cursor))
 
 abbrev pub vrf_read_serialized_lem : List ℕ → VrfCursor → (maximum : ℕ) → VrfRead
-vrf_read_serialized_lem bytes cursor maximum = serialized_result cursor.pos (read_serialized_int_lem bytes (cursor_of_lem cursor) maximum)
+vrf_read_serialized_lem bytes cursor maximum = read_result cursor.pos (read_serialized_int_lem bytes (cursor_of_lem cursor) maximum)
 
 -- what is answered, and what the target holds at the exit
 abbrev pub CopiesForC : List ℕ → VrfCursor → (count : ℕ) → (target : List ℕ) → VrfRead → (end : List ℕ) → Type 0

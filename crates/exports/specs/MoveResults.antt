@@ -1,26 +1,18 @@
 -- The answers of the vector, normal, rotation and movement readers as structs for C: the refusal's number and values, or zeros; what was read,
 -- or zeros; where the cursor stands, refused or not.
-use Rattle.std.specs.Prelude.{ℕ, true, false, eqb, if◌then◌else◌}
+use Rattle.std.specs.Prelude.{ℕ, true, false, eqb, if◌then◌else◌, Option, None, Some, Result, Ok, Err}
 use Rattle.std.specs.Float.{binary32, binary64}
 use Rattle.std.specs.Float.Ieee.{of_bits}
+use Rattle.bitio.specs.declared.Read.{Read}
 use Rattle.geometry.specs.Refusals.{numbered, stands_after_lem}
+use Rattle.geometry.specs.declared.Refusal.{Refusal}
 use Rattle.geometry.specs.declared.Vector.{Vector}
 use Rattle.geometry.specs.declared.Rotation.{Rotation}
-use Rattle.geometry.specs.declared.Spin.{Spin}
-use Rattle.geometry.specs.declared.Spin.TheVariants as spin
-use Rattle.geometry.specs.declared.OptionalNumber.{OptionalNumber}
-use Rattle.geometry.specs.declared.OptionalNumber.TheVariants as number
 use Rattle.geometry.specs.declared.Movement.{Movement}
 use Rattle.geometry.specs.declared.RotatorQuantization.{RotatorQuantization}
 use Rattle.geometry.specs.declared.RotatorQuantization.TheVariants.{ByteComponents, ShortComponents}
 use Rattle.geometry.specs.declared.VectorQuantization.{VectorQuantization}
 use Rattle.geometry.specs.declared.VectorQuantization.TheVariants.{RoundWholeNumber, RoundOneDecimal, RoundTwoDecimals}
-use Rattle.geometry.specs.declared.VectorRead.{VectorRead}
-use Rattle.geometry.specs.declared.VectorRead.TheVariants as Vec
-use Rattle.geometry.specs.declared.RotationRead.{RotationRead}
-use Rattle.geometry.specs.declared.RotationRead.TheVariants as R
-use Rattle.geometry.specs.declared.MovementRead.{MovementRead}
-use Rattle.geometry.specs.declared.MovementRead.TheVariants as M
 use Rattle.exports.specs.ReadResults.{refused_read}
 use Rattle.exports.specs.declared.VrfRead.{VrfRead}
 use Rattle.exports.specs.declared.VrfXyz.{VrfXyz}
@@ -48,16 +40,16 @@ no_angles_lem = record { pitch = of_bits binary32 0; yaw = of_bits binary32 0; r
 abbrev pub absent_spin_lem : VrfSpin
 absent_spin_lem = record { present = false; velocity = no_xyz_lem }
 
-abbrev pub spin_of_lem : Spin → VrfSpin
-spin_of_lem spin.Absent = absent_spin_lem
-spin_of_lem (spin.Present v) = record { present = true; velocity = xyz_of_lem v }
+abbrev pub spin_of_lem : Option Vector → VrfSpin
+spin_of_lem None = absent_spin_lem
+spin_of_lem (Some v) = record { present = true; velocity = xyz_of_lem v }
 
 abbrev pub absent_number_lem : VrfNumber
 absent_number_lem = record { present = false; value = 0 }
 
-abbrev pub present_of : OptionalNumber → VrfNumber
-present_of number.Absent = absent_number_lem
-present_of (number.Present n) = record { present = true; value = n }
+abbrev pub present_of : Option ℕ → VrfNumber
+present_of None = absent_number_lem
+present_of (Some n) = record { present = true; value = n }
 
 -- ---- vectors and rotations, read at a cursor that stood at `at`
 
@@ -68,9 +60,9 @@ abbrev pub no_vector : VrfRead → VrfVector
 no_vector r =
     record { refusal = r.refusal; first = r.first; second = r.second; third = r.third; value = no_xyz_lem; position = r.position }
 
-abbrev pub vector_result : (at : ℕ) → VectorRead → VrfVector
-vector_result at (Vec.Value v p) = vector_value v p
-vector_result at (Vec.Refused r) = no_vector (refused_read (numbered r) (stands_after_lem at r))
+abbrev pub vector_result : (at : ℕ) → Result (Read Vector) Refusal → VrfVector
+vector_result at (Ok v) = vector_value v.value v.next
+vector_result at (Err r) = no_vector (refused_read (numbered r) (stands_after_lem at r))
 
 abbrev pub rotation_value : Rotation → (position : ℕ) → VrfRotation
 rotation_value v p = record { refusal = 0; first = 0; second = 0; third = 0; value = angles_of_lem v; position = p }
@@ -79,9 +71,9 @@ abbrev pub no_rotation : VrfRead → VrfRotation
 no_rotation r =
     record { refusal = r.refusal; first = r.first; second = r.second; third = r.third; value = no_angles_lem; position = r.position }
 
-abbrev pub rotation_result : (at : ℕ) → RotationRead → VrfRotation
-rotation_result at (R.Value v p) = rotation_value v p
-rotation_result at (R.Refused r) = no_rotation (refused_read (numbered r) (stands_after_lem at r))
+abbrev pub rotation_result : (at : ℕ) → Result (Read Rotation) Refusal → VrfRotation
+rotation_result at (Ok v) = rotation_value v.value v.next
+rotation_result at (Err r) = no_rotation (refused_read (numbered r) (stands_after_lem at r))
 
 -- ---- movements: how they are sent, by number, and what comes of them; they start at bit 0
 
@@ -131,6 +123,6 @@ unmoved_result r =
       padded = 0;
     }
 
-abbrev pub movement_result : MovementRead → VrfMovement
-movement_result (M.Value m used) = moved_result m used
-movement_result (M.Refused r) = unmoved_result (refused_read (numbered r) (stands_after_lem 0 r))
+abbrev pub movement_result : Result (Read Movement) Refusal → VrfMovement
+movement_result (Ok m) = moved_result m.value m.next
+movement_result (Err r) = unmoved_result (refused_read (numbered r) (stands_after_lem 0 r))

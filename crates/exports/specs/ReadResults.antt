@@ -1,18 +1,12 @@
 -- Cursors from C, and the answers of the bit reader as structs for C: the refusal's number and values, or zeros; the value read, or 0; where the
 -- cursor stands, refused or not; of a packed number also its bytes and whether it is padded, of a refused one 0 and no.
-use Rattle.std.specs.Prelude.{ℕ, false}
+use Rattle.std.specs.Prelude.{◌≡◌, ℕ, false, Result, Ok, Err}
 use Rattle.bits.specs.Refusals.{Numbered}
 use Rattle.bitio.specs.Refusals.{numbered, stands_after_lem, as64}
 use Rattle.bitio.specs.declared.Cursor.{Cursor}
-use Rattle.bitio.specs.declared.BitsRead.{BitsRead}
-use Rattle.bitio.specs.declared.BitsRead.TheVariants as B
 use Rattle.bitio.specs.declared.PackedNumber.{PackedNumber}
-use Rattle.bitio.specs.declared.PackedRead.{PackedRead}
-use Rattle.bitio.specs.declared.PackedRead.TheVariants as P
-use Rattle.bitio.specs.declared.SerializedRead.{SerializedRead}
-use Rattle.bitio.specs.declared.SerializedRead.TheVariants as Ser
-use Rattle.bitio.specs.declared.Copied.{Copied}
-use Rattle.bitio.specs.declared.Copied.TheVariants as Copy
+use Rattle.bitio.specs.declared.Read.{Read}
+use Rattle.bitio.specs.declared.Refusal.{Refusal}
 use Rattle.exports.specs.declared.VrfCursor.{VrfCursor}
 use Rattle.exports.specs.declared.VrfPacked.{VrfPacked}
 use Rattle.exports.specs.declared.VrfRead.{VrfRead}
@@ -48,18 +42,19 @@ no_packed_lem r =
 
 -- ---- the answers of calls at a cursor that stood at `at`
 
-abbrev pub bits_result : (at : ℕ) → BitsRead → VrfRead
-bits_result at (B.Value x p) = read_value_lem x p
-bits_result at (B.Refused r) = refused_read (numbered r) (stands_after_lem at r)
+-- of `read_bits` and `read_serialized_int`
+abbrev pub read_result : (at : ℕ) → Result (Read ℕ) Refusal → VrfRead
+read_result at (Ok x) = read_value_lem x.value x.next
+read_result at (Err r) = refused_read (numbered r) (stands_after_lem at r)
 
-abbrev pub packed_result : (at : ℕ) → PackedRead → VrfPacked
-packed_result at (P.Value x p) = packed_value_lem x p
-packed_result at (P.Refused r) = no_packed_lem (refused_read (numbered r) (stands_after_lem at r))
+-- a number that a value converts to
+abbrev pub NumberRead : (converts : ℕ → Type 0) → (next : ℕ) → VrfRead → Type 0
+NumberRead converts next r = (n : ℕ) × converts n × (r ≡ read_value_lem n next)
 
-abbrev pub serialized_result : (at : ℕ) → SerializedRead → VrfRead
-serialized_result at (Ser.Value x p) = read_value_lem x p
-serialized_result at (Ser.Refused r) = refused_read (numbered r) (stands_after_lem at r)
+abbrev pub packed_result : (at : ℕ) → Result (Read PackedNumber) Refusal → VrfPacked
+packed_result at (Ok x) = packed_value_lem x.value x.next
+packed_result at (Err r) = no_packed_lem (refused_read (numbered r) (stands_after_lem at r))
 
-abbrev pub copy_result : (at : ℕ) → Copied → VrfRead
-copy_result at (Copy.Done p) = read_value_lem 0 p
-copy_result at (Copy.Refused r) = refused_read (numbered r) (stands_after_lem at r)
+abbrev pub copy_result : (at : ℕ) → Result ℕ Refusal → VrfRead
+copy_result at (Ok p) = read_value_lem 0 p
+copy_result at (Err r) = refused_read (numbered r) (stands_after_lem at r)

@@ -1,31 +1,26 @@
 -- The answers of the walks, the merge, the schema and the fast array as structs for C: the refusal's number, or 0; the values that 01's table
 -- names, which an accepted call has too; then what only an accepted call gives, else 0. The verdict is a number of its own. A refused merge has
 -- the left counters.
-use Rattle.std.specs.Prelude.{ℕ, ◌≡◌, List, eqb, pos, if◌then◌else◌}
+use Rattle.std.specs.Prelude.{ℕ, Result, Ok, Err, ◌≡◌, List, eqb, pos, if◌then◌else◌}
 use Rattle.std.proofs.Math.Option.{Option, none, some}
 use Rattle.bits.specs.Refusals.{Numbered}
 use Rattle.schema.specs.TwelveLevels.{row_numbers, name_bytes, level_count}
 use Rattle.schema.specs.Refusals.{filled_numbered}
-use Rattle.schema.specs.declared.Filled.{Filled}
-use Rattle.schema.specs.declared.Filled.TheVariants as Fill
+use Rattle.schema.specs.declared.Short.{Short}
 use Rattle.framing.specs.Counters.{Counters, counted}
 use Rattle.framing.specs.Sinks.{Walker, object}
 use Rattle.framing.specs.Verdicts.{Verdict, clean, partial, empty, verdict_of}
 use Rattle.framing.specs.Refusing.{Room, Answer, refused, accepted}
 use Rattle.outputs.specs.Answers.{Call, Lent, answer, final, pair_answer, final_pairs}
 use Rattle.array.specs.Calls.{verdict_is}
-use Rattle.array.specs.Refusals.{counters_of_lem, answer_of, pairs_of}
+use Rattle.array.specs.Refusals.{StructArray, ObjectArray, counters_of_lem, answer_of, pairs_of}
 use Rattle.array.specs.Merges.{Sums, summed, overflowing}
-use Rattle.array.specs.declared.StructArray.{StructArray}
-use Rattle.array.specs.declared.StructArray.TheVariants as structs
-use Rattle.array.specs.declared.ObjectArray.{ObjectArray}
-use Rattle.array.specs.declared.ObjectArray.TheVariants as objects
 use Rattle.fastarray.specs.Answers as F
 use Rattle.fastarray.specs.Refusals.{numbered}
 use Rattle.fastarray.specs.declared.ChecksumMode.{ChecksumMode}
 use Rattle.fastarray.specs.declared.ChecksumMode.TheVariants.{Absent, Present}
-use Rattle.fastarray.specs.declared.FastArray.{FastArray}
-use Rattle.fastarray.specs.declared.FastArray.TheVariants as body
+use Rattle.fastarray.specs.declared.Delta.{Delta}
+use Rattle.fastarray.specs.declared.Refusal.{Refusal}
 use Rattle.exports.specs.declared.VrfCounters.{VrfCounters}
 use Rattle.exports.specs.declared.VrfWalk.{VrfWalk}
 use Rattle.exports.specs.declared.VrfObjects.{VrfObjects}
@@ -89,10 +84,8 @@ not_walked_lem (accepted c d need) = refused_walk 0 0 0 0
 
 -- the same struct, from the answer of `array`
 abbrev pub walk_of : StructArray → VrfWalk
-walk_of (structs.Decoded s v e d) = accepted_walk (counters_of_lem s) d (verdict_is v) e.leaves e.path_bytes e.payload_bytes
-walk_of structs.TooLong = not_walked_lem (answer_of structs.TooLong)
-walk_of structs.BrokenTables = not_walked_lem (answer_of structs.BrokenTables)
-walk_of (structs.Short e) = not_walked_lem (answer_of (structs.Short e))
+walk_of (Ok w) = accepted_walk (counters_of_lem w.stats) w.padded (verdict_is w.verdict) w.filled.leaves w.filled.path_bytes w.filled.payload_bytes
+walk_of (Err why) = not_walked_lem (answer_of (Err why))
 
 -- ---- the object walk
 
@@ -116,9 +109,8 @@ no_pairs_lem (refused n need) = refused_objects n need
 no_pairs_lem (accepted c d need) = refused_objects 0 0
 
 abbrev pub objects_of_lem : ObjectArray → VrfObjects
-objects_of_lem (objects.Decoded s v n d) = accepted_objects (counters_of_lem s) d (verdict_is v) n
-objects_of_lem objects.TooLong = no_pairs_lem (pairs_of objects.TooLong)
-objects_of_lem (objects.Short n) = no_pairs_lem (pairs_of (objects.Short n))
+objects_of_lem (Ok w) = accepted_objects (counters_of_lem w.stats) w.padded (verdict_is w.verdict) w.filled
+objects_of_lem (Err why) = no_pairs_lem (pairs_of (Err why))
 
 -- ---- merges
 
@@ -133,9 +125,9 @@ abbrev pub not_filled_lem : Option Numbered → VrfSchema
 not_filled_lem none = record { refusal = 0; rows = 0; names = 0; levels = 0 }
 not_filled_lem (some n) = record { refusal = n.number; rows = n.first; names = n.second; levels = 0 }
 
-abbrev pub schema_result : Filled → VrfSchema
-schema_result Fill.Done = record { refusal = 0; rows = row_numbers; names = name_bytes; levels = level_count }
-schema_result (Fill.Short r n) = not_filled_lem (filled_numbered (Fill.Short r n))
+abbrev pub schema_result : Result Unit Short → VrfSchema
+schema_result (Ok done) = record { refusal = 0; rows = row_numbers; names = name_bytes; levels = level_count }
+schema_result (Err need) = not_filled_lem (filled_numbered (Err need))
 
 -- ---- the fast array
 
@@ -151,8 +143,8 @@ abbrev pub no_body_lem : Option Numbered → VrfFastArray
 no_body_lem none = refused_body 0 0 0 0
 no_body_lem (some n) = refused_body n.number n.first n.second n.third
 
-abbrev pub body_result : FastArray → VrfFastArray
-body_result (body.Decoded d) =
+abbrev pub body_result : Result Delta Refusal → VrfFastArray
+body_result (Ok d) =
     record {
       refusal = 0;
       deletes = d.deletes;
@@ -163,9 +155,7 @@ body_result (body.Decoded d) =
       used = d.used;
       padded = d.padded;
     }
-body_result body.TooLong = no_body_lem (numbered body.TooLong)
-body_result body.NotFastArray = no_body_lem (numbered body.NotFastArray)
-body_result (body.Short d i f) = no_body_lem (numbered (body.Short d i f))
+body_result (Err e) = no_body_lem (numbered (Err e))
 
 pub record DecodesBody (c : F.Call) (l : F.Lent) (r : VrfFastArray) (end : F.Lent) : Type 0 where
   pub says : r ≡ body_result (F.answer c l)

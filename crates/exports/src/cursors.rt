@@ -1,11 +1,11 @@
 // Cursors from C, and answers of the bit reader as structs for C.
-ghost use Rattle.std.specs.Prelude.{◌≡◌};
+ghost use Rattle.std.specs.Prelude.{◌≡◌, MatchResult};
 ghost use Rattle.bitio.specs.Refusals.{numbered, stands_after_lem};
-ghost use Rattle.exports.specs.ReadResults.{cursor_of_lem, read_value_lem, refused_at, refused_read, bits_result, packed_value_lem, no_packed_lem, packed_result, serialized_result, copy_result};
+ghost use Rattle.exports.specs.ReadResults.{cursor_of_lem, read_value_lem, refused_at, refused_read, NumberRead, packed_value_lem, no_packed_lem, packed_result, copy_result};
 
 use crate::{VrfCursor, VrfPacked, VrfRead};
 use bitio::said::{Saying, said, stands_after};
-use bitio::{BitsRead, Copied, Cursor, PackedNumber, PackedRead, Refusal, SerializedRead};
+use bitio::{Cursor, PackedNumber, Read, Refusal};
 
 pub fn cursor_of(c: VrfCursor) -> Cursor
     ensures { result ≡ cursor_of_lem c }
@@ -53,12 +53,13 @@ fn refused(why: Refusal, at: u64) -> VrfRead
     read_refused(told, position)
 }
 
-pub fn bits_of(a: BitsRead, at: u64) -> VrfRead
-    ensures { result ≡ bits_result at a }
+// A number of any width.
+pub fn read_of<T: Into<u64>>(a: Result<Read<T>, Refusal>, at: u64) -> VrfRead
+    ensures { MatchResult a (λ x. NumberRead (T.converts x.value) x.next result) (λ r. result ≡ refused_read (numbered r) (stands_after_lem at r)) }
 {
     match a {
-        BitsRead::Value(value, next) => read_value(value, next),
-        BitsRead::Refused(r) => refused(r, at),
+        Ok(x) => read_value(x.value.into(), x.next),
+        Err(r) => refused(r, at),
     }
 }
 
@@ -93,32 +94,20 @@ fn no_packed(unread: VrfRead) -> VrfPacked
     }
 }
 
-pub fn packed_of(a: PackedRead, at: u64) -> VrfPacked
+pub fn packed_of(a: Result<Read<PackedNumber>, Refusal>, at: u64) -> VrfPacked
     ensures { result ≡ packed_result at a }
 {
     match a {
-        PackedRead::Value(x, next) => packed_value(x, next),
-        PackedRead::Refused(r) => {
-            let unread = refused(r, at);
-            no_packed(unread)
-        }
+        Ok(x) => packed_value(x.value, x.next),
+        Err(r) => no_packed(refused(r, at)),
     }
 }
 
-pub fn serialized_of(a: SerializedRead, at: u64) -> VrfRead
-    ensures { result ≡ serialized_result at a }
-{
-    match a {
-        SerializedRead::Value(value, next) => read_value(value as u64, next),
-        SerializedRead::Refused(r) => refused(r, at),
-    }
-}
-
-pub fn copy_of(a: Copied, at: u64) -> VrfRead
+pub fn copy_of(a: Result<u64, Refusal>, at: u64) -> VrfRead
     ensures { result ≡ copy_result at a }
 {
     match a {
-        Copied::Done(next) => read_value(0, next),
-        Copied::Refused(r) => refused(r, at),
+        Ok(next) => read_value(0, next),
+        Err(r) => refused(r, at),
     }
 }

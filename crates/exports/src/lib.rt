@@ -325,7 +325,7 @@ pub fn vrf_read_bits(bytes: &[u8], cursor: VrfCursor, count: u64) -> VrfRead
 {
     let c = cursors::cursor_of(cursor);
     let answer = bitio::read_bits(bytes, c, count);
-    cursors::bits_of(answer, c.pos)
+    cursors::read_of(answer, c.pos)
 }
 
 pub fn vrf_read_packed(bytes: &[u8], cursor: VrfCursor) -> VrfPacked
@@ -341,7 +341,7 @@ pub fn vrf_read_serialized(bytes: &[u8], cursor: VrfCursor, maximum: u32) -> Vrf
 {
     let c = cursors::cursor_of(cursor);
     let answer = bitio::read_serialized_int(bytes, c, maximum);
-    cursors::serialized_of(answer, c.pos)
+    cursors::read_of(answer, c.pos)
 }
 
 pub fn vrf_copy_bits(bytes: &[u8], cursor: VrfCursor, count: u64, target: &mut [u8]) -> VrfRead

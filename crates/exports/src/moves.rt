@@ -2,26 +2,26 @@
 ghost use Rattle.std.specs.Prelude.{◌≡◌};
 ghost use Rattle.geometry.specs.Refusals.{numbered, stands_after_lem};
 ghost use Rattle.exports.specs.ReadResults.{refused_read};
-ghost use Rattle.exports.specs.MoveResults.{xyz_of_lem, angles_of_lem, no_xyz_lem, no_angles_lem, spin_of_lem, present_of, absent_spin_lem, absent_number_lem, vector_result, rotation_result, moved_result, unmoved_result, movement_result, rotation_kind_lem, location_kind_lem};
+ghost use Rattle.exports.specs.MoveResults.{xyz_of_lem, angles_of_lem, no_xyz_lem, no_angles_lem, spin_of_lem, present_of, vector_result, rotation_result, moved_result, unmoved_result, movement_result, rotation_kind_lem, location_kind_lem};
 
 use crate::{
     VrfAngles, VrfMovement, VrfNumber, VrfRead, VrfRotation, VrfSpin, VrfVector, VrfXyz, cursors,
 };
+use bitio::Read;
 use geometry::said::{said, stands_after};
-use geometry::{
-    Movement, MovementRead, OptionalNumber, Refusal, Rotation, RotationRead, RotatorQuantization,
-    Spin, Vector, VectorQuantization, VectorRead,
-};
+use geometry::{Movement, Refusal, Rotation, RotatorQuantization, Vector, VectorQuantization};
 
 // ---- parts
 
-fn xyz_of(v: Vector) -> VrfXyz
-    ensures { result ≡ xyz_of_lem v }
-{
-    VrfXyz {
-        x: v.x,
-        y: v.y,
-        z: v.z,
+impl From<Vector> for VrfXyz {
+    ghost from_gives = { λ v r. r ≡ xyz_of_lem v };
+
+    fn from(v: Vector) -> VrfXyz {
+        VrfXyz {
+            x: v.x,
+            y: v.y,
+            z: v.z,
+        }
     }
 }
 
@@ -35,13 +35,15 @@ fn no_xyz() -> VrfXyz
     }
 }
 
-fn angles_of(v: Rotation) -> VrfAngles
-    ensures { result ≡ angles_of_lem v }
-{
-    VrfAngles {
-        pitch: v.pitch,
-        yaw: v.yaw,
-        roll: v.roll,
+impl From<Rotation> for VrfAngles {
+    ghost from_gives = { λ v r. r ≡ angles_of_lem v };
+
+    fn from(v: Rotation) -> VrfAngles {
+        VrfAngles {
+            pitch: v.pitch,
+            yaw: v.yaw,
+            roll: v.roll,
+        }
     }
 }
 
@@ -55,49 +57,37 @@ fn no_angles() -> VrfAngles
     }
 }
 
-fn absent_spin() -> VrfSpin
-    ensures { result ≡ absent_spin_lem }
-{
-    let velocity = no_xyz();
-    VrfSpin {
-        present: false,
-        velocity,
-    }
-}
+impl From<Option<Vector>> for VrfSpin {
+    ghost from_gives = { λ a r. r ≡ spin_of_lem a };
 
-fn spin_of(a: Spin) -> VrfSpin
-    ensures { result ≡ spin_of_lem a }
-{
-    match a {
-        Spin::Absent => absent_spin(),
-        Spin::Present(v) => {
-            let velocity = xyz_of(v);
-            VrfSpin {
+    fn from(a: Option<Vector>) -> VrfSpin {
+        match a {
+            None => VrfSpin {
+                present: false,
+                velocity: no_xyz(),
+            },
+            Some(v) => VrfSpin {
                 present: true,
-                velocity,
-            }
+                velocity: VrfXyz::from(v),
+            },
         }
     }
 }
 
-fn absent_number() -> VrfNumber
-    ensures { result ≡ absent_number_lem }
-{
-    VrfNumber {
-        present: false,
-        value: 0,
-    }
-}
+impl From<Option<u32>> for VrfNumber {
+    ghost from_gives = { λ a r. r ≡ present_of a };
 
-fn number_of(a: OptionalNumber) -> VrfNumber
-    ensures { result ≡ present_of a }
-{
-    match a {
-        OptionalNumber::Absent => absent_number(),
-        OptionalNumber::Present(value) => VrfNumber {
-            present: true,
-            value,
-        },
+    fn from(a: Option<u32>) -> VrfNumber {
+        match a {
+            None => VrfNumber {
+                present: false,
+                value: 0,
+            },
+            Some(value) => VrfNumber {
+                present: true,
+                value,
+            },
+        }
     }
 }
 
@@ -114,60 +104,52 @@ fn refused(why: Refusal, at: u64) -> VrfRead
 
 // ---- answers
 
-pub fn vector_of(a: VectorRead, at: u64) -> VrfVector
+pub fn vector_of(a: Result<Read<Vector>, Refusal>, at: u64) -> VrfVector
     ensures { result ≡ vector_result at a }
 {
     match a {
-        VectorRead::Value(v, next) => {
-            let value = xyz_of(v);
-            VrfVector {
-                refusal: 0,
-                first: 0,
-                second: 0,
-                third: 0,
-                value,
-                position: next,
-            }
-        }
-        VectorRead::Refused(r) => {
+        Ok(v) => VrfVector {
+            refusal: 0,
+            first: 0,
+            second: 0,
+            third: 0,
+            value: VrfXyz::from(v.value),
+            position: v.next,
+        },
+        Err(r) => {
             let unread = refused(r, at);
-            let value = no_xyz();
             VrfVector {
                 refusal: unread.refusal,
                 first: unread.first,
                 second: unread.second,
                 third: unread.third,
-                value,
+                value: no_xyz(),
                 position: unread.position,
             }
         }
     }
 }
 
-pub fn rotation_of(a: RotationRead, at: u64) -> VrfRotation
+pub fn rotation_of(a: Result<Read<Rotation>, Refusal>, at: u64) -> VrfRotation
     ensures { result ≡ rotation_result at a }
 {
     match a {
-        RotationRead::Value(v, next) => {
-            let value = angles_of(v);
-            VrfRotation {
-                refusal: 0,
-                first: 0,
-                second: 0,
-                third: 0,
-                value,
-                position: next,
-            }
-        }
-        RotationRead::Refused(r) => {
+        Ok(v) => VrfRotation {
+            refusal: 0,
+            first: 0,
+            second: 0,
+            third: 0,
+            value: VrfAngles::from(v.value),
+            position: v.next,
+        },
+        Err(r) => {
             let unread = refused(r, at);
-            let value = no_angles();
             VrfRotation {
                 refusal: unread.refusal,
                 first: unread.first,
                 second: unread.second,
                 third: unread.third,
-                value,
+                value: no_angles(),
                 position: unread.position,
             }
         }
@@ -200,28 +182,19 @@ pub fn location_kind(n: u32) -> VectorQuantization
 fn moved(m: Movement, used: u64) -> VrfMovement
     ensures { result ≡ moved_result m used }
 {
-    let spin = m.angular;
-    let count = m.frame;
-    let body = m.handle;
-    let location = xyz_of(m.location);
-    let rotation = angles_of(m.rotation);
-    let linear = xyz_of(m.linear);
-    let angular = spin_of(spin);
-    let frame = number_of(count);
-    let handle = number_of(body);
     VrfMovement {
         refusal: 0,
         first: 0,
         second: 0,
         third: 0,
-        location,
-        rotation,
-        linear,
-        angular,
+        location: VrfXyz::from(m.location),
+        rotation: VrfAngles::from(m.rotation),
+        linear: VrfXyz::from(m.linear),
+        angular: VrfSpin::from(m.angular),
         sleep: m.sleep,
         physics: m.physics,
-        frame,
-        handle,
+        frame: VrfNumber::from(m.frame),
+        handle: VrfNumber::from(m.handle),
         position: used,
         padded: m.padded,
     }
@@ -230,39 +203,30 @@ fn moved(m: Movement, used: u64) -> VrfMovement
 fn unmoved(unread: VrfRead) -> VrfMovement
     ensures { result ≡ unmoved_result unread }
 {
-    let location = no_xyz();
-    let rotation = no_angles();
-    let linear = no_xyz();
-    let angular = absent_spin();
-    let frame = absent_number();
-    let handle = absent_number();
     VrfMovement {
         refusal: unread.refusal,
         first: unread.first,
         second: unread.second,
         third: unread.third,
-        location,
-        rotation,
-        linear,
-        angular,
+        location: no_xyz(),
+        rotation: no_angles(),
+        linear: no_xyz(),
+        angular: VrfSpin::from(None),
         sleep: false,
         physics: false,
-        frame,
-        handle,
+        frame: VrfNumber::from(None),
+        handle: VrfNumber::from(None),
         position: unread.position,
         padded: 0,
     }
 }
 
 // A movement starts at bit 0, so the position behind it is the number of bits used.
-pub fn movement_of(a: MovementRead) -> VrfMovement
+pub fn movement_of(a: Result<Read<Movement>, Refusal>) -> VrfMovement
     ensures { result ≡ movement_result a }
 {
     match a {
-        MovementRead::Value(m, used) => moved(m, used),
-        MovementRead::Refused(r) => {
-            let unread = refused(r, 0);
-            unmoved(unread)
-        }
+        Ok(m) => moved(m.value, m.next),
+        Err(r) => unmoved(refused(r, 0)),
     }
 }

@@ -4,12 +4,12 @@ ghost use Rattle.array.specs.Calls.{verdict_is};
 ghost use Rattle.schema.specs.Refusals.{filled_numbered};
 ghost use Rattle.array.specs.Refusals.{counters_of_lem, answer_of, pairs_of, sums_of};
 ghost use Rattle.fastarray.specs.Refusals.{numbered};
-ghost use Rattle.exports.specs.WalkResults.{counters_in, counters_out, no_counters_lem, verdict_number_lem, not_walked_lem, walk_of, no_pairs_lem, objects_of_lem, merge_result, not_filled_lem, schema_result, mode_of, no_body_lem, body_result};
+ghost use Rattle.exports.specs.WalkResults.{counters_in, counters_out, verdict_number_lem, not_walked_lem, walk_of, no_pairs_lem, objects_of_lem, merge_result, not_filled_lem, schema_result, mode_of, no_body_lem, body_result};
 
 use crate::{VrfCounters, VrfFastArray, VrfMerge, VrfObjects, VrfSchema, VrfWalk};
-use array::{ArrayDecodeStats, Merged, ObjectArray, StructArray, Verdict};
-use fastarray::{ChecksumMode, FastArray};
-use schema::Filled;
+use array::{ArrayDecodeStats, Extent, Overflow, PairRefusal, Refusal, Verdict, Walked};
+use fastarray::{ChecksumMode, Delta};
+use schema::Short;
 use schema::twelve::{LEVELS, NAME_BYTES, ROW_NUMBERS};
 
 // ---- counters and verdicts
@@ -42,23 +42,21 @@ fn counters_of(s: ArrayDecodeStats) -> VrfCounters
     }
 }
 
-fn no_counters() -> VrfCounters
-    ensures { result ≡ no_counters_lem }
-{
-    VrfCounters {
-        elements: 0,
-        fields: 0,
-        truncations: 0,
-        errors: 0,
-        nested_bits: 0,
-        root_bits: 0,
-        implicit_terminations: 0,
-    }
-}
+// What stands in the place of the counters and the verdict where a walk is refused.
+const NO_COUNTERS: VrfCounters = VrfCounters {
+    elements: 0,
+    fields: 0,
+    truncations: 0,
+    errors: 0,
+    nested_bits: 0,
+    root_bits: 0,
+    implicit_terminations: 0,
+};
 
-// What stands in a verdict's place where a walk is refused. It is clean's number too: a caller looks at the refusal first.
+// That is clean's number too: a caller looks at the refusal first.
 const NO_VERDICT: u32 = 0;
 
+// C's numbers. `walked` has its own of the recorded cases: one function for both would be one more public call of `array`.
 pub fn verdict_number(v: Verdict) -> u32
     ensures { result ≡ verdict_number_lem (verdict_is v) }
 {
@@ -72,100 +70,82 @@ pub fn verdict_number(v: Verdict) -> u32
 // ---- walks
 
 // What a refused walk says.
-fn not_walked(a: StructArray) -> VrfWalk
-    ensures { result ≡ not_walked_lem (answer_of a) }
+fn not_walked(why: Refusal) -> VrfWalk
+    ensures { result ≡ not_walked_lem (answer_of (Err why)) }
 {
-    let told = array::said::said(a);
-    let counters = no_counters();
+    let told = array::said::said(Err(why));
     VrfWalk {
         refusal: told.number,
-        leaves: told.leaves,
-        path_bytes: told.path_bytes,
-        payload_bytes: told.payload_bytes,
-        counters,
+        leaves: told.need.leaves,
+        path_bytes: told.need.path_bytes,
+        payload_bytes: told.need.payload_bytes,
+        counters: NO_COUNTERS,
         verdict: NO_VERDICT,
         padded: 0,
     }
 }
 
-pub fn walk_of(a: StructArray) -> VrfWalk
+pub fn walk_of(a: Result<Walked<Extent>, Refusal>) -> VrfWalk
     ensures { result ≡ walk_of a }
 {
     match a {
-        StructArray::Decoded(stats, judged, extent, padded) => {
-            let counters = counters_of(stats);
-            let verdict = verdict_number(judged);
-            VrfWalk {
-                refusal: 0,
-                leaves: extent.leaves,
-                path_bytes: extent.path_bytes,
-                payload_bytes: extent.payload_bytes,
-                counters,
-                verdict,
-                padded,
-            }
-        }
-        StructArray::TooLong => not_walked(a),
-        StructArray::BrokenTables => not_walked(a),
-        StructArray::Short(_) => not_walked(a),
+        Ok(walked) => VrfWalk {
+            refusal: 0,
+            leaves: walked.filled.leaves,
+            path_bytes: walked.filled.path_bytes,
+            payload_bytes: walked.filled.payload_bytes,
+            counters: counters_of(walked.stats),
+            verdict: verdict_number(walked.verdict),
+            padded: walked.padded,
+        },
+        Err(why) => not_walked(why),
     }
 }
 
 // What a refused object walk says.
-fn no_pairs(a: ObjectArray) -> VrfObjects
-    ensures { result ≡ no_pairs_lem (pairs_of a) }
+fn no_pairs(why: PairRefusal) -> VrfObjects
+    ensures { result ≡ no_pairs_lem (pairs_of (Err why)) }
 {
-    let told = array::said::pairs_said(a);
-    let counters = no_counters();
+    let told = array::said::pairs_said(Err(why));
     VrfObjects {
         refusal: told.number,
-        pairs: told.pairs,
-        counters,
+        pairs: told.need,
+        counters: NO_COUNTERS,
         verdict: NO_VERDICT,
         padded: 0,
     }
 }
 
-pub fn objects_of(a: ObjectArray) -> VrfObjects
+pub fn objects_of(a: Result<Walked<u32>, PairRefusal>) -> VrfObjects
     ensures { result ≡ objects_of_lem a }
 {
     match a {
-        ObjectArray::Decoded(stats, judged, pairs, padded) => {
-            let counters = counters_of(stats);
-            let verdict = verdict_number(judged);
-            VrfObjects {
-                refusal: 0,
-                pairs,
-                counters,
-                verdict,
-                padded,
-            }
-        }
-        ObjectArray::TooLong => no_pairs(a),
-        ObjectArray::Short(_) => no_pairs(a),
+        Ok(walked) => VrfObjects {
+            refusal: 0,
+            pairs: walked.filled,
+            counters: counters_of(walked.stats),
+            verdict: verdict_number(walked.verdict),
+            padded: walked.padded,
+        },
+        Err(why) => no_pairs(why),
     }
 }
 
-pub fn merge_of(a: Merged) -> VrfMerge
+pub fn merge_of(a: Result<ArrayDecodeStats, Overflow>) -> VrfMerge
     ensures { result ≡ merge_result (sums_of a) }
 {
     let refusal = array::said::merge_number(a);
-    match a {
-        Merged::Sum(stats) => {
-            let counters = counters_of(stats);
-            VrfMerge { refusal, counters }
-        }
-        Merged::Overflow(stats) => {
-            let counters = counters_of(stats);
-            VrfMerge { refusal, counters }
-        }
-    }
+    let counters = match a {
+        Ok(sum) => counters_of(sum),
+        Err(overflow) => counters_of(overflow.left),
+    };
+    VrfMerge { refusal, counters }
 }
 
 // ---- the schema, and the fast array
 
 // What the schema's call says of buffers that are too short.
-fn not_filled(a: Filled) -> VrfSchema
+fn not_filled(a: Result<(), Short>) -> VrfSchema
     ensures { result ≡ not_filled_lem (filled_numbered a) }
 {
     let told = schema::said::said(a);
@@ -177,20 +157,21 @@ fn not_filled(a: Filled) -> VrfSchema
     }
 }
 
-pub fn schema_of(a: Filled) -> VrfSchema
+pub fn schema_of(a: Result<(), Short>) -> VrfSchema
     ensures { result ≡ schema_result a }
 {
     match a {
-        Filled::Done => VrfSchema {
+        Ok(()) => VrfSchema {
             refusal: 0,
             rows: ROW_NUMBERS,
             names: NAME_BYTES,
             levels: LEVELS,
         },
-        Filled::Short(_, _) => not_filled(a),
+        Err(_) => not_filled(a),
     }
 }
 
+// The mode stays a number here: C hands it so.
 pub fn mode_of(checksum: u32) -> ChecksumMode
     ensures { result ≡ mode_of checksum }
 {
@@ -202,7 +183,7 @@ pub fn mode_of(checksum: u32) -> ChecksumMode
 }
 
 // What a refused body says.
-fn no_body(a: FastArray) -> VrfFastArray
+fn no_body(a: Result<Delta, fastarray::Refusal>) -> VrfFastArray
     ensures { result ≡ no_body_lem (numbered a) }
 {
     let told = fastarray::said::said(a);
@@ -218,11 +199,11 @@ fn no_body(a: FastArray) -> VrfFastArray
     }
 }
 
-pub fn fast_array_of(a: FastArray) -> VrfFastArray
+pub fn fast_array_of(a: Result<Delta, fastarray::Refusal>) -> VrfFastArray
     ensures { result ≡ body_result a }
 {
     match a {
-        FastArray::Decoded(delta) => VrfFastArray {
+        Ok(delta) => VrfFastArray {
             refusal: 0,
             deletes: delta.deletes,
             items: delta.changes,
@@ -232,8 +213,6 @@ pub fn fast_array_of(a: FastArray) -> VrfFastArray
             used: delta.used,
             padded: delta.padded,
         },
-        FastArray::TooLong => no_body(a),
-        FastArray::NotFastArray => no_body(a),
-        FastArray::Short(_, _, _) => no_body(a),
+        Err(_) => no_body(a),
     }
 }

@@ -1,5 +1,6 @@
 -- An accepted answer has the counters of its walk, and its records' bits are those of the walk's leaves, one for one (Ran, FrontLaws); and the bits of
 -- every walk add up (framing/proofs/Accounted). The theorem on a call is `accounted_` and the call's name.
+use Rattle.std.specs.Prelude.{Ok, Err}
 use Prim.Native.Nat.{ℕ, zero, suc, ◌+◌}
 use mathlib.Core.Path.{◌≡◌, refl, sym, ap, ◌∙◌, subst}
 use mathlib.Core.List.{List, [], ◌∷◌}
@@ -20,10 +21,7 @@ use Rattle.framing.proofs.VerdictLaws.{says_clean}
 use Rattle.framing.proofs.Accounted.{walk_accounts, object_leafless}
 use Rattle.outputs.specs.Answers.{Call, Lent, trace_of, Front}
 use Rattle.array.specs.Calls.{struct_call, exact_call, Decodes, DecodesPairs}
-use Rattle.array.specs.declared.StructArray.{StructArray}
-use Rattle.array.specs.declared.StructArray.TheVariants as structs
-use Rattle.array.specs.declared.ObjectArray.{ObjectArray}
-use Rattle.array.specs.declared.ObjectArray.TheVariants as objects
+use Rattle.array.specs.Refusals.{StructArray, ObjectArray}
 use Rattle.exports.specs.WalkResults.{Walks, WalksPairs}
 use Rattle.exports.specs.declared.VrfWalk.{VrfWalk}
 use Rattle.exports.specs.declared.VrfObjects.{VrfObjects}
@@ -87,10 +85,8 @@ ran_pairs_accounted {form = form} {bytes = bytes} {bits = bits} {c = c} {v = v} 
 -- ---- struct and exact walks
 
 decodes_accounted : (k : Call) (b : Lent) (r : StructArray) (x : Lent) → Decodes k b r x → AccountedLeaves k r x
-decodes_accounted k b (structs.Decoded st v e p) x f = ran_accounted named_apart (ran_decodes k b st v e p x f)
-decodes_accounted k b structs.TooLong x f = tt
-decodes_accounted k b structs.BrokenTables x f = tt
-decodes_accounted k b (structs.Short e) x f = tt
+decodes_accounted k b (Ok w) x f = ran_accounted named_apart (ran_decodes k b w x f)
+decodes_accounted k b (Err why) x f = tt
 
 walks_accounted : (k : Call) (b : Lent) (r : VrfWalk) (x : Lent) → Walks k b r x → AccountedLeavesInC k r x
 walks_accounted k b r x f z = ran_accounted number_apart (ran_walks k b r x f z)
@@ -121,9 +117,8 @@ accounted_vrf_struct_array_exact bytes bits declared declared_names_lem = walks_
 -- THE OBJECT WALK: the same without leaves; of a clean answer the bits of all numbers taken are the window's.
 pub accounted_decode_object_ref_array : (bytes : List ℕ) (bits : ℕ) (b : List ℕ) (r : ObjectArray) (x : List ℕ)
     → DecodesPairs bytes bits b r x → AccountedPairs bytes bits r
-accounted_decode_object_ref_array bytes bits b (objects.Decoded st v n p) x f = ran_pairs_accounted named_apart (ran_pairs bytes bits b st v n p x f)
-accounted_decode_object_ref_array bytes bits b objects.TooLong x f = tt
-accounted_decode_object_ref_array bytes bits b (objects.Short n) x f = tt
+accounted_decode_object_ref_array bytes bits b (Ok w) x f = ran_pairs_accounted named_apart (ran_pairs bytes bits b w x f)
+accounted_decode_object_ref_array bytes bits b (Err why) x f = tt
 
 -- `vrf_object_array`: the same of a struct that says no refusal.
 pub accounted_vrf_object_array : (bytes : List ℕ) (bits : ℕ) (b : List ℕ) (r : VrfObjects) (x : List ℕ)

@@ -1,5 +1,6 @@
 -- The angles of bytes that the readers give are whole thirty-seconds of a degree over 32, exactly, and have the bits of the old product. That the
 -- table has 45 k at the place k is the contract of `floats::byte_angles::entry`, which `byte_angle_steps` answers with.
+use Rattle.std.specs.Prelude.{Ok}
 use mathlib.Core.Path.{◌≡◌, sym, ap, ◌∙◌, subst}
 use Prim.Native.Nat.{ℕ, ◌<◌}
 use mathlib.Core.Bool.{false}
@@ -11,6 +12,7 @@ use Rattle.floats.specs.Numbers.{angle}
 use Rattle.floats.specs.ByteAngles.{thirty_seconds}
 use Rattle.floats.proofs.ByteAngles.{whole_angle, as_before}
 use Rattle.bitio.specs.declared.Cursor.{Cursor}
+use Rattle.bitio.specs.declared.Read.{Read}
 use Rattle.geometry.specs.ByteAngles.{byte_angle_steps_lem}
 use Rattle.geometry.specs.Rotations.{read_rotation_lem}
 use Rattle.geometry.specs.Movements.{width_of, read_movement}
@@ -19,8 +21,6 @@ use Rattle.geometry.proofs.ExactAngles.{rotation_exact}
 use Rattle.geometry.proofs.ExactMovements.{movement_exact}
 use Rattle.geometry.specs.declared.Rotation.{Rotation}
 use Rattle.geometry.specs.declared.Movement.{Movement}
-use Rattle.geometry.specs.declared.RotationRead.TheVariants as R
-use Rattle.geometry.specs.declared.MovementRead.TheVariants as M
 use Rattle.geometry.specs.declared.RotatorQuantization.TheVariants.{ByteComponents}
 use Rattle.geometry.specs.declared.VectorQuantization.{VectorQuantization}
 use Rattle.promises.specs.ByteAngles.{ByteAngle, ByteRotation}
@@ -53,11 +53,11 @@ axes v e =
     }
 
 -- Each axis of an accepted rotation of width 8 is the angle of a byte.
-pub rotation_of_bytes : (bytes : List ℕ) (c : Cursor) (v : Rotation) (p : ℕ) → read_rotation_lem bytes c 8 ≡ R.Value v p → ByteRotation v
-rotation_of_bytes bytes c v p e = axes v (rotation_exact bytes c 8 v p e)
+pub rotation_of_bytes : (bytes : List ℕ) (c : Cursor) (v : Read Rotation) → read_rotation_lem bytes c 8 ≡ Ok v → ByteRotation v.value
+rotation_of_bytes bytes c v e = axes v.value (rotation_exact bytes c 8 v e)
 
 -- So is each axis of the rotation in an accepted movement with byte components.
-pub movement_of_bytes : (bytes : List ℕ) (count : ℕ) (location : VectorQuantization) (v : Movement) (p : ℕ)
-    → read_movement bytes count ByteComponents location ≡ M.Value v p → ByteRotation v.rotation
+pub movement_of_bytes : (bytes : List ℕ) (count : ℕ) (location : VectorQuantization) (m : Read Movement)
+    → read_movement bytes count ByteComponents location ≡ Ok m → ByteRotation m.value.rotation
 unfolding width_of
-movement_of_bytes bytes count location v p e = axes v.rotation (movement_exact bytes ByteComponents location count v p e)
+movement_of_bytes bytes count location m e = axes m.value.rotation (movement_exact bytes ByteComponents location count m e)

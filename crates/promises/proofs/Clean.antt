@@ -1,6 +1,7 @@
 -- What clean means at the public walks. An accepted answer tells its walk's counters and needs, and its buffers begin with the walk's leaves or pairs
 -- (Ran); of the walk it was shown that it is clean exactly on the bits of an array of the grammar, and gives that array's leaves, pairs and elements
 -- (framing/proofs/CleanMeans). The theorem on a call is `clean_` and the call's name.
+use Rattle.std.specs.Prelude.{Ok}
 use Prim.Native.Nat.{ℕ, ◌+◌}
 use mathlib.Core.Path.{◌≡◌, refl, sym, ap, ap₂, ◌∙◌, subst}
 use mathlib.Core.List.{List}
@@ -29,11 +30,8 @@ use Rattle.outputs.proofs.Gives.{no_pairs, no_leaves}
 use Rattle.outputs.proofs.Fronts.{opens_filled}
 use Rattle.array.specs.Calls.{struct_call, exact_call, verdict_named, Decodes, DecodesPairs}
 use Rattle.array.specs.Refusals.{counters_of_lem, room_in}
-use Rattle.array.specs.declared.ArrayDecodeStats.{ArrayDecodeStats}
 use Rattle.array.specs.declared.Extent.{Extent}
-use Rattle.array.specs.declared.Verdict.{Verdict}
-use Rattle.array.specs.declared.StructArray.TheVariants as structs
-use Rattle.array.specs.declared.ObjectArray.TheVariants as objects
+use Rattle.array.specs.declared.Walked.{Walked}
 use Rattle.exports.specs.WalkResults.{verdict_number_lem, Walks, WalksPairs}
 use Rattle.exports.specs.declared.VrfWalk.{VrfWalk}
 use Rattle.exports.specs.declared.VrfObjects.{VrfObjects}
@@ -92,18 +90,18 @@ module _ {A : Type 0} (form : F.Verdict → A) (apart : Apart form) (k : Call) (
 
 -- THE STRUCT WALK: an accepted answer is clean exactly if its window is the bits of an array of the grammar; then its counters are that array's, and
 -- the records of that array's leaves are what stands at the front of the buffers.
-pub clean_decode_struct_array : (bytes : List ℕ) (bits : ℕ) (t : Tables) (levels root : ℕ) (b : Lent) (st : ArrayDecodeStats) (v : Verdict)
-    (e : Extent) (p : ℕ) (x : Lent) → Decodes (struct_call bytes bits t levels root) b (structs.Decoded st v e p) x
-    → CleanLeaves verdict_named (struct_call bytes bits t levels root) (counters_of_lem st) v (room_in e) x
-clean_decode_struct_array bytes bits t levels root b st v e p x f =
-    let k = struct_call bytes bits t levels root in leaves_clean verdict_named named_apart k refl b _ v _ x (ran_decodes k b st v e p x f)
+pub clean_decode_struct_array : (bytes : List ℕ) (bits : ℕ) (t : Tables) (levels root : ℕ) (b : Lent) (w : Walked Extent) (x : Lent)
+    → Decodes (struct_call bytes bits t levels root) b (Ok w) x
+    → CleanLeaves verdict_named (struct_call bytes bits t levels root) (counters_of_lem w.stats) w.verdict (room_in w.filled) x
+clean_decode_struct_array bytes bits t levels root b w x f =
+    let k = struct_call bytes bits t levels root in leaves_clean verdict_named named_apart k refl b _ w.verdict _ x (ran_decodes k b w x f)
 
 -- THE EXACT WALK: the same, of an array without trailer.
-pub clean_decode_struct_array_exact : (bytes : List ℕ) (bits : ℕ) (declared declared_names_lem : List ℕ) (b : Lent) (st : ArrayDecodeStats) (v : Verdict)
-    (e : Extent) (p : ℕ) (x : Lent) → Decodes (exact_call bytes bits declared declared_names_lem) b (structs.Decoded st v e p) x
-    → CleanLeaves verdict_named (exact_call bytes bits declared declared_names_lem) (counters_of_lem st) v (room_in e) x
-clean_decode_struct_array_exact bytes bits declared declared_names_lem b st v e p x f =
-    let k = exact_call bytes bits declared declared_names_lem in leaves_clean verdict_named named_apart k refl b _ v _ x (ran_decodes k b st v e p x f)
+pub clean_decode_struct_array_exact : (bytes : List ℕ) (bits : ℕ) (declared declared_names_lem : List ℕ) (b : Lent) (w : Walked Extent) (x : Lent)
+    → Decodes (exact_call bytes bits declared declared_names_lem) b (Ok w) x
+    → CleanLeaves verdict_named (exact_call bytes bits declared declared_names_lem) (counters_of_lem w.stats) w.verdict (room_in w.filled) x
+clean_decode_struct_array_exact bytes bits declared declared_names_lem b w x f =
+    let k = exact_call bytes bits declared declared_names_lem in leaves_clean verdict_named named_apart k refl b _ w.verdict _ x (ran_decodes k b w x f)
 
 -- `vrf_struct_array`: the same of a struct that says no refusal.
 pub clean_vrf_struct_array : (bytes : List ℕ) (bits : ℕ) (t : Tables) (levels root : ℕ) (b : Lent) (r : VrfWalk) (x : Lent)
@@ -149,9 +147,9 @@ module _ {A : Type 0} (form : F.Verdict → A) (apart : Apart form) (bytes : Lis
 
 -- THE OBJECT WALK: an accepted answer is clean exactly if its window is the bits of an array of the grammar; then its counters and its pairs are that
 -- array's, and these pairs are what stands at the front of the buffer.
-pub clean_decode_object_ref_array : (bytes : List ℕ) (bits : ℕ) (b : List ℕ) (st : ArrayDecodeStats) (v : Verdict) (n p : ℕ) (x : List ℕ)
-    → DecodesPairs bytes bits b (objects.Decoded st v n p) x → CleanPairs verdict_named bytes bits (counters_of_lem st) v n x
-clean_decode_object_ref_array bytes bits b st v n p x f = pairs_clean verdict_named named_apart bytes bits b _ v n x (ran_pairs bytes bits b st v n p x f)
+pub clean_decode_object_ref_array : (bytes : List ℕ) (bits : ℕ) (b : List ℕ) (w : Walked ℕ) (x : List ℕ)
+    → DecodesPairs bytes bits b (Ok w) x → CleanPairs verdict_named bytes bits (counters_of_lem w.stats) w.verdict w.filled x
+clean_decode_object_ref_array bytes bits b w x f = pairs_clean verdict_named named_apart bytes bits b _ w.verdict w.filled x (ran_pairs bytes bits b w x f)
 
 -- `vrf_object_array`: the same of a struct that says no refusal.
 pub clean_vrf_object_array : (bytes : List ℕ) (bits : ℕ) (b : List ℕ) (r : VrfObjects) (x : List ℕ)

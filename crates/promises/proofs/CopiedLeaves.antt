@@ -1,5 +1,6 @@
 -- The payload bytes of record i stand in the payload buffer from its payload start on (Places), and those of every leaf are a copy of the walk's bits
 -- (framing/proofs/PayloadBits). The theorem on a call is `copied_` and the call's name.
+use Rattle.std.specs.Prelude.{Ok, Err}
 use Prim.Native.Nat.{ℕ, zero, suc, ◌+◌, ◌*◌, ◌/◌, ◌%◌, ◌^◌, ◌≤◌, ◌<◌}
 use mathlib.Core.Path.{◌≡◌, refl, sym, ap, ap₂, ◌∙◌, subst}
 use mathlib.Core.List.{List, [], ◌∷◌}
@@ -18,8 +19,7 @@ use Rattle.framing.specs.Sinks.{Leafy}
 use Rattle.framing.proofs.PayloadBits.{walk_copied}
 use Rattle.outputs.specs.Answers.{Call, Lent, trace_of}
 use Rattle.array.specs.Calls.{struct_call, exact_call, Decodes}
-use Rattle.array.specs.declared.StructArray.{StructArray}
-use Rattle.array.specs.declared.StructArray.TheVariants as structs
+use Rattle.array.specs.Refusals.{StructArray}
 use Rattle.exports.specs.WalkResults.{Walks}
 use Rattle.exports.specs.declared.VrfWalk.{VrfWalk}
 use Rattle.promises.specs.Accounts.{start_of, payload_start_of, RecordsCopied, CopiedLeaves, CopiedLeavesInC}
@@ -74,10 +74,8 @@ found_copied k need x found bytes i h =
     (copied_within k.bytes x.payloads (payload_start_of x i) l f.recorded.payload c))
 
 decodes_copied : (k : Call) → Leafy k.how → (b : Lent) (r : StructArray) (x : Lent) → Decodes k b r x → CopiedLeaves k r x
-decodes_copied k leafy b (structs.Decoded st v e p) x f = found_copied k _ x (decodes_placed k leafy b (structs.Decoded st v e p) x f)
-decodes_copied k leafy b structs.TooLong x f = tt
-decodes_copied k leafy b structs.BrokenTables x f = tt
-decodes_copied k leafy b (structs.Short e) x f = tt
+decodes_copied k leafy b (Ok w) x f = found_copied k _ x (decodes_placed k leafy b (Ok w) x f)
+decodes_copied k leafy b (Err why) x f = tt
 
 walks_copied : (k : Call) → Leafy k.how → (b : Lent) (r : VrfWalk) (x : Lent) → Walks k b r x → CopiedLeavesInC k r x
 walks_copied k leafy b r x f z = found_copied k _ x (walks_placed k leafy b r x f z)

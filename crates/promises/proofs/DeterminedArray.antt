@@ -6,13 +6,10 @@ use mathlib.Core.List.{List}
 use Rattle.schema.specs.Tables.{Tables}
 use Rattle.outputs.specs.Answers.{Lent}
 use Rattle.array.specs.Calls.{struct_call, exact_call, stats_clean, Judges, Adds, Decodes, DecodesPairs}
-use Rattle.array.specs.Refusals.{said, pairs_said_lem, merge_number_lem}
+use Rattle.array.specs.Refusals.{StructArray, ObjectArray, Merged, said, pairs_said_lem, merge_number_lem}
 use Rattle.array.proofs.OneAnswer as A
 use Rattle.array.proofs.OneAnswer.{one_struct, one_object, one_merged}
 use Rattle.array.specs.declared.ArrayDecodeStats.{ArrayDecodeStats}
-use Rattle.array.specs.declared.Merged.{Merged}
-use Rattle.array.specs.declared.ObjectArray.{ObjectArray}
-use Rattle.array.specs.declared.StructArray.{StructArray}
 use Rattle.promises.specs.Determining.{Determines, DeterminesAll}
 use Rattle.promises.proofs.Determined.{one_equal}
 

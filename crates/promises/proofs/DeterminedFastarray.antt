@@ -4,7 +4,9 @@ use mathlib.Core.Path.{◌≡◌}
 use mathlib.Core.List.{List}
 use Rattle.fastarray.specs.Answers.{call, Lent, Answered}
 use Rattle.fastarray.specs.Refusals.{said}
-use Rattle.fastarray.specs.declared.FastArray.{FastArray}
+use Rattle.std.specs.Prelude.{Result}
+use Rattle.fastarray.specs.declared.Delta.{Delta}
+use Rattle.fastarray.specs.declared.Refusal.{Refusal}
 use Rattle.fastarray.specs.declared.ChecksumMode.{ChecksumMode}
 use Rattle.fastarray.proofs.AnswerLaws.{one_answer}
 use Rattle.promises.specs.Determining.{Determines, DeterminesAll}
@@ -15,5 +17,5 @@ pub one_decode_fast_array_delta : (payload : List ℕ) (bits : ℕ) (mode : Chec
 one_decode_fast_array_delta payload bits mode l = one_answer (call payload bits mode) l
 
 -- `said` has one answer.
-pub one_said : (answer : FastArray) → Determines (λ r. r ≡ said answer)
+pub one_said : (answer : Result Delta Refusal) → Determines (λ r. r ≡ said answer)
 one_said answer = one_equal (said answer)

@@ -1,4 +1,5 @@
 -- Each public call of schema is determined by its contract: what it gives and leaves equals what a definition gives.
+use Rattle.std.specs.Prelude.{Result}
 use Prim.Native.Nat.{ℕ}
 use mathlib.Core.Path.{◌≡◌}
 use mathlib.Core.Bool.{Bool}
@@ -9,9 +10,10 @@ use Rattle.schema.specs.Refusals.{said, tables_number_lem}
 use Rattle.schema.specs.Spans.{spans_of, entry_in_lem, entry_at}
 use Rattle.schema.specs.Tables.{tables, row_in, row_of, child, schema_name, declared_name_lem}
 use Rattle.schema.specs.TwelveLevels.{public_levels_lem, FillsSchema}
-use Rattle.schema.specs.declared.Filled.{Filled}
+use Rattle.schema.specs.declared.Short.{Short}
 use Rattle.schema.specs.declared.Entry.{Entry}
 use Rattle.schema.specs.declared.Label.{Label}
+use Rattle.schema.specs.declared.Span.{Span}
 use Rattle.promises.specs.Determining.{Determines, DeterminesAll}
 use Rattle.promises.proofs.Determined.{one_equal, three_equal}
 
@@ -49,8 +51,8 @@ pub one_check_tables : (rows : List ℕ) (levels root : ℕ) (names declared dec
 one_check_tables rows levels root names declared declared_names_lem = one_equal (laid_out (tables rows names declared declared_names_lem) levels root)
 
 -- `first_row` has one answer.
-pub one_first_row : (rows : List ℕ) (first last level kind handle : ℕ) → Determines (λ r. r ≡ row_in rows first last level kind handle)
-one_first_row rows first last level kind handle = one_equal (row_in rows first last level kind handle)
+pub one_first_row : (rows : List ℕ) (span : Span) (level kind handle : ℕ) → Determines (λ r. r ≡ row_in rows span level kind handle)
+one_first_row rows span level kind handle = one_equal (row_in rows span level kind handle)
 
 -- `row_of` has one answer.
 pub one_row_of : (rows : List ℕ) (level kind handle : ℕ) → Determines (λ r. r ≡ row_of rows level kind handle)
@@ -73,11 +75,11 @@ pub one_level_spans : (rows : List ℕ) → Determines (λ r. r ≡ spans_of row
 one_level_spans rows = one_equal (spans_of rows)
 
 -- `entry_in` has one answer.
-pub one_entry_in : (rows : List ℕ) (first last level handle : ℕ) → Determines (λ r. r ≡ entry_in_lem rows first last level handle)
-one_entry_in rows first last level handle = one_equal (entry_in_lem rows first last level handle)
+pub one_entry_in : (rows : List ℕ) (span : Span) (level handle : ℕ) → Determines (λ r. r ≡ entry_in_lem rows span level handle)
+one_entry_in rows span level handle = one_equal (entry_in_lem rows span level handle)
 
 -- `entry_of` has one answer.
-pub one_entry_of : (rows spans : List ℕ) (level handle : ℕ) → Determines (λ r. r ≡ entry_at rows spans level handle)
+pub one_entry_of : (rows : List ℕ) (spans : List Span) (level handle : ℕ) → Determines (λ r. r ≡ entry_at rows spans level handle)
 one_entry_of rows spans level handle = one_equal (entry_at rows spans level handle)
 
 -- ---- the twelve levels
@@ -94,7 +96,7 @@ one_fill_schema rows names = three_equal _ _ _
 -- ---- what a refusal says
 
 -- `said` has one answer.
-pub one_said : (answer : Filled) → Determines (λ r. r ≡ said answer)
+pub one_said : (answer : Result Unit Short) → Determines (λ r. r ≡ said answer)
 one_said answer = one_equal (said answer)
 
 -- `tables_number` has one answer.

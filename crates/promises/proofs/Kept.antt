@@ -1,5 +1,6 @@
 -- A refusal leaves every lent buffer as it was lent: the contract says the buffers by the same choice as the answer. The theorem on a call is
 -- `kept_` and the call's name. The calls for C say 0 where they refuse nothing.
+use Rattle.std.specs.Prelude.{Result, Ok, Err}
 use Prim.Native.Nat.{ℕ, ◌+◌, ◌<◌}
 use mathlib.Core.Path.{◌≡◌, refl, sym, ap, ◌∙◌}
 use mathlib.Core.Bool.{Bool, true, false}
@@ -11,30 +12,27 @@ use Rattle.bits.proofs.Never.{never}
 use Rattle.bits.proofs.RunLaws.{store_out}
 use Rattle.bitio.specs.Copies.{copy_answer, CopiesBits}
 use Rattle.bitio.proofs.CopyLaws.{refused_target}
-use Rattle.bitio.specs.Order.{refusal_of_copied}
+use Rattle.bitio.specs.Order.{refusal_of}
 use Rattle.bitio.specs.declared.Cursor.{Cursor}
 use Rattle.bitio.specs.declared.Refusal.{Refusal}
-use Rattle.bitio.specs.declared.Copied.{Copied}
-use Rattle.bitio.specs.declared.Copied.TheVariants as Copy
 use Rattle.bits.specs.Decimals.{decimal, WritesDecimal}
 use Rattle.schema.specs.Tables.{Tables}
 use Rattle.schema.specs.TwelveLevels.{enough, fill_answer, filled_rows, filled_names, FillsSchema}
-use Rattle.schema.specs.declared.Filled.{Filled}
-use Rattle.schema.specs.declared.Filled.TheVariants as Fill
+use Rattle.schema.specs.declared.Short.{Short}
 use Rattle.framing.specs.Refusing.{Room, Answer, refused, accepted}
 use Rattle.outputs.specs.Answers.{Call, Lent, answer, pair_answer}
 use Rattle.outputs.proofs.Passes.{refusal_keeps, pairs_refusal_keeps}
 use Rattle.array.specs.Calls.{struct_call, exact_call, Decodes, DecodesPairs}
-use Rattle.array.specs.Refusals.{answer_of, pairs_of}
+use Rattle.array.specs.Refusals.{StructArray, ObjectArray, answer_of, pairs_of}
 use Rattle.array.proofs.OneAnswer.{refused_buffers, refused_pairs_lem}
-use Rattle.array.specs.declared.StructArray.{StructArray}
-use Rattle.array.specs.declared.ObjectArray.{ObjectArray}
 use Rattle.fastarray.specs.Answers as F
 use Rattle.fastarray.specs.Refusals.{numbered}
 use Rattle.fastarray.proofs.RefusalOrder as fast
 use Rattle.fastarray.specs.declared.ChecksumMode.{ChecksumMode}
-use Rattle.fastarray.specs.declared.FastArray.{FastArray}
-use Rattle.fastarray.specs.declared.FastArray.TheVariants as body
+use Rattle.std.specs.Prelude.{Result, Ok, Err}
+use Rattle.fastarray.specs.declared.Delta.{Delta}
+use Rattle.fastarray.specs.declared.Refusal.{Refusal as BodyRefusal}
+use Rattle.fastarray.specs.declared.Refusal.TheVariants as body
 use Rattle.exports.specs.Calls.{FillsForC, CopiesForC}
 use Rattle.exports.specs.ReadResults.{cursor_of_lem, copy_result}
 use Rattle.exports.specs.WalkResults.{Walks, WalksPairs, walk_result, objects_result, schema_result, mode_of, body_result, DecodesBody}
@@ -79,7 +77,7 @@ kept_decode_object_ref_array bytes bits b r x n f e = go (pairs_of r) refl e
 -- ---- the fast array
 
 -- A refused fast-array call leaves its three buffers as lent.
-pub kept_decode_fast_array_delta : (payload : List ℕ) (bits : ℕ) (mode : ChecksumMode) (l : F.Lent) (r : FastArray) (x : F.Lent) (n : Numbered)
+pub kept_decode_fast_array_delta : (payload : List ℕ) (bits : ℕ) (mode : ChecksumMode) (l : F.Lent) (r : Result Delta BodyRefusal) (x : F.Lent) (n : Numbered)
     → F.Answered (F.call payload bits mode) l r x → numbered r ≡ some n → x ≡ l
 kept_decode_fast_array_delta payload bits mode l r x n f e =
     let k = fast.refused_buffers (F.call payload bits mode) l
@@ -92,25 +90,25 @@ kept_decode_fast_array_delta payload bits mode l r x n f e =
 -- ---- copies
 
 -- A refused copy leaves its target as lent.
-pub kept_copy_bits_to : (bytes : List ℕ) (c : Cursor) (count : ℕ) (dst : List ℕ) (r : Copied) (end : List ℕ) (n : Refusal)
-    → CopiesBits bytes c count dst r end → refusal_of_copied r ≡ some n → end ≡ dst
+pub kept_copy_bits_to : (bytes : List ℕ) (c : Cursor) (count : ℕ) (dst : List ℕ) (r : Result ℕ Refusal) (end : List ℕ) (n : Refusal)
+    → CopiesBits bytes c count dst r end → refusal_of r ≡ some n → end ≡ dst
 kept_copy_bits_to bytes c count dst r end n f e = go r f.0 e
   where
-    go : (r : Copied) → r ≡ copy_answer bytes c count dst → refusal_of_copied r ≡ some n → end ≡ dst
-    go (Copy.Done next) g e = let z : ◌≡◌ {A = ℕ} 0 1 = cc in never z
-    go (Copy.Refused k) g e = f.1 ∙ refused_target bytes c count dst k (sym g)
+    go : (r : Result ℕ Refusal) → r ≡ copy_answer bytes c count dst → refusal_of r ≡ some n → end ≡ dst
+    go (Ok next) g e = let z : ◌≡◌ {A = ℕ} 0 1 = cc in never z
+    go (Err k) g e = f.1 ∙ refused_target bytes c count dst k (sym g)
 
 -- ---- the schema's two buffers
 
 -- A refused fill leaves rows and names as lent.
-pub kept_fill_schema : (rows names : List ℕ) (r : Filled) (end : List ℕ × List ℕ) (n : Numbered)
+pub kept_fill_schema : (rows names : List ℕ) (r : Result Unit Short) (end : List ℕ × List ℕ) (n : Numbered)
     → FillsSchema rows names r end.0 end.1 → filled_numbered r ≡ some n → (end.0 ≡ rows) × (end.1 ≡ names)
 unfolding fill_answer filled_rows filled_names
 kept_fill_schema rows names r end n f e = go (enough rows names) refl
   where
     go : (b : Bool) → enough rows names ≡ b → (end.0 ≡ rows) × (end.1 ≡ names)
     go true t =
-        let d : fill_answer rows names ≡ Fill.Done = simp t in
+        let d : fill_answer rows names ≡ Ok tt = simp t in
         let k : none ≡ some n = sym (ap filled_numbered (f.0 ∙ d)) ∙ e in
         let z : ◌≡◌ {A = ℕ} 0 1 = cc in
         never z
@@ -161,26 +159,26 @@ kept_vrf_fast_array payload bits checksum l r x f e =
     let o = f.fields ∙ k.2 in
     λ i. record { deleted = d i; items = i' i; fields = o i }
   where
-    accepted_is_0 : (a : FastArray) → numbered a ≡ none → (body_result a).refusal ≡ 0
-    accepted_is_0 (body.Decoded d) g = refl
-    accepted_is_0 body.TooLong g = let z : ◌≡◌ {A = ℕ} 0 1 = cc in never z
-    accepted_is_0 body.NotFastArray g = let z : ◌≡◌ {A = ℕ} 0 1 = cc in never z
-    accepted_is_0 (body.Short a b c) g = let z : ◌≡◌ {A = ℕ} 0 1 = cc in never z
+    accepted_is_0 : (a : Result Delta BodyRefusal) → numbered a ≡ none → (body_result a).refusal ≡ 0
+    accepted_is_0 (Ok d) g = refl
+    accepted_is_0 (Err body.TooLong) g = let z : ◌≡◌ {A = ℕ} 0 1 = cc in never z
+    accepted_is_0 (Err body.NotFastArray) g = let z : ◌≡◌ {A = ℕ} 0 1 = cc in never z
+    accepted_is_0 (Err (body.Short n)) g = let z : ◌≡◌ {A = ℕ} 0 1 = cc in never z
 
 -- `vrf_copy_bits`, refused, leaves its target as lent.
 pub kept_vrf_copy_bits : (bytes : List ℕ) (cursor : VrfCursor) (count : ℕ) (target : List ℕ) (r : VrfRead) (end : List ℕ)
     → CopiesForC bytes cursor count target r end → (r.refusal ≡ 0 → ⊥) → end ≡ target
 kept_vrf_copy_bits bytes cursor count target r end f e = go (copy_answer bytes (cursor_of_lem cursor) count target) refl
   where
-    go : (a : Copied) → copy_answer bytes (cursor_of_lem cursor) count target ≡ a → end ≡ target
-    go (Copy.Done p) h = absurd (e (ap (λ (v : VrfRead). v.refusal) f.0 ∙ ap (λ (a : Copied). (copy_result cursor.pos a).refusal) h))
-    go (Copy.Refused k) h = f.1 ∙ refused_target bytes (cursor_of_lem cursor) count target k h
+    go : (a : Result ℕ Refusal) → copy_answer bytes (cursor_of_lem cursor) count target ≡ a → end ≡ target
+    go (Ok p) h = absurd (e (ap (λ (v : VrfRead). v.refusal) f.0 ∙ ap (λ (a : Result ℕ Refusal). (copy_result cursor.pos a).refusal) h))
+    go (Err k) h = f.1 ∙ refused_target bytes (cursor_of_lem cursor) count target k h
 
 -- `vrf_schema`, refused, leaves rows and names as lent.
 pub kept_vrf_schema : (rows names : List ℕ) (r : VrfSchema) (end : List ℕ × List ℕ)
     → FillsForC rows names r end.0 end.1 → (r.refusal ≡ 0 → ⊥) → (end.0 ≡ rows) × (end.1 ≡ names)
 kept_vrf_schema rows names r end f e = go (fill_answer rows names) refl
   where
-    go : (a : Filled) → fill_answer rows names ≡ a → (end.0 ≡ rows) × (end.1 ≡ names)
-    go Fill.Done k = absurd (e (ap (λ (v : VrfSchema). v.refusal) f.0 ∙ ap (λ (a : Filled). (schema_result a).refusal) k))
-    go (Fill.Short a b) k = kept_fill_schema rows names (fill_answer rows names) end _ (refl, f.1, f.2) (ap filled_numbered k)
+    go : (a : Result Unit Short) → fill_answer rows names ≡ a → (end.0 ≡ rows) × (end.1 ≡ names)
+    go (Ok done) k = absurd (e (ap (λ (v : VrfSchema). v.refusal) f.0 ∙ ap (λ (a : Result Unit Short). (schema_result a).refusal) k))
+    go (Err need) k = kept_fill_schema rows names (fill_answer rows names) end _ (refl, f.1, f.2) (ap filled_numbered k)

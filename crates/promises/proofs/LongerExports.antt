@@ -10,7 +10,7 @@ use Rattle.array.specs.Calls.{call_of, struct_call, exact_call}
 use Rattle.fastarray.specs.Answers as F
 use Rattle.exports.specs.Calls.{vrf_read_bits_lem, vrf_read_packed_lem, vrf_read_serialized_lem, CopiesForC, vrf_vector_lem, vrf_normal_lem, vrf_rotation_lem, vrf_movement_lem}
 use Rattle.exports.specs.MoveResults.{vector_result, rotation_result, movement_result, rotation_kind_lem, location_kind_lem}
-use Rattle.exports.specs.ReadResults.{cursor_of_lem, bits_result, packed_result, serialized_result, copy_result}
+use Rattle.exports.specs.ReadResults.{cursor_of_lem, read_result, packed_result, copy_result}
 use Rattle.exports.specs.WalkResults.{Walks, walk_result, WalksPairs, objects_result, mode_of, body_result, DecodesBody}
 use Rattle.exports.specs.declared.VrfCursor.{VrfCursor}
 use Rattle.exports.specs.declared.VrfFastArray.{VrfFastArray}
@@ -73,7 +73,7 @@ longer_vrf_fast_array s t n checksum same = one_body_run s t n checksum (same_fo
 module _ (s t : List ℕ) (cursor : VrfCursor) (same : Inside s t (cursor_of_lem cursor)) where
   -- `vrf_read_bits` answers the same.
   pub longer_vrf_read_bits : (n : ℕ) → vrf_read_bits_lem s cursor n ≡ vrf_read_bits_lem t cursor n
-  longer_vrf_read_bits n = ap (bits_result cursor.pos) (longer_read_bits s t (cursor_of_lem cursor) same n)
+  longer_vrf_read_bits n = ap (read_result cursor.pos) (longer_read_bits s t (cursor_of_lem cursor) same n)
 
   -- `vrf_read_packed` answers the same.
   pub longer_vrf_read_packed : vrf_read_packed_lem s cursor ≡ vrf_read_packed_lem t cursor
@@ -81,7 +81,7 @@ module _ (s t : List ℕ) (cursor : VrfCursor) (same : Inside s t (cursor_of_lem
 
   -- `vrf_read_serialized` answers the same.
   pub longer_vrf_read_serialized : (m : ℕ) → vrf_read_serialized_lem s cursor m ≡ vrf_read_serialized_lem t cursor m
-  longer_vrf_read_serialized m = ap (serialized_result cursor.pos) (longer_read_serialized_int s t (cursor_of_lem cursor) same m)
+  longer_vrf_read_serialized m = ap (read_result cursor.pos) (longer_read_serialized_int s t (cursor_of_lem cursor) same m)
 
   -- `vrf_copy_bits` answers the same and leaves the same target.
   pub longer_vrf_copy_bits : (n : ℕ) (d : List ℕ) (r q : VrfRead) (x y : List ℕ) → CopiesForC s cursor n d r x → CopiesForC t cursor n d q y

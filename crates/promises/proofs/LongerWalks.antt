@@ -16,14 +16,15 @@ use Rattle.framing.specs.Refusing.{no_room_lem, needed, within, decided}
 use Rattle.framing.proofs.Demand3.{outside_alters_nothing, past_alike}
 use Rattle.outputs.specs.Answers.{Lent, laid, room_of, answer, final_leaves, final_paths, final_payloads, at_exit, pair_answer, final_pairs, final}
 use Rattle.array.specs.Calls.{call_of, struct_call, exact_call, Decodes, DecodesPairs}
+use Rattle.array.specs.Refusals.{StructArray, ObjectArray}
 use Rattle.array.proofs.OneAnswer.{one_struct, one_object}
-use Rattle.array.specs.declared.StructArray.{StructArray}
-use Rattle.array.specs.declared.ObjectArray.{ObjectArray}
 use Rattle.fastarray.specs.Answers as F
 use Rattle.fastarray.proofs.Outside as fast
 use Rattle.fastarray.proofs.AnswerLaws.{one_answer}
 use Rattle.fastarray.specs.declared.ChecksumMode.{ChecksumMode}
-use Rattle.fastarray.specs.declared.FastArray.{FastArray}
+use Rattle.std.specs.Prelude.{Result}
+use Rattle.fastarray.specs.declared.Delta.{Delta}
+use Rattle.fastarray.specs.declared.Refusal.{Refusal}
 use Rattle.promises.specs.Outside.{Alike, both_hold, both_fewer, AlikeBodies, both_whole, neither_whole}
 
 -- ---- walks
@@ -113,7 +114,7 @@ same_body s t n mode same l =
 
 -- Two runs that find the same body answer the same and leave the same buffers.
 pub one_run : (s t : List ℕ) (n : ℕ) (mode : ChecksumMode) → F.found (F.call s n mode) ≡ F.found (F.call t n mode)
-    → (l : F.Lent) (r q : FastArray) (x y : F.Lent) → F.Answered (F.call s n mode) l r x → F.Answered (F.call t n mode) l q y → (r ≡ q) × (x ≡ y)
+    → (l : F.Lent) (r q : Result Delta Refusal) (x y : F.Lent) → F.Answered (F.call s n mode) l r x → F.Answered (F.call t n mode) l q y → (r ≡ q) × (x ≡ y)
 one_run s t n mode same l r q x y f g =
     let e = same_body s t n mode same l in
     one_answer (F.call s n mode) l r q x y f
@@ -130,6 +131,6 @@ same_found s t n mode (both_whole hs ht bits) = fast.outside_found s t n mode (h
 same_found s t n mode (neither_whole hs ht) = fast.none_found s t n mode hs ht
 
 -- A fast-array call answers the same and leaves the same buffers.
-pub longer_decode_fast_array_delta : (s t : List ℕ) (n : ℕ) (mode : ChecksumMode) → AlikeBodies s t n → (l : F.Lent) (r q : FastArray) (x y : F.Lent)
+pub longer_decode_fast_array_delta : (s t : List ℕ) (n : ℕ) (mode : ChecksumMode) → AlikeBodies s t n → (l : F.Lent) (r q : Result Delta Refusal) (x y : F.Lent)
     → F.Answered (F.call s n mode) l r x → F.Answered (F.call t n mode) l q y → (r ≡ q) × (x ≡ y)
 longer_decode_fast_array_delta s t n mode same = one_run s t n mode (same_found s t n mode same)

@@ -1,5 +1,6 @@
 -- Record i of an accepted answer is that of leaf i of its walk (Places), and a walk's leaves lie one behind the other (framing/proofs/LeafOrder). The
 -- theorem on a call is `ordered_` and the call's name.
+use Rattle.std.specs.Prelude.{Ok, Err}
 use Prim.Native.Nat.{ℕ, suc}
 use mathlib.Core.Path.{◌≡◌, refl, sym, ap, ◌∙◌, subst}
 use mathlib.Core.List.{List}
@@ -15,11 +16,9 @@ use Rattle.framing.proofs.LeafOrder.{leaves_in_order}
 use Rattle.framing.proofs.TailAtAnEmptyLeaf.{tail_at_an_empty_leaf}
 use Rattle.outputs.specs.Answers.{Call, Lent, trace_of}
 use Rattle.array.specs.Calls.{struct_call, exact_call, Decodes}
-use Rattle.array.specs.declared.ArrayDecodeStats.{ArrayDecodeStats}
+use Rattle.array.specs.Refusals.{StructArray}
 use Rattle.array.specs.declared.Extent.{Extent}
-use Rattle.array.specs.declared.Verdict.{Verdict}
-use Rattle.array.specs.declared.StructArray.{StructArray}
-use Rattle.array.specs.declared.StructArray.TheVariants as structs
+use Rattle.array.specs.declared.Walked.{Walked}
 use Rattle.exports.specs.WalkResults.{Walks}
 use Rattle.exports.specs.declared.VrfWalk.{VrfWalk}
 use Rattle.promises.specs.Accounts.{RecordsInOrder, SharedStart, OrderedLeaves, OrderedLeavesInC}
@@ -48,10 +47,8 @@ found_ordered k need x found =
     }
 
 decodes_ordered : (k : Call) → Leafy k.how → (b : Lent) (r : StructArray) (x : Lent) → Decodes k b r x → OrderedLeaves k r x
-decodes_ordered k leafy b (structs.Decoded st v e p) x f = found_ordered k _ x (decodes_placed k leafy b (structs.Decoded st v e p) x f)
-decodes_ordered k leafy b structs.TooLong x f = tt
-decodes_ordered k leafy b structs.BrokenTables x f = tt
-decodes_ordered k leafy b (structs.Short e) x f = tt
+decodes_ordered k leafy b (Ok w) x f = found_ordered k _ x (decodes_placed k leafy b (Ok w) x f)
+decodes_ordered k leafy b (Err why) x f = tt
 
 walks_ordered : (k : Call) → Leafy k.how → (b : Lent) (r : VrfWalk) (x : Lent) → Walks k b r x → OrderedLeavesInC k r x
 walks_ordered k leafy b r x f z = found_ordered k _ x (walks_placed k leafy b r x f z)
@@ -78,14 +75,14 @@ pub ordered_vrf_struct_array_exact : (bytes : List ℕ) (bits : ℕ) (declared d
 ordered_vrf_struct_array_exact bytes bits declared declared_names_lem = walks_ordered (exact_call bytes bits declared declared_names_lem) refl
 
 -- THE EXCEPTION HAPPENS: every accepted answer on the window of framing/specs/PlacedCases.tail_behind_fields leaves such a pair of records.
-pub start_shared : (b : Lent) (st : ArrayDecodeStats) (v : Verdict) (e : Extent) (p : ℕ) (x : Lent)
-    → Decodes (struct_call tail_behind_fields.bytes tail_behind_fields.bits no_tables 0 absent) b (structs.Decoded st v e p) x
+pub start_shared : (b : Lent) (w : Walked Extent) (x : Lent)
+    → Decodes (struct_call tail_behind_fields.bytes tail_behind_fields.bits no_tables 0 absent) b (Ok w) x
     → SharedStart x tail_at_an_empty_leaf.i
-start_shared b st v e p x f =
+start_shared b w x f =
     let k = struct_call tail_behind_fields.bytes tail_behind_fields.bits no_tables 0 absent in
     let l : List Leaf = leaves (trace_of k) in
     let t = tail_at_an_empty_leaf in
-    let found = decodes_placed k refl b (structs.Decoded st v e p) x f in
+    let found = decodes_placed k refl b (Ok w) x f in
     let first = found.leaf t.i (omega (arith, found.all, stands_below l t.empty t.i t.stands)) in
     let second = found.leaf (suc t.i) (omega (arith, found.all, stands_below l t.tail (suc t.i) t.next)) in
     let a : first.leaf ≡ t.empty = one_stands l first.leaf t.empty t.i first.stands t.stands in

@@ -1,20 +1,19 @@
 -- Bits outside its window alter no answer of a call at a cursor, and no buffer: two lists of as many bytes that agree on the window's bits give the
 -- same, since the definitions see the bytes only as the window's number and its length. The theorem on a call is `outside_` and the call's name.
-use Prim.Native.Nat.{ℕ, ◌-◌, ◌*◌, ◌^◌, min}
+use Rattle.std.specs.Prelude.{◌==◌, Result}
+use Prim.Native.Nat.{ℕ, ◌+◌, ◌-◌, ◌*◌, ◌^◌, min}
 use mathlib.Core.Path.{◌≡◌, sym, ap, ◌∙◌}
 use mathlib.Core.List.{List}
 use lib.ListN.{length}
-use Rattle.bitio.specs.Cursors.{window, opened, whole_of, position_of, length_of, remaining_of, end_of, skipped, skipped_all, as_window, sub_reader_lem}
-use Rattle.bitio.specs.Reads.{as_bit, as_u8, as_u16, as_u32, as_i32, read_bit_lem, read_bits_lem, read_u8_lem, read_u16_lem, read_u32_lem, read_i32_lem, read_u64_lem}
+use Rattle.bits.specs.TwosComplement.{twos}
+use Rattle.bitio.specs.Cursors.{window, opened, whole_of, position_of, length_of, remaining_of, end_of, skipped, skipped_all, seen, sub_reader_lem}
+use Rattle.bitio.specs.Reads.{read_bit_lem, read_bits_lem, read_u8_lem, read_u16_lem, read_u32_lem, read_i32_lem, read_u64_lem}
 use Rattle.bitio.specs.Numbers.{read_int_packed_lem, read_serialized_int_lem}
 use Rattle.bitio.specs.Copies.{CopiesBits}
 use Rattle.bitio.proofs.Outside as bits
-use Rattle.bitio.proofs.Outside.{same_window, outside_alters_nothing, outside_taken}
+use Rattle.bitio.proofs.Outside.{same_window, outside_alters_nothing, outside_read}
 use Rattle.bitio.specs.declared.Cursor.{Cursor}
-use Rattle.bitio.specs.declared.Measured.TheVariants as Measure
-use Rattle.bitio.specs.declared.Ended.TheVariants as End
-use Rattle.bitio.specs.declared.Skipped.TheVariants as Skip
-use Rattle.bitio.specs.declared.Copied.{Copied}
+use Rattle.bitio.specs.declared.Refusal.{Refusal}
 use Rattle.geometry.specs.Vectors.{read_vector, read_normal}
 use Rattle.geometry.specs.Rotations.{read_rotation_lem}
 use Rattle.geometry.specs.Movements.{read_movement}
@@ -34,35 +33,35 @@ module _ (s t : List ℕ) (c : Cursor) (same : Agree s t c.start c.len) where
 
   -- `position` answers the same.
   pub outside_position : position_of s c ≡ position_of t c
-  outside_position = outside_alters_nothing s t c as_many one_window Measure.Refused _
+  outside_position = outside_alters_nothing s t c as_many one_window _
 
   -- `len_bits` answers the same.
   pub outside_len_bits : length_of s c ≡ length_of t c
-  outside_len_bits = outside_alters_nothing s t c as_many one_window Measure.Refused _
+  outside_len_bits = outside_alters_nothing s t c as_many one_window _
 
   -- `bits_remaining` answers the same.
   pub outside_bits_remaining : remaining_of s c ≡ remaining_of t c
-  outside_bits_remaining = outside_alters_nothing s t c as_many one_window Measure.Refused _
+  outside_bits_remaining = outside_alters_nothing s t c as_many one_window _
 
   -- `at_end` answers the same.
   pub outside_at_end : end_of s c ≡ end_of t c
-  outside_at_end = outside_alters_nothing s t c as_many one_window End.Refused _
+  outside_at_end = outside_alters_nothing s t c as_many one_window _
 
   -- `skip_bits` answers the same.
   pub outside_skip_bits : (n : ℕ) → skipped s c n ≡ skipped t c n
-  outside_skip_bits n = outside_alters_nothing s t c as_many one_window Skip.Refused _
+  outside_skip_bits n = outside_alters_nothing s t c as_many one_window _
 
   -- `skip_remaining` answers the same.
   pub outside_skip_remaining : skipped_all s c ≡ skipped_all t c
-  outside_skip_remaining = outside_alters_nothing s t c as_many one_window Skip.Refused _
+  outside_skip_remaining = outside_alters_nothing s t c as_many one_window _
 
   -- `sub_reader` answers the same.
   pub outside_sub_reader : (n : ℕ) → sub_reader_lem s c n ≡ sub_reader_lem t c n
-  outside_sub_reader n = ap (as_window c n) (outside_skip_bits n)
+  outside_sub_reader n = ap (seen (record { start = c.start + c.pos; pos = 0; len = n })) (outside_skip_bits n)
 
   -- `read_bit` answers the same.
   pub outside_read_bit : read_bit_lem s c ≡ read_bit_lem t c
-  outside_read_bit = ap as_bit (outside_taken s t c as_many one_window 1)
+  outside_read_bit = outside_read s t c as_many one_window (λ x. x == 1) 1
 
   -- `read_bits` answers the same.
   pub outside_read_bits : (n : ℕ) → read_bits_lem s c n ≡ read_bits_lem t c n
@@ -70,23 +69,23 @@ module _ (s t : List ℕ) (c : Cursor) (same : Agree s t c.start c.len) where
 
   -- `read_u8` answers the same.
   pub outside_read_u8 : read_u8_lem s c ≡ read_u8_lem t c
-  outside_read_u8 = ap as_u8 (outside_taken s t c as_many one_window 8)
+  outside_read_u8 = outside_read s t c as_many one_window (λ x. x) 8
 
   -- `read_u16` answers the same.
   pub outside_read_u16 : read_u16_lem s c ≡ read_u16_lem t c
-  outside_read_u16 = ap as_u16 (outside_taken s t c as_many one_window 16)
+  outside_read_u16 = outside_read s t c as_many one_window (λ x. x) 16
 
   -- `read_u32` answers the same.
   pub outside_read_u32 : read_u32_lem s c ≡ read_u32_lem t c
-  outside_read_u32 = ap as_u32 (outside_taken s t c as_many one_window 32)
+  outside_read_u32 = outside_read s t c as_many one_window (λ x. x) 32
 
   -- `read_i32` answers the same.
   pub outside_read_i32 : read_i32_lem s c ≡ read_i32_lem t c
-  outside_read_i32 = ap as_i32 (outside_taken s t c as_many one_window 32)
+  outside_read_i32 = outside_read s t c as_many one_window (twos 32) 32
 
   -- `read_u64` answers the same.
   pub outside_read_u64 : read_u64_lem s c ≡ read_u64_lem t c
-  outside_read_u64 = outside_taken s t c as_many one_window 64
+  outside_read_u64 = outside_read s t c as_many one_window (λ x. x) 64
 
   -- `read_int_packed` answers the same.
   pub outside_read_int_packed : read_int_packed_lem s c ≡ read_int_packed_lem t c
@@ -97,7 +96,7 @@ module _ (s t : List ℕ) (c : Cursor) (same : Agree s t c.start c.len) where
   outside_read_serialized_int m = bits.outside_serialized s t c as_many one_window m
 
   -- `copy_bits_to` answers the same and leaves the same target.
-  pub outside_copy_bits_to : (n : ℕ) (d : List ℕ) (r q : Copied) (x y : List ℕ) → CopiesBits s c n d r x → CopiesBits t c n d q y → (r ≡ q) × (x ≡ y)
+  pub outside_copy_bits_to : (n : ℕ) (d : List ℕ) (r q : Result ℕ Refusal) (x y : List ℕ) → CopiesBits s c n d r x → CopiesBits t c n d q y → (r ≡ q) × (x ≡ y)
   outside_copy_bits_to n d r q x y f g =
       let e = bits.outside_copy s t c as_many one_window n d in (f.0 ∙ e.0 ∙ sym g.0, f.1 ∙ e.1 ∙ sym g.1)
 

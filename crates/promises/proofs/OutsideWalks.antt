@@ -10,12 +10,13 @@ use Rattle.bits.proofs.ChoiceLaws.{by_cases}
 use Rattle.schema.specs.Tables.{Tables}
 use Rattle.outputs.specs.Answers.{Lent}
 use Rattle.array.specs.Calls.{struct_call, exact_call, Decodes, DecodesPairs}
-use Rattle.array.specs.declared.StructArray.{StructArray}
-use Rattle.array.specs.declared.ObjectArray.{ObjectArray}
+use Rattle.array.specs.Refusals.{StructArray, ObjectArray}
 use Rattle.fastarray.specs.Answers as F
 use Rattle.fastarray.proofs.Outside as fast
 use Rattle.fastarray.specs.declared.ChecksumMode.{ChecksumMode}
-use Rattle.fastarray.specs.declared.FastArray.{FastArray}
+use Rattle.std.specs.Prelude.{Result}
+use Rattle.fastarray.specs.declared.Delta.{Delta}
+use Rattle.fastarray.specs.declared.Refusal.{Refusal}
 use Rattle.promises.specs.Outside.{Agree, Alike, both_hold, both_fewer}
 use Rattle.promises.proofs.LongerWalks.{longer_decode_struct_array, longer_decode_struct_array_exact, longer_decode_object_ref_array, one_run}
 
@@ -53,6 +54,6 @@ pub agree_found : (s t : List ℕ) (n : ℕ) (mode : ChecksumMode) → Agree s t
 agree_found s t n mode same = fast.outside_found s t n mode same.as_many same.same_bits
 
 -- A fast-array call answers the same and leaves the same buffers.
-pub outside_decode_fast_array_delta : (s t : List ℕ) (n : ℕ) (mode : ChecksumMode) → Agree s t 0 n → (l : F.Lent) (r q : FastArray) (x y : F.Lent)
+pub outside_decode_fast_array_delta : (s t : List ℕ) (n : ℕ) (mode : ChecksumMode) → Agree s t 0 n → (l : F.Lent) (r q : Result Delta Refusal) (x y : F.Lent)
     → F.Answered (F.call s n mode) l r x → F.Answered (F.call t n mode) l q y → (r ≡ q) × (x ≡ y)
 outside_decode_fast_array_delta s t n mode same = one_run s t n mode (agree_found s t n mode same)

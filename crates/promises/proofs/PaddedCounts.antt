@@ -1,11 +1,12 @@
 -- An accepted answer counts the padded ones among the numbers that its walk took, or that its body holds, since the contract says so (Ran). Each of
 -- these has five bytes at most and, if it is padded, takes 16 bits (framing/proofs/PaddedTaken, fastarray/proofs/PaddedNumbers); and of five bytes
 -- padded means that a shorter form exists (framing/proofs/PaddedForms). The theorem on a call is `padded_` and the call's name.
+use Rattle.std.specs.Prelude.{Ok, Err}
 use Prim.Native.Nat.{ℕ, ◌≤◌}
 use mathlib.Core.Path.{◌≡◌, refl, sym, subst}
 use mathlib.Core.Bool.{true}
 use mathlib.Core.List.{List, [], ◌∷◌}
-use mathlib.Core.Option.{Option, none, some}
+use Rattle.std.specs.Prelude.{Option, None, Some, Result, Ok, Err}
 use native.Mathlib.Omega.{arith}
 use lib.Dec.{ltb}
 use Rattle.bits.specs.Members.{All}
@@ -25,15 +26,13 @@ use Rattle.framing.proofs.PaddedForms.{few_exactly}
 use Rattle.framing.proofs.PaddedTaken.{walk_takes}
 use Rattle.outputs.specs.Answers.{Call, Lent, trace_of, answer, pair_trace, pair_answer}
 use Rattle.array.specs.Calls.{struct_call, exact_call, Decodes, DecodesPairs}
-use Rattle.array.specs.declared.StructArray.{StructArray}
-use Rattle.array.specs.declared.StructArray.TheVariants as structs
-use Rattle.array.specs.declared.ObjectArray.{ObjectArray}
-use Rattle.array.specs.declared.ObjectArray.TheVariants as objects
+use Rattle.array.specs.Refusals.{StructArray, ObjectArray}
 use Rattle.fastarray.specs.Answers as F
 use Rattle.fastarray.specs.Body.{Body, numbers_of}
 use Rattle.fastarray.specs.declared.ChecksumMode.{ChecksumMode}
-use Rattle.fastarray.specs.declared.FastArray.{FastArray}
-use Rattle.fastarray.specs.declared.FastArray.TheVariants as body
+use Rattle.fastarray.specs.declared.Delta.{Delta}
+use Rattle.fastarray.specs.declared.Refusal.{Refusal}
+use Rattle.fastarray.specs.declared.Refusal.TheVariants as body
 use Rattle.fastarray.proofs.PaddedNumbers.{found_takes}
 use Rattle.exports.specs.WalkResults.{walk_result, Walks, objects_result, WalksPairs, mode_of, body_result, DecodesBody}
 use Rattle.exports.specs.declared.VrfWalk.{VrfWalk}
@@ -59,10 +58,8 @@ ran_counts : {A : Type 0} {form : judged.Verdict → A} {k : Call} {b : Lent} {c
 ran_counts {k = k} {p = p} run = counts_of (taken (trace_of k)) k.bits p (ran_tells run).2 (walk_takes k.how k.bytes k.bits)
 
 decodes_counts : (k : Call) (b : Lent) (r : StructArray) (x : Lent) → Decodes k b r x → CountsTaken k r
-decodes_counts k b (structs.Decoded st v e p) x f = ran_counts (ran_decodes k b st v e p x f)
-decodes_counts k b structs.TooLong x f = tt
-decodes_counts k b structs.BrokenTables x f = tt
-decodes_counts k b (structs.Short e) x f = tt
+decodes_counts k b (Ok w) x f = ran_counts (ran_decodes k b w x f)
+decodes_counts k b (Err why) x f = tt
 
 walks_counts : (k : Call) (b : Lent) (r : VrfWalk) (x : Lent) → Walks k b r x → CountsTakenInC k r
 walks_counts k b r x f =
@@ -104,9 +101,8 @@ pairs_counts {bytes = bytes} {bits = bits} {p = p} run = counts_of (taken (pair_
 -- THE OBJECT WALK: an accepted answer counts the padded numbers that the walk took.
 pub padded_decode_object_ref_array : (bytes : List ℕ) (bits : ℕ) (b : List ℕ) (r : ObjectArray) (x : List ℕ)
     → DecodesPairs bytes bits b r x → CountsInPairs bytes bits r
-padded_decode_object_ref_array bytes bits b (objects.Decoded st v n p) x f = pairs_counts (ran_pairs bytes bits b st v n p x f)
-padded_decode_object_ref_array bytes bits b objects.TooLong x f = tt
-padded_decode_object_ref_array bytes bits b (objects.Short n) x f = tt
+padded_decode_object_ref_array bytes bits b (Ok w) x f = pairs_counts (ran_pairs bytes bits b w x f)
+padded_decode_object_ref_array bytes bits b (Err why) x f = tt
 
 -- `vrf_object_array`: the same of a struct that says no refusal; a refused one counts 0.
 pub padded_vrf_object_array : (bytes : List ℕ) (bits : ℕ) (b : List ℕ) (r : VrfObjects) (x : List ℕ)
@@ -125,8 +121,8 @@ padded_vrf_object_array bytes bits b r x f =
 
 decided_counts : (c : F.Call) (l : F.Lent) (o : Option Body) → F.found c ≡ o → CountsInBody c (F.decided o l)
 unfolding F.decided
-decided_counts c l none e = tt
-decided_counts c l (some b) e =
+decided_counts c l None e = tt
+decided_counts c l (Some b) e =
     by_cases (F.fits_in b l)
     (λ h. rw h (record { body = b; holds = e; counts = counts_of (numbers_of b.items) c.bits _ refl (found_takes c b e) }))
     (λ h. rw h tt)
@@ -136,16 +132,16 @@ unfolding F.answer
 answer_counts c l = by_cases (ltb longest_window c.bits) (λ h. rw h tt) (λ h. rw h (decided_counts c l (F.found c) refl))
 
 -- `decode_fast_array_delta`: an accepted answer counts the padded numbers of the body.
-pub padded_decode_fast_array_delta : (payload : List ℕ) (bits : ℕ) (mode : ChecksumMode) (l : F.Lent) (r : FastArray) (x : F.Lent)
+pub padded_decode_fast_array_delta : (payload : List ℕ) (bits : ℕ) (mode : ChecksumMode) (l : F.Lent) (r : Result Delta Refusal) (x : F.Lent)
     → F.Answered (F.call payload bits mode) l r x → CountsInBody (F.call payload bits mode) r
 padded_decode_fast_array_delta payload bits mode l r x f =
     let c = F.call payload bits mode in subst (CountsInBody c) (sym f.says) (answer_counts c l)
 
-body_counts : (c : F.Call) (a : FastArray) → CountsInBody c a → CountsBodyInC c (body_result a)
-body_counts c (body.Decoded d) h = record { accepted = λ z. h; refused = λ z. absurd (z refl) }
-body_counts c body.TooLong h = record { accepted = λ z. never (sym z); refused = λ z. refl }
-body_counts c body.NotFastArray h = record { accepted = λ z. absurd (omega arith); refused = λ z. refl }
-body_counts c (body.Short d i f) h = record { accepted = λ z. absurd (omega arith); refused = λ z. refl }
+body_counts : (c : F.Call) (a : Result Delta Refusal) → CountsInBody c a → CountsBodyInC c (body_result a)
+body_counts c (Ok d) h = record { accepted = λ z. h; refused = λ z. absurd (z refl) }
+body_counts c (Err body.TooLong) h = record { accepted = λ z. never (sym z); refused = λ z. refl }
+body_counts c (Err body.NotFastArray) h = record { accepted = λ z. absurd (omega arith); refused = λ z. refl }
+body_counts c (Err (body.Short n)) h = record { accepted = λ z. absurd (omega arith); refused = λ z. refl }
 
 -- `vrf_fast_array`: the same of a struct that says no refusal; a refused one counts 0.
 pub padded_vrf_fast_array : (payload : List ℕ) (bits checksum : ℕ) (l : F.Lent) (r : VrfFastArray) (x : F.Lent)

@@ -16,7 +16,7 @@ use Rattle.framing.specs.PairsBehind.{walk_behind, NotToldApart}
 use Rattle.framing.proofs.PairOrder.{behind_fields}
 use Rattle.outputs.specs.Answers.{at_exit, pair_answer_of, final_pairs_of, pair_answer, final_pairs}
 use Rattle.array.specs.Calls.{DecodesPairs}
-use Rattle.array.specs.declared.ObjectArray.{ObjectArray}
+use Rattle.array.specs.Refusals.{ObjectArray}
 use Rattle.exports.specs.WalkResults.{objects_result, WalksPairs}
 use Rattle.exports.specs.declared.VrfObjects.{VrfObjects}
 use Rattle.promises.specs.PairsBehind.{answer_behind, GivenBehind, GivenBehindInC}

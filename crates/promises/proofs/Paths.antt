@@ -21,8 +21,7 @@ use Rattle.framing.proofs.LongestPath.{Labelled, walk_short, leaves_short}
 use Rattle.outputs.specs.Answers.{Call, Lent, laid, trace_of, room_of, answer}
 use Rattle.outputs.proofs.ShortPaths.{laid_labelled, object_labelled, path_bound}
 use Rattle.array.specs.Calls.{struct_call, exact_call, Decodes}
-use Rattle.array.specs.Refusals.{answer_of}
-use Rattle.array.specs.declared.StructArray.{StructArray}
+use Rattle.array.specs.Refusals.{StructArray, answer_of}
 use Rattle.exports.specs.WalkResults.{Walks, walk_result}
 use Rattle.exports.specs.declared.VrfWalk.{VrfWalk}
 use Rattle.promises.specs.Paths.{PathsFit, PathsFitInC}

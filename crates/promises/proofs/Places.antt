@@ -1,6 +1,7 @@
 -- An accepted answer's buffers begin with the records, path bytes and payload bytes of its walk's leaves (Ran), so record i is that of leaf i
 -- (framing/proofs/RecordLaws); and every leaf of a walk lies where it is said to (framing/proofs/Places). The theorem on a call is `placed_` and the
 -- call's name.
+use Rattle.std.specs.Prelude.{Ok, Err}
 use Prim.Native.Nat.{ℕ, ◌<◌}
 use mathlib.Core.Path.{◌≡◌, refl, sym, ap, ◌∙◌}
 use mathlib.Core.List.{List, ◌∷◌, ◌++◌}
@@ -22,8 +23,7 @@ use Rattle.framing.proofs.Places.{walk_placed, leaves_among}
 use Rattle.outputs.specs.Records.{leaf_number}
 use Rattle.outputs.specs.Answers.{Call, Lent, trace_of, Front}
 use Rattle.array.specs.Calls.{struct_call, exact_call, Decodes}
-use Rattle.array.specs.declared.StructArray.{StructArray}
-use Rattle.array.specs.declared.StructArray.TheVariants as structs
+use Rattle.array.specs.Refusals.{StructArray}
 use Rattle.exports.specs.WalkResults.{Walks}
 use Rattle.exports.specs.declared.VrfWalk.{VrfWalk}
 use Rattle.promises.specs.Places.{stretch, RecordOf, LeafFound, LeavesFound, PlacedLeaves, PlacedLeavesInC}
@@ -93,10 +93,8 @@ ran_found {k = k} {x = x} leafy run =
     }
 
 pub decodes_placed : (k : Call) → Leafy k.how → (b : Lent) (r : StructArray) (x : Lent) → Decodes k b r x → PlacedLeaves k r x
-decodes_placed k leafy b (structs.Decoded st v e p) x f = ran_found leafy (ran_decodes k b st v e p x f)
-decodes_placed k leafy b structs.TooLong x f = tt
-decodes_placed k leafy b structs.BrokenTables x f = tt
-decodes_placed k leafy b (structs.Short e) x f = tt
+decodes_placed k leafy b (Ok w) x f = ran_found leafy (ran_decodes k b w x f)
+decodes_placed k leafy b (Err why) x f = tt
 
 pub walks_placed : (k : Call) → Leafy k.how → (b : Lent) (r : VrfWalk) (x : Lent) → Walks k b r x → PlacedLeavesInC k r x
 walks_placed k leafy b r x f z = ran_found leafy (ran_walks k b r x f z)

@@ -1,5 +1,6 @@
 -- Demand 3 of accepted answers and of lent buffers. It holds because an accepted answer tells its walk's counters and needs (Ran), its buffers
 -- begin with the walk's leaves or pairs, and demand 3 holds of the walks. The theorem on a call is `prefix_` and the call's name.
+use Rattle.std.specs.Prelude.{Ok}
 use mathlib.Core.Path.{◌≡◌, refl, sym, ap, ◌∙◌, subst}
 use mathlib.Core.Bool.{true}
 use mathlib.Core.List.{List, [], ◌∷◌, ◌++◌}
@@ -28,14 +29,11 @@ use Rattle.outputs.specs.Answers.{Call, Lent, trace_of, pair_trace, final_pairs,
 use Rattle.outputs.proofs.Fronts.{CutCall, demand3_buffers, demand3_pairs, opens_filled, opens_paths, opens_payloads}
 use Rattle.array.specs.Calls.{call_of, struct_call, exact_call, verdict_named, Decodes, DecodesPairs}
 use Rattle.array.specs.Refusals.{room_in}
-use Rattle.array.specs.declared.ArrayDecodeStats.{ArrayDecodeStats}
 use Rattle.array.specs.declared.Extent.{Extent}
-use Rattle.array.specs.declared.Verdict.{Verdict}
+use Rattle.array.specs.declared.Walked.{Walked}
 use Rattle.exports.specs.WalkResults.{verdict_number_lem, Walks, WalksPairs}
 use Rattle.exports.specs.declared.VrfWalk.{VrfWalk}
 use Rattle.exports.specs.declared.VrfObjects.{VrfObjects}
-use Rattle.array.specs.declared.StructArray.TheVariants as structs
-use Rattle.array.specs.declared.ObjectArray.TheVariants as objects
 use Rattle.promises.specs.Prefix as P
 use Rattle.promises.specs.Prefix.{FirstBits, BeforeTail, tail_off, Begins, PairsBegin, BeginsInC, PairsBeginInC}
 use Rattle.promises.proofs.VerdictForms.{Apart, named_apart, number_apart}
@@ -144,22 +142,22 @@ module _ (longer shorter : List ℕ) (n m : ℕ) (first : FirstBits longer short
       → Begins form (call_of k levels shorter m) (call_of k levels longer n) v w e f x y
   begin form apart k levels = leaves_begin (call_of k levels shorter m) (call_of k levels longer n) (cut_call k levels) form apart
 
-  module _ (b d x y : Lent) (st su : ArrayDecodeStats) (v w : Verdict) (e f : Extent) (i j : ℕ) where
+  module _ (b d x y : Lent) (u w : Walked Extent) where
     -- DEMAND 3 OF THE STRUCT WALK: neither of two calls with the same tables is refused, and the shorter's bits are the longer's first. The
     -- shorter's records, path bytes and payload bytes, but for a kept tail's, stand unchanged at the front of the longer's buffers; and if the
     -- longer's verdict is clean and the shorter has fewer bits, its verdict is not clean, but where it lacks exactly a zero trailer.
-    pub prefix_decode_struct_array : (t : Tables) (levels root : ℕ) → Decodes (struct_call shorter m t levels root) b (structs.Decoded st v e i) x
-        → Decodes (struct_call longer n t levels root) d (structs.Decoded su w f j) y
-        → Begins verdict_named (struct_call shorter m t levels root) (struct_call longer n t levels root) v w (room_in e) (room_in f) x y
+    pub prefix_decode_struct_array : (t : Tables) (levels root : ℕ) → Decodes (struct_call shorter m t levels root) b (Ok u) x
+        → Decodes (struct_call longer n t levels root) d (Ok w) y
+        → Begins verdict_named (struct_call shorter m t levels root) (struct_call longer n t levels root) u.verdict w.verdict (room_in u.filled) (room_in w.filled) x y
     prefix_decode_struct_array t levels root p q =
-        begin verdict_named named_apart (struct t root) levels b d x y _ _ v w _ _ (ran_decodes _ b st v e i x p) (ran_decodes _ d su w f j y q)
+        begin verdict_named named_apart (struct t root) levels b d x y _ _ u.verdict w.verdict _ _ (ran_decodes _ b u x p) (ran_decodes _ d w y q)
 
     -- DEMAND 3 OF THE EXACT WALK: the same.
-    pub prefix_decode_struct_array_exact : (declared declared_names_lem : List ℕ) → Decodes (exact_call shorter m declared declared_names_lem) b (structs.Decoded st v e i) x
-        → Decodes (exact_call longer n declared declared_names_lem) d (structs.Decoded su w f j) y
-        → Begins verdict_named (exact_call shorter m declared declared_names_lem) (exact_call longer n declared declared_names_lem) v w (room_in e) (room_in f) x y
+    pub prefix_decode_struct_array_exact : (declared declared_names_lem : List ℕ) → Decodes (exact_call shorter m declared declared_names_lem) b (Ok u) x
+        → Decodes (exact_call longer n declared declared_names_lem) d (Ok w) y
+        → Begins verdict_named (exact_call shorter m declared declared_names_lem) (exact_call longer n declared declared_names_lem) u.verdict w.verdict (room_in u.filled) (room_in w.filled) x y
     prefix_decode_struct_array_exact declared declared_names_lem p q =
-        begin verdict_named named_apart (exact declared declared_names_lem) 0 b d x y _ _ v w _ _ (ran_decodes _ b st v e i x p) (ran_decodes _ d su w f j y q)
+        begin verdict_named named_apart (exact declared declared_names_lem) 0 b d x y _ _ u.verdict w.verdict _ _ (ran_decodes _ b u x p) (ran_decodes _ d w y q)
 
   module _ (b d x y : Lent) (r q : VrfWalk) where
     -- DEMAND 3 OF `vrf_struct_array`: the same of two structs, of which neither is refused.
@@ -205,11 +203,11 @@ module _ (longer shorter : List ℕ) (n m : ℕ) (first : FirstBits longer short
   -- DEMAND 3 OF THE OBJECT WALK: neither of two calls is refused, and the shorter's bits are the longer's first. All of the shorter's pairs stand
   -- unchanged at the front of the longer's; and if the longer's verdict is clean and the shorter has fewer bits, its verdict is not clean, but
   -- where it lacks exactly a zero trailer.
-  pub prefix_decode_object_ref_array : (b d x y : List ℕ) (st su : ArrayDecodeStats) (v w : Verdict) (e f i j : ℕ)
-      → DecodesPairs shorter m b (objects.Decoded st v e i) x → DecodesPairs longer n d (objects.Decoded su w f j) y
-      → PairsBegin verdict_named longer n m v w e f x y
-  prefix_decode_object_ref_array b d x y st su v w e f i j p q =
-      pairs_begin verdict_named named_apart b d x y _ _ v w e f (ran_pairs shorter m b st v e i x p) (ran_pairs longer n d su w f j y q)
+  pub prefix_decode_object_ref_array : (b d x y : List ℕ) (u w : Walked ℕ)
+      → DecodesPairs shorter m b (Ok u) x → DecodesPairs longer n d (Ok w) y
+      → PairsBegin verdict_named longer n m u.verdict w.verdict u.filled w.filled x y
+  prefix_decode_object_ref_array b d x y u w p q =
+      pairs_begin verdict_named named_apart b d x y _ _ u.verdict w.verdict u.filled w.filled (ran_pairs shorter m b u x p) (ran_pairs longer n d w y q)
 
   -- DEMAND 3 OF `vrf_object_array`: the same of two structs, of which neither is refused.
   pub prefix_vrf_object_array : (b d x y : List ℕ) (r q : VrfObjects) → WalksPairs shorter m b r x → WalksPairs longer n d q y

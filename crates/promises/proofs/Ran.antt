@@ -1,5 +1,6 @@
 -- An accepted walk, whatever form its answer has: it tells its walk's counters and needs, and the verdict on its window, and its buffers are those
 -- of the definition, which begin with the walk's leaves or pairs. What holds of it holds of the calls that answer by name and of those for C.
+use Rattle.std.specs.Prelude.{Ok}
 use mathlib.Core.Path.{◌≡◌, refl, sym, ap, ◌∙◌, subst}
 use mathlib.Core.List.{List, [], append-nil}
 use Prim.Native.Nat.{ℕ}
@@ -15,11 +16,9 @@ use Rattle.outputs.proofs.Fronts.{front}
 use Rattle.array.proofs.OneAnswer.{verdict_back}
 use Rattle.array.specs.Calls.{verdict_is, verdict_named, Decodes, DecodesPairs}
 use Rattle.array.specs.Refusals.{counters_of_lem, room_in}
-use Rattle.array.specs.declared.ArrayDecodeStats.{ArrayDecodeStats}
 use Rattle.array.specs.declared.Extent.{Extent}
+use Rattle.array.specs.declared.Walked.{Walked}
 use Rattle.array.specs.declared.Verdict.{Verdict}
-use Rattle.array.specs.declared.StructArray.TheVariants as structs
-use Rattle.array.specs.declared.ObjectArray.TheVariants as objects
 use Rattle.exports.specs.WalkResults.{filled_in, counters_in, verdict_number_lem, walk_result, Walks, objects_result, WalksPairs}
 use Rattle.exports.specs.declared.VrfWalk.{VrfWalk}
 use Rattle.exports.specs.declared.VrfObjects.{VrfObjects}
@@ -58,13 +57,13 @@ ran_fills {k = k} {b = b} run =
     }
 
 -- An accepted answer by name.
-pub ran_decodes : (k : Call) (b : Lent) (st : ArrayDecodeStats) (v : Verdict) (e : Extent) (p : ℕ) (x : Lent) → Decodes k b (structs.Decoded st v e p) x
-    → Ran verdict_named k b (counters_of_lem st) v (room_in e) x p
-ran_decodes k b st v e d x f =
+pub ran_decodes : (k : Call) (b : Lent) (w : Walked Extent) (x : Lent) → Decodes k b (Ok w) x
+    → Ran verdict_named k b (counters_of_lem w.stats) w.verdict (room_in w.filled) x w.padded
+ran_decodes k b w x f =
     let l = f.answered.leaves in
     let p = f.answered.paths in
     let y = f.answered.payloads in
-    record { says = f.answered.says; judged = by_name v f.judged; left = λ i. record { leaves = l i; paths = p i; payloads = y i } }
+    record { says = f.answered.says; judged = by_name w.verdict f.judged; left = λ i. record { leaves = l i; paths = p i; payloads = y i } }
 
 -- A struct for C that says no refusal.
 pub ran_walks : (k : Call) (b : Lent) (r : VrfWalk) (x : Lent) → Walks k b r x → r.refusal ≡ 0
@@ -93,9 +92,9 @@ unfolding pair_answer
 pairs_tell f = accepted_tells _ _ _ _ _ _ f.says
 
 -- An accepted answer by name.
-pub ran_pairs : (bytes : List ℕ) (bits : ℕ) (b : List ℕ) (st : ArrayDecodeStats) (v : Verdict) (n p : ℕ) (x : List ℕ)
-    → DecodesPairs bytes bits b (objects.Decoded st v n p) x → RanPairs verdict_named bytes bits b (counters_of_lem st) v n x p
-ran_pairs bytes bits b st v n p x f = record { says = f.answered.says; judged = by_name v f.judged; left = f.answered.pairs }
+pub ran_pairs : (bytes : List ℕ) (bits : ℕ) (b : List ℕ) (w : Walked ℕ) (x : List ℕ)
+    → DecodesPairs bytes bits b (Ok w) x → RanPairs verdict_named bytes bits b (counters_of_lem w.stats) w.verdict w.filled x w.padded
+ran_pairs bytes bits b w x f = record { says = f.answered.says; judged = by_name w.verdict f.judged; left = f.answered.pairs }
 
 -- A struct for C that says no refusal.
 pub ran_objects : (bytes : List ℕ) (bits : ℕ) (b : List ℕ) (r : VrfObjects) (x : List ℕ) → WalksPairs bytes bits b r x → r.refusal ≡ 0

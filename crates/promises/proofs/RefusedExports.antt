@@ -1,6 +1,6 @@
 -- Each call for C is refused exactly when, and in the order that, document 01 says, with its numbers and values: as the call below it. The theorem
 -- on a call is `refused_` and the call's name.
-use Rattle.std.specs.Prelude.{if◌then◌else◌}
+use Rattle.std.specs.Prelude.{if◌then◌else◌, Result, Ok, Err}
 use Prim.Native.Nat.{ℕ}
 use mathlib.Core.Path.{◌≡◌, refl, sym, ap, ◌∙◌}
 use mathlib.Core.Bool.{Bool, true, false}
@@ -9,25 +9,18 @@ use mathlib.Core.Option.{Option, none, some}
 use Rattle.bits.specs.Refusals.{Numbered, Rule, first_of}
 use Rattle.bitio.specs.Copies.{copy_answer}
 use Rattle.bitio.specs.Numbers.{read_int_packed_lem, read_serialized_int_lem}
-use Rattle.bitio.specs.Order.{reading_rules, copying_rules, refusal_of_bits, refusal_of_copied}
+use Rattle.bitio.specs.Order.{reading_rules, copying_rules, refusal_of}
 use Rattle.bitio.specs.Reads.{read_bits_lem}
 use Rattle.bitio.specs.Refusals as bitio
 use Rattle.bitio.proofs.RefusalOrder.{reading_order, copying_order}
 use Rattle.bits.proofs.ChoiceLaws.{by_cases}
+use Rattle.bitio.specs.declared.PackedNumber.{PackedNumber}
+use Rattle.bitio.specs.declared.Read.{Read}
 use Rattle.bitio.specs.declared.Refusal as bit
 use Rattle.bitio.specs.declared.Refusal.TheVariants.{TooLong, TooFew, GoesOn, Overflows, NoMaximum, TooMany, Past}
-use Rattle.bitio.specs.declared.BitsRead.{BitsRead}
-use Rattle.bitio.specs.declared.BitsRead.TheVariants as B
-use Rattle.bitio.specs.declared.PackedRead.{PackedRead}
-use Rattle.bitio.specs.declared.PackedRead.TheVariants as P
-use Rattle.bitio.specs.declared.SerializedRead.{SerializedRead}
-use Rattle.bitio.specs.declared.SerializedRead.TheVariants as Ser
-use Rattle.bitio.specs.declared.Copied.{Copied}
-use Rattle.bitio.specs.declared.Copied.TheVariants as Copy
 use Rattle.schema.specs.Tables.{Tables}
 use Rattle.schema.specs.TwelveLevels.{fill_answer}
-use Rattle.schema.specs.declared.Filled.{Filled}
-use Rattle.schema.specs.declared.Filled.TheVariants as Fill
+use Rattle.schema.specs.declared.Short.{Short}
 use Rattle.framing.specs.Counters.{sums}
 use Rattle.outputs.specs.Answers.{Call, Lent, answer}
 use Rattle.array.specs.Calls.{struct_call, exact_call}
@@ -36,23 +29,22 @@ use Rattle.fastarray.specs.Answers as F
 use Rattle.fastarray.specs.Order.{rules}
 use Rattle.fastarray.specs.Refusals as fast
 use Rattle.fastarray.proofs.RefusalOrder.{refusal_order}
-use Rattle.fastarray.specs.declared.FastArray.{FastArray}
-use Rattle.fastarray.specs.declared.FastArray.TheVariants as body
+use Rattle.std.specs.Prelude.{Result, Ok, Err}
+use Rattle.fastarray.specs.declared.Delta.{Delta}
+use Rattle.fastarray.specs.declared.Refusal.{Refusal as BodyRefusal}
+use Rattle.fastarray.specs.declared.Refusal.TheVariants as body
 use Rattle.geometry.specs.Movements.{read_movement}
 use Rattle.geometry.specs.Refusals as geometry
 use Rattle.geometry.specs.Rotations.{read_rotation_lem}
 use Rattle.geometry.specs.Vectors.{read_vector, read_normal}
 use Rattle.geometry.specs.declared.Refusal.{Refusal}
 use Rattle.geometry.specs.declared.Refusal.TheVariants.{Unread, NoScale, NotFinite, NoSuchWidth}
-use Rattle.geometry.specs.declared.VectorRead.{VectorRead}
-use Rattle.geometry.specs.declared.VectorRead.TheVariants as Vec
-use Rattle.geometry.specs.declared.RotationRead.{RotationRead}
-use Rattle.geometry.specs.declared.RotationRead.TheVariants as R
-use Rattle.geometry.specs.declared.MovementRead.{MovementRead}
-use Rattle.geometry.specs.declared.MovementRead.TheVariants as M
+use Rattle.geometry.specs.declared.Vector.{Vector}
+use Rattle.geometry.specs.declared.Rotation.{Rotation}
+use Rattle.geometry.specs.declared.Movement.{Movement}
 use Rattle.exports.specs.Calls.{vrf_merge_lem, FillsForC, vrf_read_bits_lem, vrf_read_packed_lem, vrf_read_serialized_lem, CopiesForC, vrf_vector_lem, vrf_normal_lem, vrf_rotation_lem, vrf_movement_lem}
 use Rattle.exports.specs.MoveResults.{vector_result, rotation_result, movement_result, rotation_kind_lem, location_kind_lem}
-use Rattle.exports.specs.ReadResults.{cursor_of_lem, bits_result, packed_result, serialized_result, copy_result}
+use Rattle.exports.specs.ReadResults.{cursor_of_lem, read_result, packed_result, copy_result}
 use Rattle.exports.specs.WalkResults.{Walks, walk_result, WalksPairs, objects_result, counters_in, schema_result, mode_of, body_result, DecodesBody}
 use Rattle.exports.specs.declared.VrfCounters.{VrfCounters}
 use Rattle.exports.specs.declared.VrfCursor.{VrfCursor}
@@ -66,10 +58,11 @@ use Rattle.exports.specs.declared.VrfRotation.{VrfRotation}
 use Rattle.exports.specs.declared.VrfSchema.{VrfSchema}
 use Rattle.exports.specs.declared.VrfVector.{VrfVector}
 use Rattle.exports.specs.declared.VrfWalk.{VrfWalk}
-use Rattle.promises.specs.ReadOrders.{of_packed, of_serialized, packed_rules, serialized_rules}
+use Rattle.promises.specs.ReadOrders.{packed_rules, serialized_rules}
 use Rattle.promises.specs.WalkOrders.{walk_rules, pair_rules, merge_rules, fill_rules}
 use Rattle.schema.specs.Refusals.{filled_numbered}
-use Rattle.promises.specs.MoveOrders.{of_vector, of_rotation, of_movement, vector_rules, normal_rules, rotation_rules, movement_rules}
+use Rattle.promises.specs.MoveOrders as moves
+use Rattle.promises.specs.MoveOrders.{vector_rules, normal_rules, rotation_rules, movement_rules}
 use Rattle.promises.specs.ExportOrders.{given, in_read, in_packed, in_vector, in_rotation, in_movement, in_walk, in_objects, in_schema, in_fast_array, in_merge, sums_numbered, numbered_rules}
 use Rattle.promises.proofs.RefusedReads.{serialized_order}
 use Rattle.promises.proofs.RefusedNumbers.{packed_order}
@@ -113,40 +106,36 @@ move_given NoSuchWidth = refl
 -- ---- reads
 
 module _ (at : ℕ) where
-  bits_in : (a : BitsRead) → in_read (bits_result at a) ≡ mapped bitio.numbered (refusal_of_bits a)
-  bits_in (B.Value x p) = refl
-  bits_in (B.Refused r) = bit_given r
+  read_in : (a : Result (Read ℕ) bit.Refusal) → in_read (read_result at a) ≡ mapped bitio.numbered (refusal_of a)
+  read_in (Ok x) = refl
+  read_in (Err r) = bit_given r
 
-  packed_in : (a : PackedRead) → in_packed (packed_result at a) ≡ mapped bitio.numbered (of_packed a)
-  packed_in (P.Value x p) = refl
-  packed_in (P.Refused r) = bit_given r
+  packed_in : (a : Result (Read PackedNumber) bit.Refusal) → in_packed (packed_result at a) ≡ mapped bitio.numbered (refusal_of a)
+  packed_in (Ok x) = refl
+  packed_in (Err r) = bit_given r
 
-  serialized_in : (a : SerializedRead) → in_read (serialized_result at a) ≡ mapped bitio.numbered (of_serialized a)
-  serialized_in (Ser.Value x p) = refl
-  serialized_in (Ser.Refused r) = bit_given r
+  copy_in : (a : Result ℕ bit.Refusal) → in_read (copy_result at a) ≡ mapped bitio.numbered (refusal_of a)
+  copy_in (Ok p) = refl
+  copy_in (Err r) = bit_given r
 
-  copy_in : (a : Copied) → in_read (copy_result at a) ≡ mapped bitio.numbered (refusal_of_copied a)
-  copy_in (Copy.Done p) = refl
-  copy_in (Copy.Refused r) = bit_given r
+  vector_in : (a : Result (Read Vector) Refusal) → in_vector (vector_result at a) ≡ mapped geometry.numbered (moves.refusal_of a)
+  vector_in (Ok v) = refl
+  vector_in (Err r) = move_given r
 
-  vector_in : (a : VectorRead) → in_vector (vector_result at a) ≡ mapped geometry.numbered (of_vector a)
-  vector_in (Vec.Value v p) = refl
-  vector_in (Vec.Refused r) = move_given r
+  rotation_in : (a : Result (Read Rotation) Refusal) → in_rotation (rotation_result at a) ≡ mapped geometry.numbered (moves.refusal_of a)
+  rotation_in (Ok v) = refl
+  rotation_in (Err r) = move_given r
 
-  rotation_in : (a : RotationRead) → in_rotation (rotation_result at a) ≡ mapped geometry.numbered (of_rotation a)
-  rotation_in (R.Value v p) = refl
-  rotation_in (R.Refused r) = move_given r
-
-movement_in : (a : MovementRead) → in_movement (movement_result a) ≡ mapped geometry.numbered (of_movement a)
-movement_in (M.Value v p) = refl
-movement_in (M.Refused r) = move_given r
+movement_in : (a : Result (Read Movement) Refusal) → in_movement (movement_result a) ≡ mapped geometry.numbered (moves.refusal_of a)
+movement_in (Ok m) = refl
+movement_in (Err r) = move_given r
 
 module _ (bytes : List ℕ) (cursor : VrfCursor) where
   -- `vrf_read_bits` gives 14, 13, 7.
   pub refused_vrf_read_bits : (count : ℕ) (r : VrfRead) → r ≡ vrf_read_bits_lem bytes cursor count
       → in_read r ≡ first_of (numbered_rules bitio.numbered (reading_rules bytes (cursor_of_lem cursor) count))
   refused_vrf_read_bits count r f =
-      ap in_read f ∙ bits_in cursor.pos (read_bits_lem bytes (cursor_of_lem cursor) count)
+      ap in_read f ∙ read_in cursor.pos (read_bits_lem bytes (cursor_of_lem cursor) count)
       ∙ ap (mapped bitio.numbered) (reading_order bytes (cursor_of_lem cursor) count) ∙ first_numbered bitio.numbered (reading_rules bytes (cursor_of_lem cursor) count)
 
   -- `vrf_read_packed` gives 14, 7, 8, 9.
@@ -160,7 +149,7 @@ module _ (bytes : List ℕ) (cursor : VrfCursor) where
   pub refused_vrf_read_serialized : (maximum : ℕ) (r : VrfRead) → r ≡ vrf_read_serialized_lem bytes cursor maximum
       → in_read r ≡ first_of (numbered_rules bitio.numbered (serialized_rules bytes (cursor_of_lem cursor) maximum))
   refused_vrf_read_serialized maximum r f =
-      ap in_read f ∙ serialized_in cursor.pos (read_serialized_int_lem bytes (cursor_of_lem cursor) maximum)
+      ap in_read f ∙ read_in cursor.pos (read_serialized_int_lem bytes (cursor_of_lem cursor) maximum)
       ∙ ap (mapped bitio.numbered) (serialized_order bytes (cursor_of_lem cursor) maximum)
       ∙ first_numbered bitio.numbered (serialized_rules bytes (cursor_of_lem cursor) maximum)
 
@@ -235,20 +224,20 @@ unfolding merge first_of
 refused_vrf_merge left right r f =
     ap in_merge f ∙ by_cases (bounded (sums (counters_in left) (counters_in right))) (λ e. simp e) (λ e. simp e)
 
-schema_in : (a : Filled) → (filled_numbered a ≡ in_schema (schema_result a))
-schema_in Fill.Done = refl
-schema_in (Fill.Short a b) = refl
+schema_in : (a : Result Unit Short) → (filled_numbered a ≡ in_schema (schema_result a))
+schema_in (Ok done) = refl
+schema_in (Err need) = refl
 
 -- `vrf_schema` gives 3.
 pub refused_vrf_schema : (rows names : List ℕ) (r : VrfSchema) (end : List ℕ × List ℕ) → FillsForC rows names r end.0 end.1
     → in_schema r ≡ first_of (fill_rules rows names)
 refused_vrf_schema rows names r end f = ap in_schema f.0 ∙ sym (schema_in (fill_answer rows names)) ∙ fill_order rows names
 
-body_in : (a : FastArray) → in_fast_array (body_result a) ≡ fast.numbered a
-body_in (body.Decoded d) = refl
-body_in body.TooLong = refl
-body_in body.NotFastArray = refl
-body_in (body.Short d i f) = refl
+body_in : (a : Result Delta BodyRefusal) → in_fast_array (body_result a) ≡ fast.numbered a
+body_in (Ok d) = refl
+body_in (Err body.TooLong) = refl
+body_in (Err body.NotFastArray) = refl
+body_in (Err (body.Short n)) = refl
 
 -- `vrf_fast_array` gives 1, 6, 3.
 pub refused_vrf_fast_array : (payload : List ℕ) (bits checksum : ℕ) (l : F.Lent) (r : VrfFastArray) (x : F.Lent)

@@ -1,5 +1,5 @@
 -- A packed number is refused exactly when, and in the order that, document 01 says: 14, 7, 8, 9. By how many whole bytes say that another follows.
-use Rattle.std.specs.Prelude.{if◌then◌else◌}
+use Rattle.std.specs.Prelude.{if◌then◌else◌, Result}
 use Prim.Native.Nat.{ℕ, zero, suc, ◌+◌, ◌*◌, ◌/◌, ◌%◌, ◌≤◌, ◌<◌}
 use mathlib.Core.Path.{◌≡◌, refl, ap, ◌∙◌, subst}
 use mathlib.Core.Bool.{Bool, true, false, ◌&&◌}
@@ -8,24 +8,28 @@ use native.Mathlib.Omega.{arith}
 use lib.Dec.{leb, ltb, eqb}
 use borrow.Author.Tests.{leb-true, leb-false, eqb-true, eqb-false, lt-ltb, le-ltb, eq-eqb, ne_eqb}
 use Rattle.bits.specs.Bits.{field}
-use Rattle.bits.specs.Packed.{most_bytes, fifth_most, after, earlier_byte, fifth_byte, packed_from, packed}
+use Rattle.bits.specs.Packed.{Packed, most_bytes, fifth_most, after, earlier_byte, fifth_byte, packed_from, packed}
 use Rattle.bits.specs.Refusals.{first_of}
-use Rattle.bits.specs.declared.Packed.{Packed}
-use Rattle.bits.specs.declared.Packed.TheVariants as Num
+use Rattle.bits.specs.declared.Broken.TheVariants as Num
+use Rattle.std.specs.Prelude.{Err}
+use Rattle.bits.specs.Packed as N
 use Rattle.bitio.specs.Cursors.{good, window, at_cursor}
 use Rattle.bitio.specs.Numbers.{packed_answer, read_int_packed_lem}
+use Rattle.bitio.specs.Order.{refusal_of}
 use Rattle.bits.proofs.ChoiceLaws.{by_cases}
 use Rattle.bitio.specs.declared.Cursor.{Cursor}
-use Rattle.bitio.specs.declared.PackedRead.{PackedRead}
-use Rattle.promises.specs.ReadOrders.{of_packed, following, packed_parts, packed_rules}
+use Rattle.bitio.specs.declared.PackedNumber.{PackedNumber}
+use Rattle.bitio.specs.declared.Read.{Read}
+use Rattle.bitio.specs.declared.Refusal.{Refusal}
+use Rattle.promises.specs.ReadOrders.{following, packed_parts, packed_rules}
 
 -- what a number comes to behind whose first n bytes another follows, where `left` may follow the first
 pub data Packs (left W len p n : ℕ) : Packed → Type 0 where
   whole : {v m : ℕ} → m ≡ suc n → n ≤ left → p + 8 * n + 8 ≤ len → (n ≡ left → field W (p + 8 * n) 8 / 2 ≤ fifth_most)
-      → Packs left W len p n (Num.Whole v m)
-  cut : {m : ℕ} → m ≡ n → n ≤ left → len < p + 8 * n + 8 → Packs left W len p n (Num.Cut m)
-  goes_on : n ≡ suc left → Packs left W len p n Num.GoesOn
-  overflows : n ≡ left → p + 8 * n + 8 ≤ len → fifth_most < field W (p + 8 * n) 8 / 2 → Packs left W len p n Num.Overflows
+      → Packs left W len p n (N.whole v m)
+  cut : {m : ℕ} → m ≡ n → n ≤ left → len < p + 8 * n + 8 → Packs left W len p n (Err (Num.Cut m))
+  goes_on : n ≡ suc left → Packs left W len p n (Err Num.GoesOn)
+  overflows : n ≡ left → p + 8 * n + 8 ≤ len → fifth_most < field W (p + 8 * n) 8 / 2 → Packs left W len p n (Err Num.Overflows)
 
 -- one byte further in front
 further : (left W len p n v : ℕ) (x : Packed) → Packs left W len (p + 8) n x → Packs (suc left) W len p (suc n) (after 1 v x)
@@ -51,10 +55,10 @@ here : (p : ℕ) → p ≡ p + 8 * 0
 here p = omega arith
 
 -- the fifth byte, which is even
-last_byte : (W len p : ℕ) → p + 8 ≤ len → Packs 0 W len p 0 (if leb (field W p 8 / 2) fifth_most then Num.Whole (field W p 8 / 2) 1 else Num.Overflows)
+last_byte : (W len p : ℕ) → p + 8 ≤ len → Packs 0 W len p 0 (if leb (field W p 8 / 2) fifth_most then N.whole (field W p 8 / 2) 1 else Err Num.Overflows)
 last_byte W len p h = go (leb (field W p 8 / 2) fifth_most) refl
   where
-    go : (b : Bool) → leb (field W p 8 / 2) fifth_most ≡ b → Packs 0 W len p 0 (if b then Num.Whole (field W p 8 / 2) 1 else Num.Overflows)
+    go : (b : Bool) → leb (field W p 8 / 2) fifth_most ≡ b → Packs 0 W len p 0 (if b then N.whole (field W p 8 / 2) 1 else Err Num.Overflows)
     go true e =
         whole refl (omega arith) (omega arith)
         (λ g. subst (λ (q : ℕ). field W q 8 / 2 ≤ fifth_most) (here p) (leb-true (field W p 8 / 2) fifth_most e))
@@ -89,10 +93,10 @@ large_test W p n = eqb (suc n) most_bytes && ltb fifth_most (field W (p + 8 * n)
 -- which of them holds of a number
 pub data Tested (W len p n : ℕ) : Packed → Type 0 where
   fine : {v m : ℕ} → m ≡ suc n → p + 8 * n + 8 ≤ len → cut_test len p n ≡ false → eqb n most_bytes ≡ false → large_test W p n ≡ false
-      → Tested W len p n (Num.Whole v m)
-  lacks : {m : ℕ} → m ≡ n → cut_test len p n ≡ true → Tested W len p n (Num.Cut m)
-  sixth : cut_test len p n ≡ false → eqb n most_bytes ≡ true → Tested W len p n Num.GoesOn
-  large : cut_test len p n ≡ false → eqb n most_bytes ≡ false → large_test W p n ≡ true → Tested W len p n Num.Overflows
+      → Tested W len p n (N.whole v m)
+  lacks : {m : ℕ} → m ≡ n → cut_test len p n ≡ true → Tested W len p n (Err (Num.Cut m))
+  sixth : cut_test len p n ≡ false → eqb n most_bytes ≡ true → Tested W len p n (Err Num.GoesOn)
+  large : cut_test len p n ≡ false → eqb n most_bytes ≡ false → large_test W p n ≡ true → Tested W len p n (Err Num.Overflows)
 
 tested : (W len p n : ℕ) (x : Packed) → Packs 4 W len p n x → Tested W len p n x
 tested W len p n x (whole e h k f) =
@@ -113,7 +117,7 @@ packed_tested W len p = tested W len p (following most_bytes W len p) (packed_fr
 
 -- ---- `read_int_packed`
 
-parts_order : (W len p n : ℕ) (x : Packed) → Tested W len p n x → of_packed (packed_answer len p x) ≡ first_of (packed_parts W len p n)
+parts_order : (W len p n : ℕ) (x : Packed) → Tested W len p n x → refusal_of (packed_answer len p x) ≡ first_of (packed_parts W len p n)
 unfolding packed_answer first_of
 parts_order W len p n x (fine e h f g k) = simp (f, g, k)
 parts_order W len p n x (lacks e f) = simp (e, f)
@@ -121,7 +125,7 @@ parts_order W len p n x (sixth f g) = simp (f, g)
 parts_order W len p n x (large f g k) = simp (f, g, k)
 
 -- Behind a good cursor its parts decide.
-pub packed_order : (s : List ℕ) (c : Cursor) → of_packed (read_int_packed_lem s c) ≡ first_of (packed_rules s c)
+pub packed_order : (s : List ℕ) (c : Cursor) → refusal_of (read_int_packed_lem s c) ≡ first_of (packed_rules s c)
 unfolding at_cursor first_of
 packed_order s c =
     by_cases (good s c)
@@ -129,5 +133,5 @@ packed_order s c =
     (λ g. simp g)
 
 -- A packed number gives 14, 7, 8, 9.
-pub refused_read_int_packed : (s : List ℕ) (c : Cursor) (r : PackedRead) → r ≡ read_int_packed_lem s c → of_packed r ≡ first_of (packed_rules s c)
-refused_read_int_packed s c r f = ap of_packed f ∙ packed_order s c
+pub refused_read_int_packed : (s : List ℕ) (c : Cursor) (r : Result (Read PackedNumber) Refusal) → r ≡ read_int_packed_lem s c → refusal_of r ≡ first_of (packed_rules s c)
+refused_read_int_packed s c r f = ap refusal_of f ∙ packed_order s c

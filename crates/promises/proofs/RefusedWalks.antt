@@ -1,5 +1,6 @@
 -- Each walk, a merge, the tables, the schema and the fast array are refused exactly when, and in the order that, document 01 says: their
 -- definitions decide by the same tests in the same order. The theorem on a call is `refused_` and the call's name.
+use Rattle.std.specs.Prelude.{Result}
 use Prim.Native.Nat.{ℕ, ◌/◌}
 use mathlib.Core.Path.{◌≡◌, refl, ap, ◌∙◌}
 use mathlib.Core.Bool.{Bool, false}
@@ -13,7 +14,7 @@ use Rattle.bits.specs.Sizes.{longest_window}
 use Rattle.schema.specs.Layout.{laid_out}
 use Rattle.schema.specs.Tables.{Tables, tables}
 use Rattle.schema.specs.TwelveLevels.{enough, fill_answer, FillsSchema}
-use Rattle.schema.specs.declared.Filled.{Filled}
+use Rattle.schema.specs.declared.Short.{Short}
 use Rattle.framing.specs.Counters.{Counters, counters, padded_in, sums}
 use Rattle.framing.specs.Events.{pairs}
 use Rattle.framing.specs.Records.{pair_words}
@@ -21,17 +22,16 @@ use Rattle.framing.specs.Refusing.{Room, no_room_lem, needed, within, Answer, re
 use Rattle.outputs.specs.Answers.{Call, Lent, laid, trace_of, room_of, answer, pair_trace, pair_answer}
 use Rattle.array.specs.Calls.{struct_call, exact_call, Adds, Decodes, DecodesPairs}
 use Rattle.array.specs.Merges.{bounded, merge}
-use Rattle.array.specs.Refusals.{counters_of_lem, answer_of, pairs_of, sums_of}
+use Rattle.array.specs.Refusals.{StructArray, ObjectArray, Merged, counters_of_lem, answer_of, pairs_of, sums_of}
 use Rattle.array.specs.declared.ArrayDecodeStats.{ArrayDecodeStats}
-use Rattle.array.specs.declared.StructArray.{StructArray}
-use Rattle.array.specs.declared.ObjectArray.{ObjectArray}
-use Rattle.array.specs.declared.Merged.{Merged}
 use Rattle.fastarray.specs.Answers as F
 use Rattle.fastarray.specs.Order.{rules}
 use Rattle.fastarray.specs.Refusals.{numbered}
 use Rattle.fastarray.proofs.RefusalOrder.{refusal_order}
 use Rattle.fastarray.specs.declared.ChecksumMode.{ChecksumMode}
-use Rattle.fastarray.specs.declared.FastArray.{FastArray}
+use Rattle.std.specs.Prelude.{Result}
+use Rattle.fastarray.specs.declared.Delta.{Delta}
+use Rattle.fastarray.specs.declared.Refusal.{Refusal}
 use Rattle.promises.proofs.TestLaws.{reached, missed}
 use Rattle.promises.specs.WalkOrders.{needing, of_walk, of_pairs, walk_rules, pair_rules, of_sums, merge_rules, table_rules, fill_rules}
 use Rattle.schema.specs.Refusals.{tables_numbered, filled_numbered}
@@ -110,13 +110,13 @@ unfolding fill_answer first_of
 fill_order rows names = by_cases (enough rows names) (λ e. simp e) (λ e. simp e)
 
 -- Filling the schema gives 3.
-pub refused_fill_schema : (rows names : List ℕ) (r : Filled) (end : List ℕ × List ℕ) → FillsSchema rows names r end.0 end.1
+pub refused_fill_schema : (rows names : List ℕ) (r : Result Unit Short) (end : List ℕ × List ℕ) → FillsSchema rows names r end.0 end.1
     → filled_numbered r ≡ first_of (fill_rules rows names)
 refused_fill_schema rows names r end f = ap filled_numbered f.0 ∙ fill_order rows names
 
 -- ---- the fast array: 1, 6, 3
 
 -- A fast-array body gives 1, 6, 3.
-pub refused_decode_fast_array_delta : (payload : List ℕ) (bits : ℕ) (mode : ChecksumMode) (l : F.Lent) (r : FastArray) (x : F.Lent)
+pub refused_decode_fast_array_delta : (payload : List ℕ) (bits : ℕ) (mode : ChecksumMode) (l : F.Lent) (r : Result Delta Refusal) (x : F.Lent)
     → F.Answered (F.call payload bits mode) l r x → numbered r ≡ first_of (rules (F.call payload bits mode) l)
 refused_decode_fast_array_delta payload bits mode l r x f = ap numbered f.says ∙ refusal_order (F.call payload bits mode) l

@@ -1,6 +1,6 @@
 -- A read seen from outside: it is refused, or stands at a bit. `first_or` says it by rules, and composes: reading on behind a part puts the rules
 -- of what follows behind the part's.
-use Rattle.std.specs.Prelude.{if◌then◌else◌}
+use Rattle.std.specs.Prelude.{if◌then◌else◌, Result, Ok, Err}
 use Prim.Native.Nat.{ℕ, ◌+◌, ◌≤◌}
 use mathlib.Core.Path.{◌≡◌, refl, sym, ap, ◌∙◌}
 use mathlib.Core.Bool.{Bool, true, false}
@@ -12,11 +12,13 @@ use Rattle.bits.specs.Refusals.{Rule, first_of}
 use Rattle.bits.proofs.Never.{never}
 use Rattle.bitio.specs.Cursors.{asking}
 use Rattle.bits.proofs.ChoiceLaws.{by_cases}
+use Rattle.bitio.specs.declared.Read.{Read}
 use Rattle.bitio.specs.declared.Refusal as bitio
 use Rattle.bitio.specs.declared.Refusal.TheVariants.{TooFew}
+use Rattle.geometry.specs.Parts.{up_to, and_then, unread}
 use Rattle.geometry.specs.declared.Refusal.{Refusal}
 use Rattle.geometry.specs.declared.Refusal.TheVariants.{Unread}
-use Rattle.promises.specs.MoveOrders.{lacking, behind_all}
+use Rattle.promises.specs.MoveOrders.{refusal_of, lacking, behind_all}
 
 pub data Seen : Type 0 where
   stops : Refusal → Seen
@@ -95,29 +97,43 @@ lacking_none len p (n ∷ ns) h k = go (ltb len (p + n)) refl (λ i j. lacking_n
 abbrev pub ending : (len p : ℕ) (ns : List ℕ) → Seen
 ending len p ns = first_or (lacking len p ns) (upto (behind_all p ns))
 
+-- ---- answers, seen from outside
+
+abbrev pub seen : {A : Type 0} → Result (Read A) Refusal → Seen
+seen (Ok x) = upto x.next
+seen (Err r) = stops r
+
+pub seen_refusal : {A : Type 0} (r : Result (Read A) Refusal) → refusal_of r ≡ refusal_in (seen r)
+seen_refusal (Ok x) = refl
+seen_refusal (Err r) = refl
+
 -- ---- asking for bits, and reading on
 
-module _ {A : Type 0} (view : A → Seen) (refused : bitio.Refusal → A) (shows : (r : bitio.Refusal) → view (refused r) ≡ stops (Unread r)) where
+module _ {A : Type 0} (view : Result A bitio.Refusal → Seen) (shows : (r : bitio.Refusal) → view (Err r) ≡ stops (Unread r)) where
   -- Bits that are asked for are a part.
-  pub ask : (len p n : ℕ) (y : A) (z : Seen) → (p + n ≤ len → view y ≡ z) → view (asking len p n refused y) ≡ first_or (lacking len p (n ∷ [])) z
+  pub ask : (len p n : ℕ) (y : Result A bitio.Refusal) (z : Seen) → (p + n ≤ len → view y ≡ z) → view (asking len p n y) ≡ first_or (lacking len p (n ∷ [])) z
   unfolding asking first_or
   ask len p n y z h = go (ltb len (p + n)) refl
     where
-      go : (b : Bool) → ltb len (p + n) ≡ b → view (if b then refused (TooFew p len n) else y) ≡ (if b then stops (Unread (TooFew p len n)) else z)
+      go : (b : Bool) → ltb len (p + n) ≡ b → view (if b then Err (TooFew p len n) else y) ≡ (if b then stops (Unread (TooFew p len n)) else z)
       go true e = shows (TooFew p len n)
       go false e = h (ltb-false len (p + n) e)
 
--- A part x and what `bind` makes of it: it goes on behind the part's value, or halts as the part does.
-pub data Bound {X W A : Type 0} (part : X → Seen) (view : A → Seen) (bind : X → (W → ℕ → A) → A) (x : X) (next : W → ℕ → A) : Type 0 where
-  goes : (v : W) (p : ℕ) → part x ≡ upto p → bind x next ≡ next v p → Bound part view bind x next
-  halts : (r : Refusal) → part x ≡ stops r → view (bind x next) ≡ stops r → Bound part view bind x next
+module _ {X A : Type 0} (view : Result A Refusal → Seen) (shows : (r : Refusal) → view (Err r) ≡ stops r) where
+  -- behind bits that are asked for
+  pub then_asked : (len p n : ℕ) (x : X) (b : Result X bitio.Refusal) (next : X → Result A Refusal) (z : Seen)
+      → b ≡ asking len p n (Ok x) → (p + n ≤ len → view (next x) ≡ z) → view (and_then (unread b) next) ≡ first_or (lacking len p (n ∷ [])) z
+  unfolding and_then unread
+  then_asked len p n x b next z e h =
+      ap (λ (k : Result X bitio.Refusal). view (and_then (unread k) next)) e
+      ∙ ask (λ k. view (and_then (unread k) next)) (λ r. shows (Unread r)) len p n (Ok x) z h
 
--- The rules of what follows stand behind the part's.
-pub read_on : {X W A : Type 0} (part : X → Seen) (view : A → Seen) (bind : X → (W → ℕ → A) → A) (x : X) (next : W → ℕ → A)
-    → Bound part view bind x next → (rs more : List (Rule Refusal)) (q : ℕ) (z : Seen) → part x ≡ first_or rs (upto q)
-    → ((v : W) → Passes rs → part x ≡ upto q → view (next v q) ≡ first_or more z) → view (bind x next) ≡ first_or (rs ++ more) z
-read_on part view bind x next (goes v p e f) rs more q z h k =
-    let g = passed rs p q (sym e ∙ h) in
-    ap view f ∙ ap (λ (n : ℕ). view (next v n)) g.0 ∙ k v g.1 (e ∙ ap upto g.0) ∙ sym (g.1 (first_or more z)) ∙ sym (first_append rs more z)
-read_on part view bind x next (halts r e f) rs more q z h k =
-    f ∙ sym (stopped rs r q (sym e ∙ h) (first_or more z)) ∙ sym (first_append rs more z)
+  -- The rules of what follows stand behind the part's.
+  pub read_on : (x : Result (Read X) Refusal) (next : Read X → Result A Refusal) (rs more : List (Rule Refusal)) (q : ℕ) (z : Seen)
+      → seen x ≡ first_or rs (upto q) → ((v : X) → Passes rs → seen x ≡ upto q → view (next (up_to v q)) ≡ first_or more z)
+      → view (and_then x next) ≡ first_or (rs ++ more) z
+  unfolding and_then
+  read_on (Ok v) next rs more q z h k =
+      let g = passed rs v.next q h in
+      ap (λ (n : ℕ). view (next (up_to v.value n))) g.0 ∙ k v.value g.1 (ap upto g.0) ∙ sym (g.1 (first_or more z)) ∙ sym (first_append rs more z)
+  read_on (Err r) next rs more q z h k = shows r ∙ sym (stopped rs r q h (first_or more z)) ∙ sym (first_append rs more z)

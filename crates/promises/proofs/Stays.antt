@@ -1,6 +1,6 @@
 -- A refused single read leaves the cursor where it stood: it is refused for its cursor, for what is asked, or at its one part, which begins there. The
 -- theorem on a call is `stays_` and the call's name.
-use Rattle.std.specs.Prelude.{if◌then◌else◌}
+use Rattle.std.specs.Prelude.{if◌then◌else◌, ℤ, Result, Ok, Err}
 use Prim.Native.Nat.{ℕ, ◌^◌, ◌<◌}
 use mathlib.Core.Path.{◌≡◌, refl, sym, ap, ◌∙◌, subst}
 use mathlib.Core.Bool.{Bool, true, false}
@@ -10,28 +10,17 @@ use native.Mathlib.Nat.{mod-eq_of_lt}
 use Rattle.bits.specs.Refusals.{Rule, first_of}
 use Rattle.bitio.specs.Cursors.{skipped, skipped_all, sub_reader_lem}
 use Rattle.bitio.specs.Copies.{copy_answer, copy_target, CopiesBits}
-use Rattle.bitio.specs.Order.{taking_rules, reading_rules, copying_rules, refusal_of_skipped, refusal_of_taken, refusal_of_bits, refusal_of_copied}
+use Rattle.bitio.specs.Order.{taking_rules, reading_rules, copying_rules, refusal_of}
 use Rattle.bitio.specs.Reads.{read_bit_lem, read_bits_lem, read_u8_lem, read_u16_lem, read_u32_lem, read_i32_lem, read_u64_lem}
 use Rattle.bitio.specs.Refusals.{stands_after_lem, as64}
 use Rattle.bitio.specs.declared.Cursor.{Cursor}
+use Rattle.bitio.specs.declared.Read.{Read}
 use Rattle.bitio.specs.declared.Refusal.{Refusal}
-use Rattle.bitio.specs.declared.Skipped.{Skipped}
-use Rattle.bitio.specs.declared.SubReader.{SubReader}
-use Rattle.bitio.specs.declared.BitRead.{BitRead}
-use Rattle.bitio.specs.declared.BitsRead.{BitsRead}
-use Rattle.bitio.specs.declared.BitsRead.TheVariants as B
-use Rattle.bitio.specs.declared.U8Read.{U8Read}
-use Rattle.bitio.specs.declared.U16Read.{U16Read}
-use Rattle.bitio.specs.declared.U32Read.{U32Read}
-use Rattle.bitio.specs.declared.I32Read.{I32Read}
-use Rattle.bitio.specs.declared.U64Read.{U64Read}
-use Rattle.bitio.specs.declared.Copied.{Copied}
-use Rattle.bitio.specs.declared.Copied.TheVariants as Copy
 use Rattle.exports.specs.Calls.{vrf_read_bits_lem, CopiesForC}
-use Rattle.exports.specs.ReadResults.{cursor_of_lem, bits_result, copy_result}
+use Rattle.exports.specs.ReadResults.{cursor_of_lem, read_result, copy_result}
 use Rattle.exports.specs.declared.VrfCursor.{VrfCursor}
 use Rattle.exports.specs.declared.VrfRead.{VrfRead}
-use Rattle.promises.specs.ReadOrders.{cursor_rules, of_sub_reader, of_bit, of_u8, of_u16, of_u32, of_i32}
+use Rattle.promises.specs.ReadOrders.{cursor_rules}
 use Rattle.promises.specs.Stays.{Stays, StaysInC}
 use Rattle.promises.proofs.RefusedReads.{refused_skip_bits, refused_skip_remaining, refused_sub_reader, refused_read_bit, refused_read_bits, refused_read_u8, refused_read_u16, refused_read_u32, refused_read_i32, refused_read_u64, refused_copy_bits_to}
 
@@ -60,49 +49,49 @@ module _ (s : List ℕ) (c : Cursor) where
   taking n = (refl, (refl, tt))
 
   -- Skipping n bits.
-  pub stays_skip_bits : (n : ℕ) (r : Skipped) → r ≡ skipped s c n → Stays c.pos (refusal_of_skipped r)
+  pub stays_skip_bits : (n : ℕ) (r : Result ℕ Refusal) → r ≡ skipped s c n → Stays c.pos (refusal_of r)
   stays_skip_bits n r e = stays (taking_rules s c n) (taking n) (refused_skip_bits s c n r e)
 
   -- Skipping all that are left.
-  pub stays_skip_remaining : (r : Skipped) → r ≡ skipped_all s c → Stays c.pos (refusal_of_skipped r)
+  pub stays_skip_remaining : (r : Result ℕ Refusal) → r ≡ skipped_all s c → Stays c.pos (refusal_of r)
   unfolding StayAll
   stays_skip_remaining r e = stays (cursor_rules s c) (refl, tt) (refused_skip_remaining s c r e)
 
   -- An inner window of n bits.
-  pub stays_sub_reader : (n : ℕ) (r : SubReader) → r ≡ sub_reader_lem s c n → Stays c.pos (of_sub_reader r)
+  pub stays_sub_reader : (n : ℕ) (r : Result (Read Cursor) Refusal) → r ≡ sub_reader_lem s c n → Stays c.pos (refusal_of r)
   stays_sub_reader n r e = stays (taking_rules s c n) (taking n) (refused_sub_reader s c n r e)
 
   -- One bit.
-  pub stays_read_bit : (r : BitRead) → r ≡ read_bit_lem s c → Stays c.pos (of_bit r)
+  pub stays_read_bit : (r : Result (Read Bool) Refusal) → r ≡ read_bit_lem s c → Stays c.pos (refusal_of r)
   stays_read_bit r e = stays (taking_rules s c 1) (taking 1) (refused_read_bit s c r e)
 
   -- n bits.
-  pub stays_read_bits : (n : ℕ) (r : BitsRead) → r ≡ read_bits_lem s c n → Stays c.pos (refusal_of_bits r)
+  pub stays_read_bits : (n : ℕ) (r : Result (Read ℕ) Refusal) → r ≡ read_bits_lem s c n → Stays c.pos (refusal_of r)
   unfolding StayAll
   stays_read_bits n r e = stays (reading_rules s c n) (refl, (refl, (refl, tt))) (refused_read_bits s c n r e)
 
   -- A u8.
-  pub stays_read_u8 : (r : U8Read) → r ≡ read_u8_lem s c → Stays c.pos (of_u8 r)
+  pub stays_read_u8 : (r : Result (Read ℕ) Refusal) → r ≡ read_u8_lem s c → Stays c.pos (refusal_of r)
   stays_read_u8 r e = stays (taking_rules s c 8) (taking 8) (refused_read_u8 s c r e)
 
   -- A u16.
-  pub stays_read_u16 : (r : U16Read) → r ≡ read_u16_lem s c → Stays c.pos (of_u16 r)
+  pub stays_read_u16 : (r : Result (Read ℕ) Refusal) → r ≡ read_u16_lem s c → Stays c.pos (refusal_of r)
   stays_read_u16 r e = stays (taking_rules s c 16) (taking 16) (refused_read_u16 s c r e)
 
   -- A u32.
-  pub stays_read_u32 : (r : U32Read) → r ≡ read_u32_lem s c → Stays c.pos (of_u32 r)
+  pub stays_read_u32 : (r : Result (Read ℕ) Refusal) → r ≡ read_u32_lem s c → Stays c.pos (refusal_of r)
   stays_read_u32 r e = stays (taking_rules s c 32) (taking 32) (refused_read_u32 s c r e)
 
   -- An i32.
-  pub stays_read_i32 : (r : I32Read) → r ≡ read_i32_lem s c → Stays c.pos (of_i32 r)
+  pub stays_read_i32 : (r : Result (Read ℤ) Refusal) → r ≡ read_i32_lem s c → Stays c.pos (refusal_of r)
   stays_read_i32 r e = stays (taking_rules s c 32) (taking 32) (refused_read_i32 s c r e)
 
   -- A u64.
-  pub stays_read_u64 : (r : U64Read) → r ≡ read_u64_lem s c → Stays c.pos (refusal_of_taken r)
+  pub stays_read_u64 : (r : Result (Read ℕ) Refusal) → r ≡ read_u64_lem s c → Stays c.pos (refusal_of r)
   stays_read_u64 r e = stays (taking_rules s c 64) (taking 64) (refused_read_u64 s c r e)
 
   -- A copy of n bits.
-  pub stays_copy_bits_to : (n : ℕ) (d : List ℕ) (r : Copied) (end : List ℕ) → CopiesBits s c n d r end → Stays c.pos (refusal_of_copied r)
+  pub stays_copy_bits_to : (n : ℕ) (d : List ℕ) (r : Result ℕ Refusal) (end : List ℕ) → CopiesBits s c n d r end → Stays c.pos (refusal_of r)
   unfolding StayAll
   stays_copy_bits_to n d r end e = stays (copying_rules s c n d) (refl, (refl, (refl, tt))) (refused_copy_bits_to s c n d r end e)
 
@@ -119,9 +108,9 @@ module _ (s : List ℕ) (cursor : VrfCursor) where
       let a = read_bits_lem s (cursor_of_lem cursor) n in
       subst (StaysInC cursor.pos) (sym e) (go a (stays_read_bits s (cursor_of_lem cursor) n a refl))
     where
-      go : (a : BitsRead) → Stays cursor.pos (refusal_of_bits a) → StaysInC cursor.pos (bits_result cursor.pos a)
-      go (B.Value x p) st h z = absurd (z refl)
-      go (B.Refused r) st h z = in_64 cursor.pos _ st h
+      go : (a : Result (Read ℕ) Refusal) → Stays cursor.pos (refusal_of a) → StaysInC cursor.pos (read_result cursor.pos a)
+      go (Ok x) st h z = absurd (z refl)
+      go (Err r) st h z = in_64 cursor.pos _ st h
 
   -- `vrf_copy_bits`.
   pub stays_vrf_copy_bits : (n : ℕ) (d : List ℕ) (r : VrfRead) (end : List ℕ) → CopiesForC s cursor n d r end → StaysInC cursor.pos r
@@ -129,6 +118,6 @@ module _ (s : List ℕ) (cursor : VrfCursor) where
       let a = copy_answer s (cursor_of_lem cursor) n d in
       subst (StaysInC cursor.pos) (sym e.0) (go a (stays_copy_bits_to s (cursor_of_lem cursor) n d a (copy_target s (cursor_of_lem cursor) n d) (refl, refl)))
     where
-      go : (a : Copied) → Stays cursor.pos (refusal_of_copied a) → StaysInC cursor.pos (copy_result cursor.pos a)
-      go (Copy.Done p) st h z = absurd (z refl)
-      go (Copy.Refused r) st h z = in_64 cursor.pos _ st h
+      go : (a : Result ℕ Refusal) → Stays cursor.pos (refusal_of a) → StaysInC cursor.pos (copy_result cursor.pos a)
+      go (Ok p) st h z = absurd (z refl)
+      go (Err r) st h z = in_64 cursor.pos _ st h

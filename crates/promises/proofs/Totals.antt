@@ -1,17 +1,16 @@
 -- The laws of request 13, of `merge_from` and of `vrf_merge`: both give the bounded sum of two sets, which is what the laws ask of a merge
 -- (TotalLaws, CleanTotals). The theorem on a call is the law's word and the call's name, with `_` between them.
+use Rattle.std.specs.Prelude.{Ok, Err}
 use mathlib.Core.Path.{◌≡◌, refl, sym, ap, ◌∙◌}
 use mathlib.Core.Option.{Option, none, some}
 use Rattle.bits.proofs.ChoiceLaws.{by_cases}
 use Rattle.framing.specs.Counters.{Counters, sums}
 use Rattle.array.specs.Merges.{Sums, summed, overflowing, bounded, merge}
 use Rattle.array.specs.Calls.{verdict_named, Judges, Adds}
-use Rattle.array.specs.Refusals.{counters_of_lem, sums_of}
+use Rattle.array.specs.Refusals.{Merged, counters_of_lem, sums_of}
 use Rattle.array.proofs.OneAnswer.{stats_with}
 use Rattle.array.proofs.StatsLaws.{merge_sums, merge_refused}
 use Rattle.array.specs.declared.ArrayDecodeStats.{ArrayDecodeStats}
-use Rattle.array.specs.declared.Merged.{Merged}
-use Rattle.array.specs.declared.Merged.TheVariants as merged
 use Rattle.exports.specs.Calls.{vrf_merge_lem, vrf_verdict_lem}
 use Rattle.exports.specs.WalkResults.{counters_in, counters_out, merge_result, verdict_number_lem}
 use Rattle.promises.specs.Totals.{Commutes, Associates, ZeroKeeps, Totals, CleanParts, sum_of, in_rattle, in_c}
@@ -39,8 +38,8 @@ by_merge_from =
       told = λ a b r f. given r ∙ ap sum f ∙ bounded_sum sum stats_with (λ c. refl) (λ c. refl) (counters_of_lem a) (counters_of_lem b);
       answers = λ a b.
           by_cases (bounded (sums (counters_of_lem a) (counters_of_lem b)))
-          (λ e. record { answer = merged.Sum (stats_with (sums (counters_of_lem a) (counters_of_lem b))); meets = merge_sums (counters_of_lem a) (counters_of_lem b) e })
-          (λ e. record { answer = merged.Overflow a; meets = merge_refused (counters_of_lem a) (counters_of_lem b) e });
+          (λ e. record { answer = Ok (stats_with (sums (counters_of_lem a) (counters_of_lem b))); meets = merge_sums (counters_of_lem a) (counters_of_lem b) e })
+          (λ e. record { answer = Err (record { left = a }); meets = merge_refused (counters_of_lem a) (counters_of_lem b) e });
     }
   where
     sum : Sums → Option ArrayDecodeStats
@@ -48,8 +47,8 @@ by_merge_from =
     sum (overflowing n c) = none
 
     given : (r : Merged) → sum_of r ≡ sum (sums_of r)
-    given (merged.Sum s) = refl
-    given (merged.Overflow s) = refl
+    given (Ok s) = refl
+    given (Err o) = refl
 
 by_vrf_merge : Tells (λ left right r. r ≡ vrf_merge_lem left right) in_c
 by_vrf_merge =

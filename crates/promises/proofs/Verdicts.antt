@@ -1,6 +1,7 @@
 -- What the verdicts say of windows and of sets of counters. The verdict on a window follows its definition, and the counters beside it are the
 -- walk's own, so that partial means that something other than elements and fields was counted (framing/proofs/WalkVerdicts). The theorem on a call
 -- is `judged_` and the call's name.
+use Rattle.std.specs.Prelude.{Ok}
 use mathlib.Core.Path.{◌≡◌, refl, sym, ap, ◌∙◌, subst}
 use mathlib.Core.List.{List}
 use Prim.Native.Nat.{ℕ}
@@ -17,9 +18,8 @@ use Rattle.array.specs.Calls.{struct_call, exact_call, verdict_named, Judges, De
 use Rattle.array.specs.Refusals.{counters_of_lem}
 use Rattle.array.specs.declared.ArrayDecodeStats.{ArrayDecodeStats}
 use Rattle.array.specs.declared.Extent.{Extent}
+use Rattle.array.specs.declared.Walked.{Walked}
 use Rattle.array.specs.declared.Verdict.{Verdict}
-use Rattle.array.specs.declared.StructArray.TheVariants as structs
-use Rattle.array.specs.declared.ObjectArray.TheVariants as objects
 use Rattle.exports.specs.Calls.{vrf_verdict_lem}
 use Rattle.exports.specs.WalkResults.{counters_in, verdict_number_lem, Walks, walk_result, WalksPairs, objects_result}
 use Rattle.exports.specs.declared.VrfCounters.{VrfCounters}
@@ -72,22 +72,22 @@ pairs_judged : {A : Type 0} (form : F.Verdict → A) → Apart form → (bytes :
 pairs_judged form apart bytes bits b c v n x f = on_window form apart object bytes bits c v (pairs_tell f).0 f.judged
 
 -- The verdict of an accepted struct walk: empty of no bits, clean of some with nothing counted against it, else partial.
-pub judged_decode_struct_array : (bytes : List ℕ) (bits : ℕ) (t : Tables) (levels root : ℕ) (b : Lent) (st : ArrayDecodeStats) (v : Verdict) (e : Extent) (p : ℕ) (x : Lent)
-    → Decodes (struct_call bytes bits t levels root) b (structs.Decoded st v e p) x → OnWindow verdict_named (struct t root) bits (counters_of_lem st) v
-judged_decode_struct_array bytes bits t levels root b st v e p x f =
-    let k = struct_call bytes bits t levels root in leaves_judged verdict_named named_apart k b _ v _ x (ran_decodes k b st v e p x f)
+pub judged_decode_struct_array : (bytes : List ℕ) (bits : ℕ) (t : Tables) (levels root : ℕ) (b : Lent) (w : Walked Extent) (x : Lent)
+    → Decodes (struct_call bytes bits t levels root) b (Ok w) x → OnWindow verdict_named (struct t root) bits (counters_of_lem w.stats) w.verdict
+judged_decode_struct_array bytes bits t levels root b w x f =
+    let k = struct_call bytes bits t levels root in leaves_judged verdict_named named_apart k b _ w.verdict _ x (ran_decodes k b w x f)
 
 -- That of an accepted exact walk: the same.
-pub judged_decode_struct_array_exact : (bytes : List ℕ) (bits : ℕ) (declared declared_names_lem : List ℕ) (b : Lent) (st : ArrayDecodeStats) (v : Verdict) (e : Extent) (p : ℕ) (x : Lent)
-    → Decodes (exact_call bytes bits declared declared_names_lem) b (structs.Decoded st v e p) x
-    → OnWindow verdict_named (exact declared declared_names_lem) bits (counters_of_lem st) v
-judged_decode_struct_array_exact bytes bits declared declared_names_lem b st v e p x f =
-    let k = exact_call bytes bits declared declared_names_lem in leaves_judged verdict_named named_apart k b _ v _ x (ran_decodes k b st v e p x f)
+pub judged_decode_struct_array_exact : (bytes : List ℕ) (bits : ℕ) (declared declared_names_lem : List ℕ) (b : Lent) (w : Walked Extent) (x : Lent)
+    → Decodes (exact_call bytes bits declared declared_names_lem) b (Ok w) x
+    → OnWindow verdict_named (exact declared declared_names_lem) bits (counters_of_lem w.stats) w.verdict
+judged_decode_struct_array_exact bytes bits declared declared_names_lem b w x f =
+    let k = exact_call bytes bits declared declared_names_lem in leaves_judged verdict_named named_apart k b _ w.verdict _ x (ran_decodes k b w x f)
 
 -- That of an accepted object walk: never empty; of no bits partial, since an error is counted.
-pub judged_decode_object_ref_array : (bytes : List ℕ) (bits : ℕ) (b : List ℕ) (st : ArrayDecodeStats) (v : Verdict) (n p : ℕ) (x : List ℕ)
-    → DecodesPairs bytes bits b (objects.Decoded st v n p) x → OnWindow verdict_named object bits (counters_of_lem st) v
-judged_decode_object_ref_array bytes bits b st v n p x f = pairs_judged verdict_named named_apart bytes bits b _ v n x (ran_pairs bytes bits b st v n p x f)
+pub judged_decode_object_ref_array : (bytes : List ℕ) (bits : ℕ) (b : List ℕ) (w : Walked ℕ) (x : List ℕ)
+    → DecodesPairs bytes bits b (Ok w) x → OnWindow verdict_named object bits (counters_of_lem w.stats) w.verdict
+judged_decode_object_ref_array bytes bits b w x f = pairs_judged verdict_named named_apart bytes bits b _ w.verdict w.filled x (ran_pairs bytes bits b w x f)
 
 -- ---- counters alone
 

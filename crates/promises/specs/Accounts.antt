@@ -1,7 +1,7 @@
 -- What is promised of how an accepted walk accounts for the bits of its window (request 06), by the numbers of the records that it leaves: in which order
 -- its leaves lie, what their payloads are copies of, and how all bits add up. What each of these says is in framing/specs: LeafOrder, Copies and Accounts.
 -- No answer tells the bits of numbers: those are of the walk.
-use Rattle.std.specs.Prelude.{ℕ, zero, suc, ◌+◌, ◌≤◌, ◌<◌, ◌≡◌, List}
+use Rattle.std.specs.Prelude.{ℕ, zero, suc, ◌+◌, ◌≤◌, ◌<◌, ◌≡◌, List, Ok, Err}
 use Rattle.bits.specs.Bits.{Bytes}
 use Rattle.framing.specs.Events.{Trace, raw_handle}
 use Rattle.framing.specs.Counters.{Counters, number_bits}
@@ -14,11 +14,7 @@ use Rattle.framing.specs.Copies.{Copied}
 use Rattle.outputs.specs.Records.{leaf_number}
 use Rattle.outputs.specs.Answers.{Call, Lent, trace_of, pair_trace}
 use Rattle.array.specs.Calls.{verdict_named}
-use Rattle.array.specs.Refusals.{counters_of_lem, room_in}
-use Rattle.array.specs.declared.StructArray.{StructArray}
-use Rattle.array.specs.declared.StructArray.TheVariants as structs
-use Rattle.array.specs.declared.ObjectArray.{ObjectArray}
-use Rattle.array.specs.declared.ObjectArray.TheVariants as objects
+use Rattle.array.specs.Refusals.{StructArray, ObjectArray, counters_of_lem, room_in}
 use Rattle.exports.specs.WalkResults.{counters_in, verdict_number_lem}
 use Rattle.exports.specs.declared.VrfWalk.{VrfWalk}
 use Rattle.exports.specs.declared.VrfObjects.{VrfObjects}
@@ -52,10 +48,8 @@ pub record SharedStart (x : Lent) (i : ℕ) : Type 0 where
 
 -- nothing is said of a refused answer, whose buffers are as they were lent
 abbrev pub OrderedLeaves : Call → StructArray → Lent → Type 0
-OrderedLeaves call (structs.Decoded st v e p) x = RecordsInOrder x (room_in e).leaves
-OrderedLeaves call structs.TooLong x = Unit {0}
-OrderedLeaves call structs.BrokenTables x = Unit {0}
-OrderedLeaves call (structs.Short e) x = Unit {0}
+OrderedLeaves call (Ok w) x = RecordsInOrder x (room_in w.filled).leaves
+OrderedLeaves call (Err why) x = Unit {0}
 
 -- the same of a struct for C, in which the refusal 0 is none
 abbrev pub OrderedLeavesInC : Call → VrfWalk → Lent → Type 0
@@ -70,10 +64,8 @@ RecordsCopied call x many =
     Bytes call.bytes → (i : ℕ) → i < many → Copied call.bytes (start_of x i) (bits_of x i) x.payloads (payload_start_of x i)
 
 abbrev pub CopiedLeaves : Call → StructArray → Lent → Type 0
-CopiedLeaves call (structs.Decoded st v e p) x = RecordsCopied call x (room_in e).leaves
-CopiedLeaves call structs.TooLong x = Unit {0}
-CopiedLeaves call structs.BrokenTables x = Unit {0}
-CopiedLeaves call (structs.Short e) x = Unit {0}
+CopiedLeaves call (Ok w) x = RecordsCopied call x (room_in w.filled).leaves
+CopiedLeaves call (Err why) x = Unit {0}
 
 abbrev pub CopiedLeavesInC : Call → VrfWalk → Lent → Type 0
 CopiedLeavesInC call r x = r.refusal ≡ 0 → RecordsCopied call x r.leaves
@@ -101,19 +93,16 @@ abbrev pub PairBitsAdd : {A : Type 0} → (form : F.Verdict → A) → (bytes : 
 PairBitsAdd form bytes bits c v = BitsAccounted form object bits (pair_trace bytes bits) c v 0
 
 abbrev pub AccountedLeaves : Call → StructArray → Lent → Type 0
-AccountedLeaves call (structs.Decoded st v e p) x = LeafBitsAdd verdict_named call (counters_of_lem st) v x (room_in e).leaves
-AccountedLeaves call structs.TooLong x = Unit {0}
-AccountedLeaves call structs.BrokenTables x = Unit {0}
-AccountedLeaves call (structs.Short e) x = Unit {0}
+AccountedLeaves call (Ok w) x = LeafBitsAdd verdict_named call (counters_of_lem w.stats) w.verdict x (room_in w.filled).leaves
+AccountedLeaves call (Err why) x = Unit {0}
 
 -- the same of a struct for C
 abbrev pub AccountedLeavesInC : Call → VrfWalk → Lent → Type 0
 AccountedLeavesInC call r x = r.refusal ≡ 0 → LeafBitsAdd verdict_number_lem call (counters_in r.counters) r.verdict x r.leaves
 
 abbrev pub AccountedPairs : (bytes : List ℕ) (bits : ℕ) → ObjectArray → Type 0
-AccountedPairs bytes bits (objects.Decoded st v n p) = PairBitsAdd verdict_named bytes bits (counters_of_lem st) v
-AccountedPairs bytes bits objects.TooLong = Unit {0}
-AccountedPairs bytes bits (objects.Short n) = Unit {0}
+AccountedPairs bytes bits (Ok w) = PairBitsAdd verdict_named bytes bits (counters_of_lem w.stats) w.verdict
+AccountedPairs bytes bits (Err why) = Unit {0}
 
 abbrev pub AccountedPairsInC : (bytes : List ℕ) (bits : ℕ) → VrfObjects → Type 0
 AccountedPairsInC bytes bits r = r.refusal ≡ 0 → PairBitsAdd verdict_number_lem bytes bits (counters_in r.counters) r.verdict

@@ -1,14 +1,14 @@
 -- The fourteen proved cases of document 01 as one table: the walks of framing's table and the two movements. A row has 01's number of the case,
 -- what the definitions give, and what 01 says, of case 11 as request 05 changes it. Case 11 is three rows, case 14 two.
-use Rattle.std.specs.Prelude.{ℕ, List, [], ◌∷◌, ◌++◌}
+use Rattle.std.specs.Prelude.{ℕ, List, [], ◌∷◌, ◌++◌, Result, Ok, Err}
 use Rattle.bits.specs.Refusals.{Numbered, refusal}
 use Rattle.framing.specs.Cases.{CaseAnswer, Case, cases, found}
 use Rattle.geometry.specs.Cases.{bytes, moved}
 use Rattle.geometry.specs.Movements.{read_movement}
 use Rattle.geometry.specs.Refusals.{numbered}
 use Rattle.geometry.specs.declared.Movement.{Movement}
-use Rattle.geometry.specs.declared.MovementRead.{MovementRead}
-use Rattle.geometry.specs.declared.MovementRead.TheVariants as M
+use Rattle.bitio.specs.declared.Read.{Read}
+use Rattle.geometry.specs.declared.Refusal.{Refusal}
 use Rattle.geometry.specs.declared.RotatorQuantization.TheVariants.{ByteComponents}
 use Rattle.geometry.specs.declared.VectorQuantization.TheVariants.{RoundWholeNumber}
 
@@ -31,9 +31,9 @@ walk_rows [] cs = []
 walk_rows (n ∷ ns) [] = []
 walk_rows (n ∷ ns) (c ∷ cs) = walk_row n c ∷ walk_rows ns cs
 
-abbrev pub outcome : MovementRead → Outcome
-outcome (M.Value m used) = moves m used
-outcome (M.Refused r) = refuses (numbered r)
+abbrev pub outcome : Result (Read Movement) Refusal → Outcome
+outcome (Ok m) = moves m.value m.next
+outcome (Err r) = refuses (numbered r)
 
 -- scale 1, width 8
 abbrev pub move_row : (number bits : ℕ) → Outcome → CaseRow

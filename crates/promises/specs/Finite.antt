@@ -1,13 +1,12 @@
 -- What is promised of the numbers in an answer: if it was accepted, every component is finite and every angle exact. Nothing is asked of a refused
 -- one.
-use Rattle.std.specs.Prelude.{ℕ, ◌≡◌, true}
+use Rattle.std.specs.Prelude.{ℕ, ◌≡◌, true, Result, Ok, Err}
 use Rattle.geometry.specs.Finite.{AllFinite, FiniteVector, AllExact, ExactRotation, SoundMovement}
-use Rattle.geometry.specs.declared.VectorRead.{VectorRead}
-use Rattle.geometry.specs.declared.VectorRead.TheVariants as Vec
-use Rattle.geometry.specs.declared.RotationRead.{RotationRead}
-use Rattle.geometry.specs.declared.RotationRead.TheVariants as R
-use Rattle.geometry.specs.declared.MovementRead.{MovementRead}
-use Rattle.geometry.specs.declared.MovementRead.TheVariants as M
+use Rattle.bitio.specs.declared.Read.{Read}
+use Rattle.geometry.specs.declared.Refusal.{Refusal}
+use Rattle.geometry.specs.declared.Vector.{Vector}
+use Rattle.geometry.specs.declared.Rotation.{Rotation}
+use Rattle.geometry.specs.declared.Movement.{Movement}
 use Rattle.exports.specs.declared.VrfXyz.{VrfXyz}
 use Rattle.exports.specs.declared.VrfAngles.{VrfAngles}
 use Rattle.exports.specs.declared.VrfVector.{VrfVector}
@@ -17,19 +16,19 @@ use Rattle.exports.specs.declared.VrfMovement.{VrfMovement}
 -- ---- the answers of geometry
 
 -- of a vector or a normal
-abbrev pub FiniteAnswer : VectorRead → Type 0
-FiniteAnswer (Vec.Value v p) = FiniteVector v
-FiniteAnswer (Vec.Refused r) = Unit {0}
+abbrev pub FiniteAnswer : Result (Read Vector) Refusal → Type 0
+FiniteAnswer (Ok v) = FiniteVector v.value
+FiniteAnswer (Err r) = Unit {0}
 
 -- of a rotation whose angles have w bits
-abbrev pub SoundRotationAnswer : (w : ℕ) → RotationRead → Type 0
-SoundRotationAnswer w (R.Value v p) = ExactRotation w v
-SoundRotationAnswer w (R.Refused r) = Unit {0}
+abbrev pub SoundRotationAnswer : (w : ℕ) → Result (Read Rotation) Refusal → Type 0
+SoundRotationAnswer w (Ok v) = ExactRotation w v.value
+SoundRotationAnswer w (Err r) = Unit {0}
 
 -- of a movement whose angles have w bits
-abbrev pub SoundMovementAnswer : (w : ℕ) → MovementRead → Type 0
-SoundMovementAnswer w (M.Value m p) = SoundMovement w m
-SoundMovementAnswer w (M.Refused r) = Unit {0}
+abbrev pub SoundMovementAnswer : (w : ℕ) → Result (Read Movement) Refusal → Type 0
+SoundMovementAnswer w (Ok m) = SoundMovement w m.value
+SoundMovementAnswer w (Err r) = Unit {0}
 
 -- ---- the structs for C; the refusal 0 is none
 

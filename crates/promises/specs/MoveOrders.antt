@@ -1,6 +1,6 @@
 -- The order of the refusals of the vector, normal, rotation and movement readers (01, Refusal numbers): the first whose condition holds is given,
 -- and none if none holds. A read of several parts lacks bits at the first part that the window cuts. W are the window's len bits, p a bit of it.
-use Rattle.std.specs.Prelude.{ℕ, zero, suc, ◌+◌, ◌*◌, ◌/◌, ◌%◌, Bool, not, ◌&&◌, ◌||◌, List, [], ◌∷◌, ◌++◌, map, leb, ltb, eqb, Float, if◌then◌else◌}
+use Rattle.std.specs.Prelude.{ℕ, zero, suc, ◌+◌, ◌*◌, ◌/◌, ◌%◌, Bool, not, ◌&&◌, ◌||◌, List, [], ◌∷◌, ◌++◌, map, leb, ltb, eqb, Float, if◌then◌else◌, Result, Ok, Err}
 use Rattle.std.proofs.Math.Option.{Option, none, some}
 use Rattle.std.specs.Float.{binary32, binary64}
 use Rattle.std.specs.Float.Ieee.{of_bits}
@@ -22,27 +22,12 @@ use Rattle.geometry.specs.declared.Refusal.{Refusal}
 use Rattle.geometry.specs.declared.Refusal.TheVariants.{Unread, NoScale, NotFinite, NoSuchWidth}
 use Rattle.geometry.specs.declared.RotatorQuantization.{RotatorQuantization}
 use Rattle.geometry.specs.declared.VectorQuantization.{VectorQuantization}
-use Rattle.geometry.specs.declared.VectorRead.{VectorRead}
-use Rattle.geometry.specs.declared.VectorRead.TheVariants as Vec
-use Rattle.geometry.specs.declared.RotationRead.{RotationRead}
-use Rattle.geometry.specs.declared.RotationRead.TheVariants as R
-use Rattle.geometry.specs.declared.MovementRead.{MovementRead}
-use Rattle.geometry.specs.declared.MovementRead.TheVariants as M
 use Rattle.promises.specs.ReadOrders.{following, packed_parts}
 
--- ---- the refusal that an answer is
-
-abbrev pub of_vector : VectorRead → Option Refusal
-of_vector (Vec.Value v next) = none
-of_vector (Vec.Refused r) = some r
-
-abbrev pub of_rotation : RotationRead → Option Refusal
-of_rotation (R.Value v next) = none
-of_rotation (R.Refused r) = some r
-
-abbrev pub of_movement : MovementRead → Option Refusal
-of_movement (M.Value v used) = none
-of_movement (M.Refused r) = some r
+-- the refusal that an answer is
+abbrev pub refusal_of : {A : Type 0} → Result A Refusal → Option Refusal
+refusal_of (Ok x) = none
+refusal_of (Err r) = some r
 
 -- ---- parts
 

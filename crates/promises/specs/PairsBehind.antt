@@ -4,8 +4,7 @@ use Rattle.framing.specs.PairsBehind.{walk_behind}
 use Rattle.framing.specs.Refusing.{Answer}
 use Rattle.outputs.specs.Answers.{pair_answer_of, final_pairs_of}
 use Rattle.array.specs.Calls.{PairsJudged}
-use Rattle.array.specs.Refusals.{pairs_of}
-use Rattle.array.specs.declared.ObjectArray.{ObjectArray}
+use Rattle.array.specs.Refusals.{ObjectArray, pairs_of}
 use Rattle.exports.specs.WalkResults.{objects_result}
 use Rattle.exports.specs.declared.VrfObjects.{VrfObjects}
 

@@ -1,7 +1,7 @@
 -- What is promised of where leaves lie (request 02), of an accepted struct or exact walk and the buffers that it leaves: record i is that of leaf i of
 -- the walk, and tells the bit of the window at which its payload starts. Where these bits lie is as framing/specs/Places says; that the window holds
 -- the payload there is said in specs/Accounts (the theorems copied_). `inside` says a part of it by the buffers' own numbers.
-use Rattle.std.specs.Prelude.{ℕ, ◌+◌, ◌≤◌, ◌<◌, ◌≡◌, List, length, take, drop}
+use Rattle.std.specs.Prelude.{ℕ, ◌+◌, ◌≤◌, ◌<◌, ◌≡◌, List, length, take, drop, Ok, Err}
 use Rattle.bits.specs.Members.{StandsAt}
 use Rattle.framing.specs.Windows.{window_of}
 use Rattle.framing.specs.Events.{Leaf, leaves}
@@ -10,9 +10,7 @@ use Rattle.framing.specs.Records.{payload_of, path_start_at, path_length_at, han
 use Rattle.framing.specs.Refusing.{Room}
 use Rattle.outputs.specs.Records.{leaf_number}
 use Rattle.outputs.specs.Answers.{Call, Lent, trace_of}
-use Rattle.array.specs.Refusals.{room_in}
-use Rattle.array.specs.declared.StructArray.{StructArray}
-use Rattle.array.specs.declared.StructArray.TheVariants as structs
+use Rattle.array.specs.Refusals.{StructArray, room_in}
 use Rattle.exports.specs.WalkResults.{filled_in}
 use Rattle.exports.specs.declared.VrfWalk.{VrfWalk}
 
@@ -48,10 +46,8 @@ pub record LeavesFound (call : Call) (filled : Room) (x : Lent) : Type 0 where
 
 -- nothing is said of a refused answer, whose buffers are as they were lent
 abbrev pub PlacedLeaves : Call → StructArray → Lent → Type 0
-PlacedLeaves call (structs.Decoded st v e p) x = LeavesFound call (room_in e) x
-PlacedLeaves call structs.TooLong x = Unit {0}
-PlacedLeaves call structs.BrokenTables x = Unit {0}
-PlacedLeaves call (structs.Short e) x = Unit {0}
+PlacedLeaves call (Ok w) x = LeavesFound call (room_in w.filled) x
+PlacedLeaves call (Err why) x = Unit {0}
 
 -- the same of a struct for C, in which the refusal 0 is none
 abbrev pub PlacedLeavesInC : Call → VrfWalk → Lent → Type 0

@@ -1,7 +1,6 @@
 -- The order of the refusals of the bit reader's calls (01, Refusal numbers), where bitio/specs/Order has none: the first whose condition holds is
--- given, and none if none holds. And the refusal that an answer is, if it is one.
+-- given, and none if none holds.
 use Rattle.std.specs.Prelude.{ℕ, zero, suc, ◌+◌, ◌*◌, ◌/◌, ◌%◌, ◌^◌, ◌&&◌, List, [], ◌∷◌, leb, ltb, eqb, if◌then◌else◌}
-use Rattle.std.proofs.Math.Option.{Option, none, some}
 use Rattle.bits.specs.Bits.{field}
 use Rattle.bits.specs.Packed.{most_bytes, fifth_most}
 use Rattle.bits.specs.Refusals.{Rule, when}
@@ -11,70 +10,6 @@ use Rattle.bitio.specs.Order.{bad_first, fewer}
 use Rattle.bitio.specs.declared.Cursor.{Cursor}
 use Rattle.bitio.specs.declared.Refusal.{Refusal}
 use Rattle.bitio.specs.declared.Refusal.TheVariants.{TooFew, GoesOn, Overflows, NoMaximum}
-use Rattle.bitio.specs.declared.Measured.{Measured}
-use Rattle.bitio.specs.declared.Measured.TheVariants as Measure
-use Rattle.bitio.specs.declared.Ended.{Ended}
-use Rattle.bitio.specs.declared.Ended.TheVariants as End
-use Rattle.bitio.specs.declared.SubReader.{SubReader}
-use Rattle.bitio.specs.declared.SubReader.TheVariants as Sub
-use Rattle.bitio.specs.declared.BitRead.{BitRead}
-use Rattle.bitio.specs.declared.BitRead.TheVariants as B1
-use Rattle.bitio.specs.declared.U8Read.{U8Read}
-use Rattle.bitio.specs.declared.U8Read.TheVariants as U8
-use Rattle.bitio.specs.declared.U16Read.{U16Read}
-use Rattle.bitio.specs.declared.U16Read.TheVariants as U16
-use Rattle.bitio.specs.declared.U32Read.{U32Read}
-use Rattle.bitio.specs.declared.U32Read.TheVariants as U32
-use Rattle.bitio.specs.declared.I32Read.{I32Read}
-use Rattle.bitio.specs.declared.I32Read.TheVariants as I32
-use Rattle.bitio.specs.declared.PackedRead.{PackedRead}
-use Rattle.bitio.specs.declared.PackedRead.TheVariants as P
-use Rattle.bitio.specs.declared.SerializedRead.{SerializedRead}
-use Rattle.bitio.specs.declared.SerializedRead.TheVariants as Ser
-
--- ---- the refusal that an answer is
-
-abbrev pub of_measured : Measured → Option Refusal
-of_measured (Measure.Value n) = none
-of_measured (Measure.Refused r) = some r
-
-abbrev pub of_ended : Ended → Option Refusal
-of_ended (End.Value b) = none
-of_ended (End.Refused r) = some r
-
-abbrev pub of_sub_reader : SubReader → Option Refusal
-of_sub_reader (Sub.Window c next) = none
-of_sub_reader (Sub.Refused r) = some r
-
-abbrev pub of_bit : BitRead → Option Refusal
-of_bit (B1.Value b next) = none
-of_bit (B1.Refused r) = some r
-
-abbrev pub of_u8 : U8Read → Option Refusal
-of_u8 (U8.Value x next) = none
-of_u8 (U8.Refused r) = some r
-
-abbrev pub of_u16 : U16Read → Option Refusal
-of_u16 (U16.Value x next) = none
-of_u16 (U16.Refused r) = some r
-
-abbrev pub of_u32 : U32Read → Option Refusal
-of_u32 (U32.Value x next) = none
-of_u32 (U32.Refused r) = some r
-
-abbrev pub of_i32 : I32Read → Option Refusal
-of_i32 (I32.Value x next) = none
-of_i32 (I32.Refused r) = some r
-
-abbrev pub of_packed : PackedRead → Option Refusal
-of_packed (P.Value x next) = none
-of_packed (P.Refused r) = some r
-
-abbrev pub of_serialized : SerializedRead → Option Refusal
-of_serialized (Ser.Value x next) = none
-of_serialized (Ser.Refused r) = some r
-
--- ---- orders
 
 -- a call that asks for no bits: 14
 abbrev pub cursor_rules : List ℕ → Cursor → List (Rule Refusal)

@@ -1,16 +1,14 @@
 -- Request 13: what a total of many sets of counters doesn't depend on, which is the order of its merges and how they are bracketed. `adds a b r` is a
 -- merge's contract: r may be answered for a on the left and b on the right. The laws hold of any such answers. The counters that a refused merge gives
 -- back are left aside.
-use Rattle.std.specs.Prelude.{◌≡◌, true, false, List, [], ◌∷◌, ◌++◌, eqb, if◌then◌else◌}
+use Rattle.std.specs.Prelude.{◌≡◌, true, false, List, [], ◌∷◌, ◌++◌, eqb, if◌then◌else◌, Ok, Err}
 use Rattle.std.proofs.Math.Option.{Option, none, some}
 use Rattle.bits.specs.Members.{All, Reorders}
 use Rattle.framing.specs.Counters.{Counters, counted, sums, is_clean}
 use Rattle.framing.specs.Verdicts as F
 use Rattle.array.specs.Merges.{bounded}
-use Rattle.array.specs.Refusals.{counters_of_lem}
+use Rattle.array.specs.Refusals.{Merged, counters_of_lem}
 use Rattle.array.specs.declared.ArrayDecodeStats.{ArrayDecodeStats}
-use Rattle.array.specs.declared.Merged.{Merged}
-use Rattle.array.specs.declared.Merged.TheVariants as merged
 use Rattle.exports.specs.WalkResults.{counters_in, no_counters_lem}
 use Rattle.exports.specs.declared.VrfCounters.{VrfCounters}
 use Rattle.exports.specs.declared.VrfMerge.{VrfMerge}
@@ -166,8 +164,8 @@ no_stats =
     }
 
 abbrev pub sum_of : Merged → Option ArrayDecodeStats
-sum_of (merged.Sum s) = some s
-sum_of (merged.Overflow s) = none
+sum_of (Ok s) = some s
+sum_of (Err o) = none
 
 -- of `merge_from`
 abbrev pub in_rattle : ReadAs ArrayDecodeStats Merged
