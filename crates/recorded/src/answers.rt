@@ -4,16 +4,17 @@ ghost use Rattle.bits.specs.Refusals.{refusal};
 ghost use Rattle.bitio.specs.Refusals.{numbered, stands_after_lem};
 ghost use Rattle.recorded.specs.Says.{Says};
 
-use crate::{fields, say};
+use crate::fields::Parts;
+use crate::say;
 use bitio::Refusal;
 use bitio::said::{Saying, said, stands_after};
-use std::io;
-use words::wide;
+use std::{fmt, io};
+use words::input::Unread;
 
 // Document 01's number for outputs that are too short: what a call has to answer that is lent less than the recorded one fills.
 pub const SHORT: u64 = 3;
 
-#[derive(Clone, Copy)]
+#[derive(Clone, Copy, PartialEq, Eq)]
 pub struct Answer {
     pub number: u64,
     pub first: u64,
@@ -22,17 +23,9 @@ pub struct Answer {
     pub cursor: u64,
 }
 
-// A recorded answer, and the place after it.
-#[derive(Clone, Copy)]
-pub struct Expected {
-    pub answer: Answer,
-    pub next: usize,
-}
-
 // Why a case can't be replayed.
 #[derive(Clone, Copy)]
 pub enum Fault {
-    None,
     // A read of the file fails, and why.
     Unread(io::Error),
     // The file's length is not what was read.
@@ -50,12 +43,26 @@ pub enum Fault {
     List,
 }
 
-#[derive(Clone, Copy)]
+impl From<io::Error> for Fault {
+    fn from(why: io::Error) -> Fault {
+        Fault::Unread(why)
+    }
+}
+
+impl From<Unread> for Fault {
+    fn from(why: Unread) -> Fault {
+        match why {
+            Unread::Failed(why) => Fault::Unread(why),
+            Unread::Longer | Unread::Changed => Fault::Changed,
+        }
+    }
+}
+
+#[derive(Clone, Copy, PartialEq, Eq)]
 pub enum Outcome {
     Same,
     // The line that says so is printed.
     Differs,
-    Damaged(Fault),
 }
 
 // The outcome of a case whose difference, if there is one, is printed.
@@ -64,6 +71,26 @@ pub fn outcome_of(same: bool) -> Outcome {
         Outcome::Same
     } else {
         Outcome::Differs
+    }
+}
+
+// Why a replay ends before the file does.
+#[derive(Clone, Copy)]
+pub enum Stop {
+    Faulty(Fault),
+    // A write of an answer failed.
+    Unwritten(io::Error),
+}
+
+impl From<Fault> for Stop {
+    fn from(fault: Fault) -> Stop {
+        Stop::Faulty(fault)
+    }
+}
+
+impl From<io::Error> for Stop {
+    fn from(why: io::Error) -> Stop {
+        Stop::Unwritten(why)
     }
 }
 
@@ -89,7 +116,7 @@ pub fn told(s: Saying, cursor: u64) -> Answer
     ensures says { Says result (refusal s.number s.first s.second s.third) }
     ensures stands { result.cursor ≡ cursor }
 {
-    answer_of(wide(s.number), s.first, s.second, s.third, cursor)
+    answer_of(u64::from(s.number), s.first, s.second, s.third, cursor)
 }
 
 // What a refusal says, and where the cursor that stood at `at` stands after it (bitio's specs/Refusals).
@@ -102,44 +129,37 @@ pub fn refused(why: Refusal, at: u64) -> Answer
     told(s, cursor)
 }
 
-pub fn recorded(s: &[u8], at: usize) -> Expected {
-    let number = fields::number(s, at);
-    let first = fields::number(s, number.next);
-    let second = fields::number(s, first.next);
-    let third = fields::number(s, second.next);
-    let cursor = fields::number(s, third.next);
-    let answer = answer_of(
-        number.value,
-        first.value,
-        second.value,
-        third.value,
-        cursor.value,
-    );
-    let next = cursor.next;
-    Expected { answer, next }
+pub fn recorded(parts: &mut Parts<'_>) -> Result<Answer, Fault> {
+    let [number, first, second, third, cursor] = parts.numbers::<5>()?;
+    Ok(answer_of(number, first, second, third, cursor))
 }
 
-pub fn same(a: Answer, b: Answer) -> bool {
-    a.number == b.number
-        && a.first == b.first
-        && a.second == b.second
-        && a.third == b.third
-        && a.cursor == b.cursor
-}
-
-// The outcome of a case whose last part is the recorded answer.
-pub fn judge(out: &impl Print, s: &[u8], expected: Expected, got: Answer) -> io::Result<Outcome> {
-    if expected.next != s.len() {
-        return Ok(Outcome::Damaged(Fault::Layout));
+impl fmt::Display for Answer {
+    fn fmt<W: fmt::Write>(&self, f: &mut fmt::Formatter<W>) -> fmt::Result {
+        let Answer {
+            number,
+            first,
+            second,
+            third,
+            cursor,
+        } = *self;
+        if number == 0 {
+            write!(f, "accepted {first} at bit {cursor}")
+        } else {
+            write!(
+                f,
+                "refusal {number} with {first} {second} {third} at bit {cursor}"
+            )
+        }
     }
-    let answer = expected.answer;
-    if same(answer, got) {
+}
+
+// Whether ours is the recorded answer; the line that says otherwise is printed.
+pub fn judge(out: &impl Print, id: &[u8], expected: Answer, got: Answer) -> io::Result<Outcome> {
+    if expected == got {
         return Ok(Outcome::Same);
     }
-    say::case(out, s)?;
-    say::answer(out, answer)?;
-    say::text(out, b", got ")?;
-    say::answer(out, got)?;
-    say::text(out, b"\n")?;
+    say::case(out, id)?;
+    println!(out; "{expected}, got {got}")?;
     Ok(Outcome::Differs)
 }

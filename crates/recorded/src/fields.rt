@@ -1,158 +1,109 @@
-// What stands at a place of a case: its kind, its id, numbers and runs of bytes.
-//
-// Every call takes any bytes and any place. Where a part doesn't fit, a number is 0, a run is empty, and the next place is
-// past every end, where nothing fits either. So a kind reads all its parts and tests once, at the end.
-pub use words::equal;
+// What stands in a case: its kind, its id, numbers and runs of bytes, taken from its front one after another.
+use crate::answers::Fault;
 
-// A number, and the place after it.
+// The rest of a case. Where a part doesn't fit, nothing behind it does either.
 #[derive(Clone, Copy)]
-pub struct Field {
-    pub value: u64,
-    pub next: usize,
+pub struct Parts<'a> {
+    rest: &'a [u8],
 }
 
+// A case: its kind's letter, its id, and what stands behind them.
 #[derive(Clone, Copy)]
-pub struct ShortField {
-    pub value: u32,
-    pub next: usize,
+pub struct Case<'a> {
+    pub kind: u8,
+    pub id: &'a [u8],
+    pub parts: Parts<'a>,
 }
 
-// The place after a part that doesn't fit: an empty run stands there.
-pub fn past() -> usize {
-    0xffff_ffff_ffff_ffff
-}
-
-fn length(x: u8) -> usize {
-    x as usize
-}
-
-// The kind's letter; 0 where the case is empty.
-pub fn kind(s: &[u8]) -> u8 {
-    if 0 < s.len() { s[0] } else { 0 }
-}
-
-// The place after the id.
-pub fn after_id(s: &[u8]) -> usize {
-    if s.len() < 2 {
-        return past();
+// What a number says that is 1 for yes and 0 for no: no other is one that a case may have.
+pub fn flag(number: u64) -> Result<bool, Fault> {
+    match number {
+        0 => Ok(false),
+        1 => Ok(true),
+        _ => Err(Fault::Number),
     }
-    let n = length(s[1]);
-    if s.len() - 2 < n {
-        return past();
-    }
-    2 + n
 }
 
-pub fn id(s: &[u8]) -> &[u8] {
-    let end = after_id(s);
-    if end < 2 {
-        return &s[..0];
-    }
-    if s.len() < end {
-        return &s[..0];
-    }
-    &s[2..end]
-}
-
-pub fn number(s: &[u8], at: usize) -> Field {
-    let len = s.len();
-    if len < 8 {
-        return Field {
-            value: 0,
-            next: past(),
+impl<'a> Case<'a> {
+    pub fn of(s: &'a [u8]) -> Result<Case<'a>, Fault> {
+        let [kind, length, rest @ ..] = s else {
+            return Err(Fault::Layout);
         };
-    }
-    if len - 8 < at {
-        return Field {
-            value: 0,
-            next: past(),
-        };
-    }
-    let value = bits::load::load64(s, at);
-    let next = at + 8;
-    Field { value, next }
-}
-
-// A number below 2^32; a larger one counts as a part that doesn't fit.
-pub fn short_number(s: &[u8], at: usize) -> ShortField {
-    let field = number(s, at);
-    let value = field.value;
-    if 0xffff_ffff < value {
-        return ShortField {
-            value: 0,
-            next: past(),
-        };
-    }
-    let next = field.next;
-    ShortField {
-        value: value as u32,
-        next,
+        let mut parts = Parts { rest };
+        let id = parts.bytes(u64::from(*length))?;
+        Ok(Case {
+            kind: *kind,
+            id,
+            parts,
+        })
     }
 }
 
-// The place after the run.
-pub fn after_run(s: &[u8], at: usize) -> usize {
-    let count = number(s, at);
-    let start = count.next;
-    let n = count.value as usize;
-    if s.len() < start {
-        return past();
+impl<'a> Parts<'a> {
+    fn unfit<T>(&mut self) -> Result<T, Fault> {
+        self.rest = &[];
+        Err(Fault::Layout)
     }
-    if s.len() - start < n {
-        return past();
-    }
-    start + n
-}
 
-// The bytes of the run.
-pub fn run(s: &[u8], at: usize) -> &[u8] {
-    let count = number(s, at);
-    let start = count.next;
-    let end = after_run(s, at);
-    if end < start {
-        return &s[..0];
+    // So many bytes.
+    fn bytes(&mut self, n: u64) -> Result<&'a [u8], Fault> {
+        match self.rest.split_at_checked(n as usize) {
+            Some((part, rest)) => {
+                self.rest = rest;
+                Ok(part)
+            }
+            None => self.unfit(),
+        }
     }
-    if s.len() < end {
-        return &s[..0];
-    }
-    &s[start..end]
-}
 
-// The bytes from a to e, none where they don't lie in s.
-pub fn part(s: &[u8], a: usize, e: usize) -> &[u8] {
-    if e < a {
-        return &s[..0];
+    pub fn number(&mut self) -> Result<u64, Fault> {
+        match self.rest.split_first_chunk() {
+            Some((number, rest)) => {
+                self.rest = rest;
+                Ok(u64::from_le_bytes(*number))
+            }
+            None => self.unfit(),
+        }
     }
-    if s.len() < e {
-        return &s[..0];
-    }
-    &s[a..e]
-}
 
-// The place after so many u32.
-pub fn after_words(s: &[u8], at: usize, count: u64) -> usize {
-    if s.len() < at {
-        return past();
+    // A number below 2^32; a larger one counts as a part that doesn't fit.
+    pub fn short_number(&mut self) -> Result<u32, Fault> {
+        match u32::try_from(self.number()?) {
+            Ok(number) => Ok(number),
+            Err(_) => self.unfit(),
+        }
     }
-    let n = count as usize;
-    if (s.len() - at) / 4 < n {
-        return past();
-    }
-    at + 4 * n
-}
 
-// These bytes, or none.
-pub fn unless(none: bool, s: &[u8]) -> &[u8] {
-    if none {
-        return &s[..0];
+    pub fn numbers<const N: usize>(&mut self) -> Result<[u64; N], Fault> {
+        let mut numbers = [0; N];
+        for number in numbers.iter_mut() {
+            *number = self.number()?;
+        }
+        Ok(numbers)
     }
-    s
-}
 
-// All bytes from the place on.
-pub fn rest(s: &[u8], at: usize) -> &[u8] {
-    if s.len() < at {
-        return &s[..0];
+    // A run: how many bytes, and the bytes.
+    pub fn run(&mut self) -> Result<&'a [u8], Fault> {
+        let n = self.number()?;
+        self.bytes(n)
     }
-    &s[at..]
+
+    // So many u32.
+    pub fn words(&mut self, count: u64) -> Result<&'a [u8], Fault> {
+        self.bytes(count.saturating_mul(4))
+    }
+
+    // All bytes that are left.
+    pub fn rest(self) -> &'a [u8] {
+        self.rest
+    }
+
+    // Nothing stands behind the parts.
+    pub fn end(self) -> Result<(), Fault> {
+        if self.rest.is_empty() {
+            Ok(())
+        } else {
+            Err(Fault::Layout)
+        }
+    }
 }

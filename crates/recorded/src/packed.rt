@@ -1,33 +1,23 @@
 // Kind P: a packed number. An accepted answer's values are the number, the bytes that it took, and 1 if it is padded.
-use crate::answers::{Answer, Outcome};
-use crate::windows::{Placed, Window};
-use crate::{answers, fields, windows};
-use bitio::PackedRead;
-use std::io;
-use words::wide;
+use crate::answers::{Answer, Outcome, Stop};
+use crate::fields::Case;
+use crate::{answers, windows};
+use bitio::Cursor;
 
-fn answer(bytes: &[u8], w: Window) -> Answer {
-    let placed = windows::place(bytes, w);
-    match placed {
-        Placed::Ready(c) => {
-            let read = bitio::read_int_packed(bytes, c);
-            match read {
-                PackedRead::Value(n, next) => {
-                    let value = wide(n.value);
-                    let taken = wide(n.bytes);
-                    let padded = if n.padded { 1 } else { 0 };
-                    answers::answer_of(0, value, taken, padded, next)
-                }
-                PackedRead::Refused(r) => answers::refused(r, c.pos),
-            }
+fn read(bytes: &[u8], c: Cursor) -> Answer {
+    let read = bitio::read_int_packed(bytes, c);
+    match read {
+        Ok(x) => {
+            let n = x.value;
+            let value = u64::from(n.value);
+            let taken = u64::from(n.bytes);
+            let padded = u64::from(n.padded);
+            answers::answer_of(0, value, taken, padded, x.next)
         }
-        Placed::Refused(a) => a,
+        Err(r) => answers::refused(r, c.pos),
     }
 }
 
-pub fn replay(out: &impl Print, s: &[u8], at: usize) -> io::Result<Outcome> {
-    let w = windows::of_case(s, at);
-    let bytes = fields::run(s, w.run);
-    let got = answer(bytes, w);
-    answers::judge(out, s, w.expected, got)
+pub fn replay(out: &impl Print, case: Case<'_>) -> Result<Outcome, Stop> {
+    windows::replay(out, case, read)
 }

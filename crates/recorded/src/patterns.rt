@@ -1,39 +1,60 @@
-// Outputs: filled with a pattern before a call, compared after it.
-use crate::{fields, lists};
+// Outputs: filled with a pattern before a call, compared after it with a list of a case.
 
-const WORD: u32 = 0xeeee_eeee;
+// What an output holds.
+pub trait Listed: Copy + PartialEq {
+    const PATTERN: Self;
 
-const BYTE: u8 = 0xee;
+    // The first of a list, with its low byte first, and the rest.
+    fn first(list: &[u8]) -> Option<(Self, &[u8])>;
+}
 
-pub fn fill_words(words: &mut [u32]) {
-    for word in words.iter_mut() {
-        *word = WORD;
+impl Listed for u8 {
+    const PATTERN: u8 = 0xee;
+
+    fn first(list: &[u8]) -> Option<(u8, &[u8])> {
+        let (byte, rest) = list.split_first()?;
+        Some((*byte, rest))
     }
 }
 
-pub fn fill_bytes(bytes: &mut [u8]) {
-    for byte in bytes.iter_mut() {
-        *byte = BYTE;
+impl Listed for u32 {
+    const PATTERN: u32 = 0xeeee_eeee;
+
+    fn first(list: &[u8]) -> Option<(u32, &[u8])> {
+        let (bytes, rest) = list.split_first_chunk()?;
+        Some((u32::from_le_bytes(*bytes), rest))
     }
 }
 
-// Whether only the pattern stands from `at` on.
-fn untouched_words(words: &[u32], at: usize) -> bool {
-    words.iter().skip(at).all(|word| *word == WORD)
+impl Listed for i32 {
+    const PATTERN: i32 = 0x6eee_eeee;
+
+    fn first(list: &[u8]) -> Option<(i32, &[u8])> {
+        let (bytes, rest) = list.split_first_chunk()?;
+        Some((i32::from_le_bytes(*bytes), rest))
+    }
 }
 
-fn untouched_bytes(bytes: &[u8]) -> bool {
-    bytes.iter().all(|byte| *byte == BYTE)
+pub fn fill<T: Listed>(output: &mut [T]) {
+    for x in output.iter_mut() {
+        *x = T::PATTERN;
+    }
 }
 
-// Whether the words start with those of the list, and go on with the pattern.
-pub fn holds_words(words: &[u32], list: &[u8]) -> bool {
-    let n = list.len() / 4;
-    lists::same_words(list, lists::front(words, n)) && untouched_words(words, n)
-}
-
-// Whether the bytes start with those of the run, and go on with the pattern.
-pub fn holds_bytes(bytes: &[u8], run: &[u8]) -> bool {
-    let n = run.len();
-    fields::equal(run, fields::part(bytes, 0, n)) && untouched_bytes(fields::rest(bytes, n))
+// Whether the output starts with what the list has, and goes on with the pattern.
+pub fn holds<T: Listed>(output: &[T], list: &[u8]) -> bool {
+    let mut rest = list;
+    for x in output {
+        let held = match T::first(rest) {
+            Some((held, further)) => {
+                rest = further;
+                held
+            }
+            None => T::PATTERN,
+        };
+        if *x != held {
+            return false;
+        }
+    }
+    rest.is_empty()
 }

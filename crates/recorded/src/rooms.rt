@@ -1,8 +1,10 @@
-// How much is lent of a call's three outputs, and the trials of a case.
+// The trials of a case whose call is lent three outputs, and how much of each is lent.
 //
 // Of a walk the outputs are its records, path bytes and payload bytes; of a fast-array body its ids, items and fields. A room
-// counts numbers or bytes, not records. Trial 0 lends what the call needs, trial 1 seven more of each, so that a whole record
-// would fit behind, and the trials 2, 3 and 4 one less than it needs of the first, the second and the third output.
+// counts numbers or bytes, not records. A trial lends what the call needs, another seven more of each, so that a whole record
+// would fit behind, and three more one less than it needs of the first, the second and the third output.
+use crate::say;
+use std::{fmt, io};
 
 #[derive(Clone, Copy)]
 pub struct Room {
@@ -11,54 +13,123 @@ pub struct Room {
     pub third: usize,
 }
 
-pub const TRIALS: usize = 5;
+#[derive(Clone, Copy, PartialEq, Eq)]
+enum Trial {
+    Full,
+    Longer,
+    ShortOfFirst,
+    ShortOfSecond,
+    ShortOfThird,
+}
 
-pub fn room_of(first: usize, second: usize, third: usize) -> Room {
-    Room {
-        first,
-        second,
-        third,
+const TRIALS: [Trial; 5] = [
+    Trial::Full,
+    Trial::Longer,
+    Trial::ShortOfFirst,
+    Trial::ShortOfSecond,
+    Trial::ShortOfThird,
+];
+
+impl Trial {
+    // Whether the call has to be refused for its needs.
+    fn is_short(self) -> bool {
+        !matches!(self, Trial::Full | Trial::Longer)
     }
 }
 
-// Seven more; n where that is past every room.
-fn more(n: usize) -> usize {
-    if 0xffff_ffff_ffff_fff8 < n { n } else { n + 7 }
-}
+impl Room {
+    const NOTHING: Room = Room {
+        first: 0,
+        second: 0,
+        third: 0,
+    };
 
-fn less(n: usize) -> usize {
-    if n == 0 { 0 } else { n - 1 }
-}
+    // Seven more of each.
+    fn more(self) -> Room {
+        Room {
+            first: self.first.saturating_add(7),
+            second: self.second.saturating_add(7),
+            third: self.third.saturating_add(7),
+        }
+    }
 
-// Whether the call has to be refused for its needs.
-pub fn is_short(trial: usize) -> bool {
-    1 < trial
-}
+    fn fits(self, held: Room) -> bool {
+        self.first <= held.first && self.second <= held.second && self.third <= held.third
+    }
 
-// An output that needs nothing can't lack anything.
-pub fn is_tried(needs: Room, trial: usize) -> bool {
-    match trial {
-        2 => 0 < needs.first,
-        3 => 0 < needs.second,
-        4 => 0 < needs.third,
-        _ => true,
+    // What the trial lends of a call with these needs; none where it needs nothing of the output that is to be short.
+    fn lent(self, trial: Trial) -> Option<Room> {
+        let Room {
+            first,
+            second,
+            third,
+        } = self;
+        Some(match trial {
+            Trial::Full => self,
+            Trial::Longer => self.more(),
+            Trial::ShortOfFirst => Room {
+                first: first.checked_sub(1)?,
+                second,
+                third,
+            },
+            Trial::ShortOfSecond => Room {
+                first,
+                second: second.checked_sub(1)?,
+                third,
+            },
+            Trial::ShortOfThird => Room {
+                first,
+                second,
+                third: third.checked_sub(1)?,
+            },
+        })
     }
 }
 
-pub fn lent(needs: Room, trial: usize) -> Room {
-    let a = needs.first;
-    let b = needs.second;
-    let c = needs.third;
-    match trial {
-        1 => room_of(more(a), more(b), more(c)),
-        2 => room_of(less(a), b, c),
-        3 => room_of(a, less(b), c),
-        4 => room_of(a, b, less(c)),
-        _ => room_of(a, b, c),
+// Whether the call of a case with these needs passes all its trials, up to the first that fails. `passes` makes it, lent so much
+// of the outputs; where that is short it has to be refused for its needs. Where they aren't recorded, or the longest trial doesn't
+// fit what is held, the call is lent nothing.
+pub fn pass<F: FnMut(Room, bool) -> io::Result<bool>>(
+    needs: Option<Room>,
+    held: Room,
+    mut passes: F,
+) -> io::Result<bool>
+    requires { F.IsAlwaysCallable passes }
+{
+    let Some(needs) = needs.filter(|needs| needs.more().fits(held)) else {
+        return passes(Room::NOTHING, true);
+    };
+    for trial in TRIALS {
+        if let Some(room) = needs.lent(trial) {
+            if !passes(room, trial.is_short())? {
+                return Ok(false);
+            }
+        }
     }
+    Ok(true)
 }
 
-// Whether outputs of these lengths are long enough for every trial.
-pub fn has_room(needs: Room, first: usize, second: usize, third: usize) -> bool {
-    more(needs.first) <= first && more(needs.second) <= second && more(needs.third) <= third
+// So much of an output, or all of it.
+pub fn front<T>(output: &mut [T], n: usize) -> &mut [T] {
+    let end = n.min(output.len());
+    &mut output[..end]
+}
+
+// Whether a call answers what it has to, and leaves no output that is `other`; the line that says otherwise is printed.
+pub fn judge<T: PartialEq + fmt::Display, L: fmt::Display + Drop>(
+    out: &impl Print,
+    id: &[u8],
+    expected: &T,
+    got: &T,
+    other: Option<&str>,
+    lent: L,
+) -> io::Result<bool> {
+    let why = match other {
+        _ if expected != got => "",
+        Some(why) => why,
+        None => return Ok(true),
+    };
+    say::case(out, id)?;
+    println!(out; "{expected}, got {got}{why}, lent {lent}")?;
+    Ok(false)
 }

@@ -1,36 +1,18 @@
 // Kind I: a serialized integer.
-use crate::answers::{Answer, Fault, Outcome};
-use crate::windows::{Placed, Window};
-use crate::{answers, fields, windows};
-use bitio::SerializedRead;
-use std::io;
+use crate::answers::{Fault, Outcome, Stop};
+use crate::fields::Case;
+use crate::{answers, windows};
 
-fn answer(bytes: &[u8], w: Window, maximum: u32) -> Answer {
-    let placed = windows::place(bytes, w);
-    match placed {
-        Placed::Ready(c) => {
-            let read = bitio::read_serialized_int(bytes, c, maximum);
-            match read {
-                SerializedRead::Value(value, next) => {
-                    let wide = value as u64;
-                    answers::accepted(wide, next)
-                }
-                SerializedRead::Refused(r) => answers::refused(r, c.pos),
+pub fn replay(out: &impl Print, mut case: Case<'_>) -> Result<Outcome, Stop> {
+    let maximum = u32::try_from(case.parts.number()?).map_err(|_| Fault::Number)?;
+    windows::replay(out, case, |bytes, c| {
+        let read = bitio::read_serialized_int(bytes, c, maximum);
+        match read {
+            Ok(x) => {
+                let wide = x.value as u64;
+                answers::accepted(wide, x.next)
             }
+            Err(r) => answers::refused(r, c.pos),
         }
-        Placed::Refused(a) => a,
-    }
-}
-
-pub fn replay(out: &impl Print, s: &[u8], at: usize) -> io::Result<Outcome> {
-    let field = fields::number(s, at);
-    let w = windows::of_case(s, field.next);
-    let bytes = fields::run(s, w.run);
-    let large = field.value;
-    if 0xffff_ffff < large {
-        return Ok(Outcome::Damaged(Fault::Number));
-    }
-    let maximum = large as u32;
-    let got = answer(bytes, w, maximum);
-    answers::judge(out, s, w.expected, got)
+    })
 }

@@ -1,55 +1,48 @@
 // Kind F: a fast-array body, with buffers that are exactly full, longer, and too short.
-ghost use Rattle.std.specs.Prelude.{◌≡◌, length};
-
-use crate::ids;
 use fastarray::said::said;
-use fastarray::{ChecksumMode, FastArray};
-use recorded::answers::{Answer, Fault, Outcome, SHORT, outcome_of};
+use fastarray::{ChecksumMode, Delta, Refusal};
+use recorded::answers::{Answer, Fault, Outcome, SHORT, Stop, outcome_of};
+use recorded::fields::{Case, Parts};
 use recorded::rooms::Room;
-use recorded::{answers, fields, lists, patterns, rooms, say};
-use std::io;
-use words::wide;
+use recorded::{answers, fields, patterns, rooms};
+use std::{fmt, io};
 
 // The call's inputs, without its buffers.
 #[derive(Clone, Copy)]
-struct Call {
+struct Call<'a> {
     bits: u32,
     mode: ChecksumMode,
-    // The place of its bytes in the case.
-    bytes: usize,
+    bytes: &'a [u8],
 }
 
 // What a call says: its answer, and how many padded numbers were read.
-#[derive(Clone, Copy)]
+#[derive(Clone, Copy, PartialEq, Eq)]
 struct Told {
     answer: Answer,
     padded: u64,
 }
 
-// What is recorded of a body: what it says, and where its lists stand. One that is refused has none.
+// The two keys, and what is in the buffers.
 #[derive(Clone, Copy)]
-struct Recorded {
+struct Lists<'a> {
+    keys: &'a [u8],
+    deleted: &'a [u8],
+    items: &'a [u8],
+    fields: &'a [u8],
+}
+
+// What is recorded of a body: what it says, and its lists. One that is refused has none.
+#[derive(Clone, Copy)]
+struct Recorded<'a> {
     told: Told,
-    keys: usize,
-    deleted: usize,
-    items: usize,
-    fields: usize,
-    end: usize,
+    lists: Lists<'a>,
 }
 
 // Buffers for what a window of 524,288 bits can hold, and seven more: 16,379 deleted ids, or 13,103 items of two numbers.
 
-fn id_room() -> [i32; 16386]
-    ensures { 16386 ≡ length result }
-{
-    [0; 16386]
-}
+const ID_ROOM: usize = 16386;
 
-fn item_room() -> [u32; 26213]
-    ensures { 26213 ≡ length result }
-{
-    [0; 26213]
-}
+const ITEM_ROOM: usize = 26213;
 
 // ---- what is recorded, and what a call says
 
@@ -57,332 +50,181 @@ fn told_of(answer: Answer, padded: u64) -> Told {
     Told { answer, padded }
 }
 
-fn recorded_body(s: &[u8], at: usize) -> Recorded {
-    let expected = answers::recorded(s, at);
-    let answer = expected.answer;
-    let padded = fields::number(s, expected.next);
-    let keys = padded.next;
-    let told = told_of(answer, padded.value);
-    if answer.number != 0 {
-        return Recorded {
-            told,
-            keys,
-            deleted: keys,
-            items: keys,
-            fields: keys,
-            end: keys,
+impl<'a> Lists<'a> {
+    const NONE: Lists<'static> = Lists {
+        keys: &[],
+        deleted: &[],
+        items: &[],
+        fields: &[],
+    };
+
+    // Of a body that says so many of each.
+    fn of(answer: Answer, parts: &mut Parts<'a>) -> Result<Lists<'a>, Fault> {
+        Ok(Lists {
+            keys: parts.words(2)?,
+            deleted: parts.words(answer.first)?,
+            items: parts.words(answer.second.saturating_mul(2))?,
+            fields: parts.words(answer.third.saturating_mul(3))?,
+        })
+    }
+
+    fn room(self) -> Room {
+        Room {
+            first: self.deleted.len() / 4,
+            second: self.items.len() / 4,
+            third: self.fields.len() / 4,
+        }
+    }
+}
+
+impl<'a> Recorded<'a> {
+    fn of(parts: &mut Parts<'a>) -> Result<Recorded<'a>, Fault> {
+        let answer = answers::recorded(parts)?;
+        let told = told_of(answer, parts.number()?);
+        let lists = if answer.number == 0 {
+            Lists::of(answer, parts)?
+        } else {
+            Lists::NONE
         };
+        parts.end()?;
+        Ok(Recorded { told, lists })
     }
-    let d = answer.first;
-    let i = answer.second;
-    let f = answer.third;
-    let deleted = fields::after_words(s, keys, 2);
-    let items = fields::after_words(s, deleted, d);
-    let half = fields::after_words(s, items, i);
-    let records = fields::after_words(s, half, i);
-    let third = fields::after_words(s, records, f);
-    let two_thirds = fields::after_words(s, third, f);
-    let end = fields::after_words(s, two_thirds, f);
-    Recorded {
-        told,
-        keys,
-        deleted,
-        items,
-        fields: records,
-        end,
-    }
-}
 
-// What the body has to say where a buffer is short: the refusal for its needs.
-fn expected_of(t: Told, short: bool) -> Told {
-    if short {
-        let a = t.answer;
+    // What the body has to say where a buffer is short: the refusal for its needs, and nothing in the buffers.
+    fn refused(self) -> Recorded<'a> {
+        let a = self.told.answer;
         let needs = answers::answer_of(SHORT, a.first, a.second, a.third, 0);
-        return told_of(needs, 0);
+        Recorded {
+            told: told_of(needs, 0),
+            lists: Lists::NONE,
+        }
     }
-    t
 }
 
-fn refused(r: FastArray) -> Told {
-    let s = said(r);
+fn refused(why: Refusal) -> Told {
+    let s = said(Err(why));
     let answer = answers::answer_of(
-        wide(s.number),
-        wide(s.deletes),
-        wide(s.items),
-        wide(s.fields),
+        u64::from(s.number),
+        u64::from(s.deletes),
+        u64::from(s.items),
+        u64::from(s.fields),
         0,
     );
     told_of(answer, 0)
 }
 
 // Of a body the deletes, items and fields and, as the cursor, the bits used.
-fn told_by(r: FastArray) -> Told {
+fn told_by(r: Result<Delta, Refusal>) -> Told {
     match r {
-        FastArray::Decoded(delta) => {
-            let d = wide(delta.deletes);
-            let i = wide(delta.changes);
-            let f = wide(delta.fields);
-            let used = wide(delta.used);
+        Ok(delta) => {
+            let d = u64::from(delta.deletes);
+            let i = u64::from(delta.changes);
+            let f = u64::from(delta.fields);
+            let used = u64::from(delta.used);
             let answer = answers::answer_of(0, d, i, f, used);
-            told_of(answer, wide(delta.padded))
+            told_of(answer, u64::from(delta.padded))
         }
-        _ => refused(r),
+        Err(why) => refused(why),
     }
 }
 
-// Whether the two keys are these; a refusal has none.
-fn same_keys(list: &[u8], r: FastArray) -> bool {
-    match r {
-        FastArray::Decoded(delta) => {
-            let key = delta.key;
-            let base = delta.base;
-            ids::widened_id(key) == ids::signed_at(list, 0)
-                && ids::widened_id(base) == ids::signed_at(list, 4)
-        }
-        _ => true,
-    }
-}
-
-fn same_told(a: Told, b: Told) -> bool {
-    let one = a.answer;
-    let other = b.answer;
-    answers::same(one, other) && a.padded == b.padded
-}
-
-// ---- a difference
-
-fn say_told(out: &impl Print, t: Told) -> io::Result<()> {
-    let a = t.answer;
-    say::text(out, b"number ")?;
-    say::number(out, a.number)?;
-    say::text(out, b", ")?;
-    say::number(out, a.first)?;
-    say::text(out, b" deletes, ")?;
-    say::number(out, a.second)?;
-    say::text(out, b" items, ")?;
-    say::number(out, a.third)?;
-    say::text(out, b" fields, ")?;
-    say::number(out, a.cursor)?;
-    say::text(out, b" bits used, ")?;
-    say::number(out, t.padded)?;
-    say::text(out, b" padded numbers")
-}
-
-fn differs(
-    out: &impl Print,
-    s: &[u8],
-    expected: Told,
-    got: Told,
-    room: Room,
-    why: &[u8],
-) -> io::Result<bool> {
-    say::case(out, s)?;
-    say_told(out, expected)?;
-    say::text(out, b", got ")?;
-    say_told(out, got)?;
-    say::text(out, why)?;
-    say::text(out, b", lent ")?;
-    say::number(out, room.first as u64)?;
-    say::text(out, b" ids, ")?;
-    say::number(out, room.second as u64)?;
-    say::text(out, b" and ")?;
-    say::number(out, room.third as u64)?;
-    say::text(out, b" numbers\n")?;
-    Ok(false)
-}
-
-// Whether a call says and leaves what is recorded or, where a buffer is short, the refusal for its needs and nothing; the
-// line that says otherwise is printed.
-fn judge(
-    out: &impl Print,
-    s: &[u8],
-    want: Recorded,
-    short: bool,
-    r: FastArray,
+// The first list that the body gives otherwise, in the words of a difference; a refusal has no keys.
+fn other(
+    lists: Lists<'_>,
+    r: Result<Delta, Refusal>,
     deleted: &[i32],
     items: &[u32],
     records: &[u32],
-) -> io::Result<bool> {
-    let expected = expected_of(want.told, short);
-    let got = told_by(r);
-    let room = rooms::room_of(deleted.len(), items.len(), records.len());
-    let keys = fields::part(s, want.keys, want.deleted);
-    let id_list = fields::part(s, want.deleted, want.items);
-    let item_list = fields::part(s, want.items, want.fields);
-    let field_list = fields::part(s, want.fields, want.end);
-    if !same_told(expected, got) {
-        return differs(out, s, expected, got, room, b"");
+) -> Option<&'static str> {
+    let same_keys = match r {
+        Ok(delta) => patterns::holds(&[delta.key, delta.base], lists.keys),
+        _ => true,
+    };
+    if !same_keys {
+        Some(", and other keys")
+    } else if !patterns::holds(deleted, lists.deleted) {
+        Some(", and other deleted ids")
+    } else if !patterns::holds(items, lists.items) {
+        Some(", and other items")
+    } else if !patterns::holds(records, lists.fields) {
+        Some(", and other fields")
+    } else {
+        None
     }
-    if !same_keys(keys, r) {
-        return differs(out, s, expected, got, room, b", and other keys");
-    }
-    if !ids::holds(deleted, fields::unless(short, id_list)) {
-        return differs(out, s, expected, got, room, b", and other deleted ids");
-    }
-    if !patterns::holds_words(items, fields::unless(short, item_list)) {
-        return differs(out, s, expected, got, room, b", and other items");
-    }
-    if !patterns::holds_words(records, fields::unless(short, field_list)) {
-        return differs(out, s, expected, got, room, b", and other fields");
-    }
-    Ok(true)
 }
 
-// ---- the trials
+impl fmt::Display for Told {
+    fn fmt<W: fmt::Write>(&self, f: &mut fmt::Formatter<W>) -> fmt::Result {
+        let Told { answer, padded } = *self;
+        let Answer {
+            number,
+            first,
+            second,
+            third,
+            cursor,
+        } = answer;
+        write!(
+            f,
+            "number {number}, {first} deletes, {second} items, {third} fields, "
+        )?;
+        write!(f, "{cursor} bits used, {padded} padded numbers")
+    }
+}
 
-// The same of the call that is lent these buffers.
+// Whether the call that is lent these buffers says and leaves what is recorded or, where a buffer is short, the refusal for its
+// needs and nothing; the line that says otherwise is printed.
 fn gives(
     out: &impl Print,
-    s: &[u8],
-    call: Call,
-    want: Recorded,
+    id: &[u8],
+    call: Call<'_>,
+    want: Recorded<'_>,
     short: bool,
     deleted: &mut [i32],
     items: &mut [u32],
     records: &mut [u32],
 ) -> io::Result<bool> {
-    ids::fill(deleted);
-    patterns::fill_words(items);
-    patterns::fill_words(records);
-    let bytes = fields::run(s, call.bytes);
-    let bits = call.bits;
-    let mode = call.mode;
+    patterns::fill(deleted);
+    patterns::fill(items);
+    patterns::fill(records);
+    let Call { bits, mode, bytes } = call;
     let r = fastarray::decode_fast_array_delta(bytes, bits, mode, deleted, items, records);
-    judge(out, s, want, short, r, deleted, items, records)
+    let want = if short { want.refused() } else { want };
+    let other = other(want.lists, r, deleted, items, records);
+    let (ids, pairs, numbers) = (deleted.len(), items.len(), records.len());
+    let lent = format_args!("{ids} ids, {pairs} and {numbers} numbers");
+    rooms::judge(out, id, &want.told, &told_by(r), other, lent)
 }
 
-// The same, lent so much of these.
-fn gives_in(
-    out: &impl Print,
-    s: &[u8],
-    call: Call,
-    want: Recorded,
-    short: bool,
-    room: Room,
-    deleted: &mut [i32],
-    items: &mut [u32],
-    records: &mut [u32],
-) -> io::Result<bool> {
-    let d = lists::least(room.first, deleted.len());
-    let i = lists::least(room.second, items.len());
-    let f = lists::least(room.third, records.len());
-    let few_deleted = &mut deleted[..d];
-    let few_items = &mut items[..i];
-    let few_records = &mut records[..f];
-    gives(
-        out,
-        s,
-        call,
-        want,
-        short,
-        few_deleted,
-        few_items,
-        few_records,
-    )
-}
-
-// The same of the trial with this number, if there is one.
-fn passes(
-    out: &impl Print,
-    s: &[u8],
-    call: Call,
-    want: Recorded,
-    needs: Room,
-    trial: usize,
-    deleted: &mut [i32],
-    items: &mut [u32],
-    records: &mut [u32],
-) -> io::Result<bool> {
-    if !rooms::is_tried(needs, trial) {
-        return Ok(true);
-    }
-    let room = rooms::lent(needs, trial);
-    let short = rooms::is_short(trial);
-    gives_in(out, s, call, want, short, room, deleted, items, records)
-}
-
-// The same of all trials, up to the first that fails.
-fn is_same(
-    out: &impl Print,
-    s: &[u8],
-    call: Call,
-    want: Recorded,
-    needs: Room,
-    deleted: &mut [i32],
-    items: &mut [u32],
-    records: &mut [u32],
-) -> io::Result<bool> {
-    for trial in 0..rooms::TRIALS {
-        if !passes(out, s, call, want, needs, trial, deleted, items, records)? {
-            return Ok(false);
-        }
-    }
-    Ok(true)
-}
-
-// The same of a body whose lists are larger than these: it is lent nothing.
-fn is_same_unlent(
-    out: &impl Print,
-    s: &[u8],
-    call: Call,
-    want: Recorded,
-    deleted: &mut [i32],
-    items: &mut [u32],
-    records: &mut [u32],
-) -> io::Result<bool> {
-    let nothing = rooms::room_of(0, 0, 0);
-    gives_in(out, s, call, want, true, nothing, deleted, items, records)
-}
-
-// The case, with the fronts of these as buffers.
-fn replay_in(
-    out: &impl Print,
-    s: &[u8],
-    call: Call,
-    want: Recorded,
-    deleted: &mut [i32],
-    items: &mut [u32],
-    records: &mut [u32],
-) -> io::Result<Outcome> {
-    let id_list = fields::part(s, want.deleted, want.items);
-    let item_list = fields::part(s, want.items, want.fields);
-    let field_list = fields::part(s, want.fields, want.end);
-    let needs = rooms::room_of(id_list.len() / 4, item_list.len() / 4, field_list.len() / 4);
-    if rooms::has_room(needs, deleted.len(), items.len(), records.len()) {
-        let same = is_same(out, s, call, want, needs, deleted, items, records)?;
-        return Ok(outcome_of(same));
-    }
-    let same = is_same_unlent(out, s, call, want, deleted, items, records)?;
-    Ok(outcome_of(same))
-}
-
-// The mode that a flag of 0 or 1 says.
-fn mode_of(flag: u64) -> ChecksumMode {
-    if flag == 0 {
-        ChecksumMode::Absent
-    } else {
+// The mode that a flag says.
+fn mode_of(flag: bool) -> ChecksumMode {
+    if flag {
         ChecksumMode::Present
+    } else {
+        ChecksumMode::Absent
     }
 }
 
 // The case, with the front of `records` for the fields.
-pub fn replay(out: &impl Print, s: &[u8], at: usize, records: &mut [u32]) -> io::Result<Outcome> {
-    let flag = fields::number(s, at);
-    let bit_count = fields::short_number(s, flag.next);
-    let bytes = bit_count.next;
-    let want = recorded_body(s, fields::after_run(s, bytes));
-    if want.end != s.len() {
-        return Ok(Outcome::Damaged(Fault::Layout));
-    }
-    if 1 < flag.value {
-        return Ok(Outcome::Damaged(Fault::Number));
-    }
-    let call = Call {
-        bits: bit_count.value,
-        mode: mode_of(flag.value),
-        bytes,
+pub fn replay(out: &impl Print, case: Case<'_>, records: &mut [u32]) -> Result<Outcome, Stop> {
+    let mut parts = case.parts;
+    let flag = parts.number()?;
+    let bits = parts.short_number()?;
+    let bytes = parts.run()?;
+    let want = Recorded::of(&mut parts)?;
+    let mode = mode_of(fields::flag(flag)?);
+    let call = Call { bits, mode, bytes };
+    let mut deleted = [0i32; ID_ROOM];
+    let mut items = [0u32; ITEM_ROOM];
+    let held = Room {
+        first: deleted.len(),
+        second: items.len(),
+        third: records.len(),
     };
-    let mut deleted = id_room();
-    let mut items = item_room();
-    replay_in(out, s, call, want, &mut deleted, &mut items, records)
+    let same = rooms::pass(Some(want.lists.room()), held, |room, short| {
+        let deleted = rooms::front(&mut deleted, room.first);
+        let items = rooms::front(&mut items, room.second);
+        let records = rooms::front(records, room.third);
+        gives(out, case.id, call, want, short, deleted, items, records)
+    })?;
+    Ok(outcome_of(same))
 }

@@ -3,14 +3,15 @@ ghost use Rattle.std.specs.Prelude.{◌≡◌, ◌%◌, ◌^◌};
 ghost use Rattle.geometry.specs.Refusals.{numbered, stands_after_lem};
 ghost use Rattle.recorded.specs.Says.{Says};
 
+use bitio::Read;
 use geometry::said::{said, stands_after};
-use geometry::{Refusal, Vector, VectorRead};
+use geometry::{Refusal, Vector};
 use recorded::answers;
 use recorded::answers::Answer;
 pub use words::double_bits;
 
 pub fn single_bits(x: f32) -> u64 {
-    words::wide(words::single_bits(x))
+    u64::from(words::single_bits(x))
 }
 
 // What a refusal says, and where the cursor that stood at `at` stands after it (geometry's specs/Refusals).
@@ -30,9 +31,9 @@ fn vector_answer(v: Vector, next: u64) -> Answer {
     answers::answer_of(0, x, y, z, next)
 }
 
-pub fn of_vector(read: VectorRead, at: u64) -> Answer {
+pub fn of_vector(read: Result<Read<Vector>, Refusal>, at: u64) -> Answer {
     match read {
-        VectorRead::Value(v, next) => vector_answer(v, next),
-        VectorRead::Refused(r) => refused(r, at),
+        Ok(v) => vector_answer(v.value, v.next),
+        Err(r) => refused(r, at),
     }
 }

@@ -50,13 +50,11 @@
 // A difference is one line with both answers. At a case that breaks these rules, or can't be read, the replay stops, says on
 // standard error which case it is, counted from 1, and prints no count.
 //
-// A further kind is a row above, a file with `replay(s, at, ..)` for its fields at byte `at` of the case s, lent what outputs it
-// has, and a line in `replay_case`.
+// A further kind is a row above, a file with `replay(out, case, ..)`, lent what outputs it has, and a line in `replay_case`.
 #![tactic(auto)]
 
 mod fast;
 mod geometric;
-mod ids;
 mod movement;
 mod normal;
 mod rotation;
@@ -64,166 +62,83 @@ mod source;
 mod tables;
 mod vector;
 
-ghost use Rattle.std.specs.Prelude.{◌≡◌, ◌+◌, ◌*◌, ◌/◌, length};
-ghost use Rattle.bits.specs.Sizes.{longest_window};
-ghost use Rattle.framing.specs.Records.{leaf_words};
-
 use bits::sizes::LONGEST_WINDOW;
 use framing::Walk;
 use outputs::records::LEAF_WORDS;
-use recorded::answers::{Fault, Outcome};
-use recorded::{copied, fields, fixed, lists, packed, say, serialized};
-use source::{Started, Taken};
+use recorded::answers::{Fault, Outcome, Stop};
+use recorded::fields::Case;
+use recorded::{copied, fixed, packed, say, serialized};
 use std::env::Env;
 use std::io;
 use std::io::{Read, Seek};
 use std::rt::Files;
 use walked::trials;
-use words::input;
+use words::{Answers, input};
 
 // How far the replay has come.
 #[derive(Clone, Copy)]
-struct Progress {
+struct Count {
     // The bytes of the file that were read.
     read: u64,
     cases: u64,
     differ: u64,
-    goes_on: bool,
-    // Why it doesn't; none at the file's end.
-    fault: Fault,
 }
 
-// What comes of the next case.
-#[derive(Clone, Copy)]
-enum Step {
-    // Its bytes in the file, with its size.
-    Same(u64),
-    Differs(u64),
-    End,
-    Stop(Fault),
-}
+impl Count {
+    // Behind the magic.
+    const START: Count = Count {
+        read: 8,
+        cases: 0,
+        differ: 0,
+    };
 
-// Outputs, made once and lent to each case: numbers of 32,768 leaves, path bytes, payload bytes, and seven more of each
-// (recorded::rooms). A copy's target is lent of the path bytes, a fast array's fields of the numbers.
+    // Behind one more case, of so many bytes.
+    fn after(self, size: usize, outcome: Outcome) -> Count {
+        Count {
+            read: self.read.wrapping_add(4).wrapping_add(size as u64),
+            cases: self.cases.wrapping_add(1),
+            differ: match outcome {
+                Outcome::Same => self.differ,
+                Outcome::Differs => self.differ.wrapping_add(1),
+            },
+        }
+    }
+}
 
 const MOST_LEAVES: usize = (LONGEST_WINDOW as usize) / 16;
 
 const NUMBER_ROOM: usize = LEAF_WORDS * MOST_LEAVES + 7;
 
-fn number_room() -> [u32; NUMBER_ROOM]
-    ensures { leaf_words * (longest_window / 16) + 7 ≡ length result }
-{
-    [0; NUMBER_ROOM]
+// Outputs, made once and lent to each case: numbers of 32,768 leaves, path bytes, payload bytes, and seven more of each
+// (recorded::rooms). A copy's target is lent of the path bytes, a fast array's fields of the numbers.
+#[derive(Drop)]
+struct Rooms {
+    numbers: [u32; NUMBER_ROOM],
+    paths: [u8; 262151],
+    payloads: [u8; 65543],
 }
 
-fn path_room() -> [u8; 262151]
-    ensures { 262151 ≡ length result }
-{
-    [0; 262151]
-}
-
-fn payload_room() -> [u8; 65543]
-    ensures { 65543 ≡ length result }
-{
-    [0; 65543]
-}
-
-// One case, without its size.
-fn replay_case(
-    out: &impl Print,
-    s: &[u8],
-    numbers: &mut [u32],
-    paths: &mut [u8],
-    payloads: &mut [u8],
-) -> io::Result<Outcome> {
-    let at = fields::after_id(s);
-    if s.len() < at {
-        return Ok(Outcome::Damaged(Fault::Layout));
-    }
-    let kind = fields::kind(s);
-    match kind {
-        b'P' => packed::replay(out, s, at),
-        b'I' => serialized::replay(out, s, at),
-        b'G' => fixed::replay(out, s, at),
-        b'C' => copied::replay(out, s, at, paths),
-        b'L' => tables::replay(out, s, at),
-        b'V' => vector::replay(out, s, at),
-        b'N' => normal::replay(out, s, at),
-        b'R' => rotation::replay(out, s, at),
-        b'M' => movement::replay(out, s, at),
-        b'F' => fast::replay(out, s, at, numbers),
-        b'S' => trials::replay(out, Walk::Struct, s, at, numbers, paths, payloads),
-        b'X' => trials::replay(out, Walk::Exact, s, at, numbers, paths, payloads),
-        b'O' => trials::replay(out, Walk::Object, s, at, numbers, paths, payloads),
-        _ => Ok(Outcome::Damaged(Fault::Kind)),
-    }
-}
-
-fn after_case(outcome: Outcome, size: usize) -> Step {
-    let taken = std::num::wrapping_add_u64(4, size as u64);
-    match outcome {
-        Outcome::Same => Step::Same(taken),
-        Outcome::Differs => Step::Differs(taken),
-        Outcome::Damaged(fault) => Step::Stop(fault),
-    }
-}
-
-// The next case, behind so many bytes of the file.
-fn next_case(
-    out: &impl Print,
-    file: &mut (impl Read + Seek),
-    read: u64,
-    space: &mut [u8],
-    numbers: &mut [u32],
-    paths: &mut [u8],
-    payloads: &mut [u8],
-) -> io::Result<Step> {
-    let taken = source::take(file, read, space);
-    match taken {
-        Taken::Case(n) => {
-            let end = lists::least(n, space.len());
-            let outcome = replay_case(out, &space[0..end], numbers, paths, payloads)?;
-            Ok(after_case(outcome, end))
-        }
-        Taken::End => Ok(Step::End),
-        Taken::Faulty(fault) => Ok(Step::Stop(fault)),
-    }
-}
-
-fn reached(read: u64, cases: u64, differ: u64) -> Progress {
-    Progress {
-        read,
-        cases,
-        differ,
-        goes_on: true,
-        fault: Fault::None,
-    }
-}
-
-fn stopped(before: Progress, fault: Fault) -> Progress {
-    Progress {
-        read: before.read,
-        cases: before.cases,
-        differ: before.differ,
-        goes_on: false,
-        fault,
-    }
-}
-
-fn after_step(before: Progress, next: Step) -> Progress {
-    let cases = std::num::wrapping_add_u64(before.cases, 1);
-    match next {
-        Step::Same(taken) => {
-            let read = std::num::wrapping_add_u64(before.read, taken);
-            reached(read, cases, before.differ)
-        }
-        Step::Differs(taken) => {
-            let read = std::num::wrapping_add_u64(before.read, taken);
-            let differ = std::num::wrapping_add_u64(before.differ, 1);
-            reached(read, cases, differ)
-        }
-        Step::End => stopped(before, Fault::None),
-        Step::Stop(fault) => stopped(before, fault),
+// One case, without its size. Each letter stands here alone: an enum of the kinds would name it once more.
+fn replay_case(out: &impl Print, s: &[u8], rooms: &mut Rooms) -> Result<Outcome, Stop> {
+    let case = Case::of(s)?;
+    let numbers: &mut [u32] = &mut rooms.numbers;
+    let paths: &mut [u8] = &mut rooms.paths;
+    let payloads: &mut [u8] = &mut rooms.payloads;
+    match case.kind {
+        b'P' => packed::replay(out, case),
+        b'I' => serialized::replay(out, case),
+        b'G' => fixed::replay(out, case),
+        b'C' => copied::replay(out, case, paths),
+        b'L' => tables::replay(out, case),
+        b'V' => vector::replay(out, case),
+        b'N' => normal::replay(out, case),
+        b'R' => rotation::replay(out, case),
+        b'M' => movement::replay(out, case),
+        b'F' => fast::replay(out, case, numbers),
+        b'S' => trials::replay(out, Walk::Struct, case, numbers, paths, payloads),
+        b'X' => trials::replay(out, Walk::Exact, case, numbers, paths, payloads),
+        b'O' => trials::replay(out, Walk::Object, case, numbers, paths, payloads),
+        _ => Err(Stop::Faulty(Fault::Kind)),
     }
 }
 
@@ -232,72 +147,51 @@ fn after_step(before: Progress, next: Step) -> Progress {
 fn replay_all(
     out: &impl Print,
     file: &mut (impl Read + Seek),
-    space: &mut [u8],
-    numbers: &mut [u32],
-    paths: &mut [u8],
-    payloads: &mut [u8],
-) -> io::Result<Progress> {
-    let mut so_far = reached(8, 0, 0);
+    count: &mut Count,
+) -> Result<(), Stop> {
+    let mut space = [0u8; source::ROOM];
+    let mut rooms = Rooms {
+        numbers: [0; NUMBER_ROOM],
+        paths: [0; 262151],
+        payloads: [0; 65543],
+    };
     for _ in 0..u64::MAX {
-        let next = next_case(out, file, so_far.read, space, numbers, paths, payloads)?;
-        so_far = after_step(so_far, next);
-        if !so_far.goes_on {
-            return Ok(so_far);
-        }
+        let Some(case) = source::take(file, count.read, &mut space)? else {
+            return Ok(());
+        };
+        let outcome = replay_case(out, case, &mut rooms)?;
+        *count = count.after(case.len(), outcome);
     }
-    Ok(stopped(so_far, Fault::Changed))
+    Err(Stop::Faulty(Fault::Changed))
 }
 
-// The count, or why there is none.
-fn report(out: &impl Print, err: &impl Print, p: Progress) -> io::Result<()> {
-    let fault = p.fault;
-    match fault {
-        Fault::None => {
-            say::number(out, p.cases)?;
-            say::text(out, b" cases, ")?;
-            say::number(out, p.differ)?;
-            say::text(out, b" differ\n")
-        }
-        _ => {
-            let number = std::num::wrapping_add_u64(p.cases, 1);
-            say::fault(err, fault, number);
-            Ok(())
-        }
-    }
-}
-
+// The replay of the cases, and the count, or why there is none.
 fn replay_file(
     out: &impl Print,
     err: &impl Print,
     file: &mut (impl Read + Seek),
 ) -> io::Result<()> {
-    let mut space = source::room();
-    let mut numbers = number_room();
-    let mut paths = path_room();
-    let mut payloads = payload_room();
-    let p = replay_all(
-        out,
-        file,
-        &mut space,
-        &mut numbers,
-        &mut paths,
-        &mut payloads,
-    )?;
-    report(out, err, p)
+    let mut count = Count::START;
+    let ended = replay_all(out, file, &mut count);
+    let Count { cases, differ, .. } = count;
+    match ended {
+        Ok(()) => println!(out; "{cases} cases, {differ} differ"),
+        Err(Stop::Faulty(fault)) => {
+            say::fault(err, fault, cases.wrapping_add(1));
+            Ok(())
+        }
+        Err(Stop::Unwritten(why)) => Err(why),
+    }
 }
 
 fn run(out: &impl Print, err: &impl Print, file: &mut (impl Read + Seek)) -> io::Result<()> {
-    let started = source::start(file);
-    match started {
-        Started::Cases => replay_file(out, err, file),
-        Started::NoCases => {
-            say::failed(
-                err,
-                b"not a file of cases: its first bytes are not VRFCASE4",
-            );
+    match source::start(file) {
+        Ok(true) => replay_file(out, err, file),
+        Ok(false) => {
+            say::failed(err, "not a file of cases: its first bytes are not VRFCASE4");
             Ok(())
         }
-        Started::Unread(why) => {
+        Err(why) => {
             say::unread(err, why);
             Ok(())
         }
@@ -313,7 +207,7 @@ fn run_named<R: Files>(rt: &R, out: &impl Print, err: &impl Print, path: &[u8]) 
 }
 
 fn main(rt: HostRuntime) {
-    let out = rt.stdout();
+    let out = Answers(rt.stdout());
     let err = rt.stderr();
     let mut path = [0u8; 4096];
     match rt.arg(1, &mut path) {
@@ -322,6 +216,6 @@ fn main(rt: HostRuntime) {
                 words::end_output(&err, why);
             }
         }
-        Err(_) => words::error::text(&err, b"usage: replay FILE\n"),
+        Err(_) => words::error::say(&err, "usage: replay FILE\n"),
     }
 }

@@ -1,56 +1,18 @@
 // Kind M: a movement record. Its answer is followed by 20 numbers, all 0 behind a refusal.
 use crate::geometric;
-use geometry::{
-    Movement, MovementRead, OptionalNumber, RotatorQuantization, Spin, Vector, VectorQuantization,
-};
-use recorded::answers::{Answer, Expected, Fault, Outcome};
-use recorded::{answers, fields, say};
-use std::io;
+use geometry::{Movement, RotatorQuantization, Vector, VectorQuantization};
+use recorded::answers::{Answer, Fault, Outcome, Stop};
+use recorded::fields::Case;
+use recorded::{answers, say};
+use std::{fmt, io};
 
 // An answer with its record: sleep, physics, the patterns of the location, the rotation and the linear velocity, then
 // whether there is an angular velocity and its patterns, a frame and its number, a handle and its number, and how many of these
 // two are padded.
-#[derive(Clone, Copy)]
+#[derive(Clone, Copy, PartialEq, Eq)]
 struct Found {
     answer: Answer,
     record: [u64; 20],
-}
-
-fn one_if(b: bool) -> u64 {
-    if b { 1 } else { 0 }
-}
-
-fn is_there(n: OptionalNumber) -> u64 {
-    match n {
-        OptionalNumber::Absent => 0,
-        OptionalNumber::Present(_) => 1,
-    }
-}
-
-fn value_of(n: OptionalNumber) -> u64 {
-    match n {
-        OptionalNumber::Absent => 0,
-        OptionalNumber::Present(x) => x as u64,
-    }
-}
-
-fn spins(a: Spin) -> u64 {
-    match a {
-        Spin::Absent => 0,
-        Spin::Present(_) => 1,
-    }
-}
-
-// The angular velocity, zero for none.
-fn spin_of(a: Spin) -> Vector {
-    match a {
-        Spin::Absent => Vector {
-            x: 0.0,
-            y: 0.0,
-            z: 0.0,
-        },
-        Spin::Present(v) => v,
-    }
 }
 
 fn record_of(m: Movement) -> [u64; 20] {
@@ -60,10 +22,15 @@ fn record_of(m: Movement) -> [u64; 20] {
     let angular = m.angular;
     let frame = m.frame;
     let handle = m.handle;
-    let spin = spin_of(angular);
+    let none = Vector {
+        x: 0.0,
+        y: 0.0,
+        z: 0.0,
+    };
+    let spin = angular.unwrap_or(none);
     [
-        one_if(m.sleep),
-        one_if(m.physics),
+        u64::from(m.sleep),
+        u64::from(m.physics),
         geometric::double_bits(location.x),
         geometric::double_bits(location.y),
         geometric::double_bits(location.z),
@@ -73,15 +40,15 @@ fn record_of(m: Movement) -> [u64; 20] {
         geometric::double_bits(linear.x),
         geometric::double_bits(linear.y),
         geometric::double_bits(linear.z),
-        spins(angular),
+        u64::from(angular.is_some()),
         geometric::double_bits(spin.x),
         geometric::double_bits(spin.y),
         geometric::double_bits(spin.z),
-        is_there(frame),
-        value_of(frame),
-        is_there(handle),
-        value_of(handle),
-        m.padded as u64,
+        u64::from(frame.is_some()),
+        u64::from(frame.unwrap_or(0)),
+        u64::from(handle.is_some()),
+        u64::from(handle.unwrap_or(0)),
+        u64::from(m.padded),
     ]
 }
 
@@ -89,105 +56,60 @@ fn made(answer: Answer, record: [u64; 20]) -> Found {
     Found { answer, record }
 }
 
-fn read(bytes: &[u8], bits: u64, wide: bool, scale: VectorQuantization) -> Found {
-    let width = if wide {
-        RotatorQuantization::ShortComponents
-    } else {
-        RotatorQuantization::ByteComponents
-    };
+fn read(bytes: &[u8], bits: u64, width: RotatorQuantization, scale: VectorQuantization) -> Found {
     let moved = geometry::read_rep_movement(bytes, bits, width, scale);
     match moved {
-        MovementRead::Value(m, used) => made(answers::accepted(0, used), record_of(m)),
-        MovementRead::Refused(r) => made(geometric::refused(r, 0), [0; 20]),
+        Ok(m) => made(answers::accepted(0, m.next), record_of(m.value)),
+        Err(r) => made(geometric::refused(r, 0), [0; 20]),
     }
 }
 
-// The recorded numbers.
-fn recorded(s: &[u8], at: usize) -> [u64; 20] {
-    let mut record = [0u64; 20];
-    let mut here = at;
-    for number in record.iter_mut() {
-        let field = fields::number(s, here);
-        *number = field.value;
-        here = field.next;
+impl fmt::Display for Found {
+    fn fmt<W: fmt::Write>(&self, f: &mut fmt::Formatter<W>) -> fmt::Result {
+        let Found { answer, record } = *self;
+        write!(f, "{answer} record")?;
+        for number in record {
+            write!(f, " {number:016x}")?;
+        }
+        Ok(())
     }
-    record
 }
 
-fn same_record(a: [u64; 20], b: [u64; 20]) -> bool {
-    a == b
-}
-
-fn say_found(out: &impl Print, f: Found) -> io::Result<()> {
-    say::answer(out, f.answer)?;
-    say::text(out, b" record")?;
-    for number in f.record {
-        say::text(out, b" ")?;
-        say::pattern(out, number)?;
-    }
-    Ok(())
-}
-
-fn judge(out: &impl Print, s: &[u8], expected: Expected, got: Found) -> io::Result<Outcome> {
-    let rest = fields::rest(s, expected.next);
-    if rest.len() != 160 {
-        return Ok(Outcome::Damaged(Fault::Layout));
-    }
-    let answer = expected.answer;
-    let record = recorded(s, expected.next);
-    let found = got.record;
-    if answers::same(answer, got.answer) && same_record(record, found) {
+fn judge(out: &impl Print, id: &[u8], expected: Found, got: Found) -> io::Result<Outcome> {
+    if expected == got {
         return Ok(Outcome::Same);
     }
-    say::case(out, s)?;
-    say_found(out, made(answer, record))?;
-    say::text(out, b", got ")?;
-    say_found(out, got)?;
-    say::text(out, b"\n")?;
+    say::case(out, id)?;
+    println!(out; "{expected}, got {got}")?;
     Ok(Outcome::Differs)
 }
 
-pub fn replay(out: &impl Print, s: &[u8], at: usize) -> io::Result<Outcome> {
-    let scale = fields::number(s, at);
-    let width = fields::number(s, scale.next);
-    let bits = fields::number(s, width.next);
-    let bytes = fields::run(s, bits.next);
-    let end = fields::after_run(s, bits.next);
-    let expected = answers::recorded(s, end);
-    let wide = width.value == 16;
-    if !wide && width.value != 8 {
-        return Ok(Outcome::Damaged(Fault::Number));
+// A scale or width that isn't there is one more that isn't taken.
+fn scale_of(number: Result<u64, Fault>) -> Result<VectorQuantization, Fault> {
+    match number {
+        Ok(1) => Ok(VectorQuantization::RoundWholeNumber),
+        Ok(10) => Ok(VectorQuantization::RoundOneDecimal),
+        Ok(100) => Ok(VectorQuantization::RoundTwoDecimals),
+        _ => Err(Fault::Number),
     }
-    let by = scale.value;
-    match by {
-        1 => judge(
-            out,
-            s,
-            expected,
-            read(
-                bytes,
-                bits.value,
-                wide,
-                VectorQuantization::RoundWholeNumber,
-            ),
-        ),
-        10 => judge(
-            out,
-            s,
-            expected,
-            read(bytes, bits.value, wide, VectorQuantization::RoundOneDecimal),
-        ),
-        100 => judge(
-            out,
-            s,
-            expected,
-            read(
-                bytes,
-                bits.value,
-                wide,
-                VectorQuantization::RoundTwoDecimals,
-            ),
-        ),
-        _ => Ok(Outcome::Damaged(Fault::Number)),
+}
+
+fn width_of(number: Result<u64, Fault>) -> Result<RotatorQuantization, Fault> {
+    match number {
+        Ok(8) => Ok(RotatorQuantization::ByteComponents),
+        Ok(16) => Ok(RotatorQuantization::ShortComponents),
+        _ => Err(Fault::Number),
     }
+}
+
+pub fn replay(out: &impl Print, case: Case<'_>) -> Result<Outcome, Stop> {
+    let mut parts = case.parts;
+    let scale = scale_of(parts.number())?;
+    let width = width_of(parts.number())?;
+    let bits = parts.number()?;
+    let bytes = parts.run()?;
+    let answer = answers::recorded(&mut parts)?;
+    let expected = made(answer, parts.numbers()?);
+    parts.end()?;
+    Ok(judge(out, case.id, expected, read(bytes, bits, width, scale))?)
 }

@@ -1,7 +1,8 @@
 // Kind L: schema and declared tables, accepted or refused 2.
-use recorded::answers::{Fault, Outcome};
-use recorded::{fields, lists, say};
-use std::io;
+use recorded::answers::{Fault, Outcome, Stop};
+use recorded::fields::Case;
+use recorded::{lists, say};
+use std::{fmt, io};
 
 // Our answer: 0 for accepted tables, or the refusal's number.
 fn answer(
@@ -12,14 +13,10 @@ fn answer(
     declared: &[u8],
     declared_names: &[u8],
 ) -> u64 {
-    let mut row_numbers = lists::row_room();
-    let mut declared_numbers = lists::declared_room();
-    let n = lists::unpack(rows, &mut row_numbers);
-    let m = lists::unpack(declared, &mut declared_numbers);
-    let row_space: &[u32] = &row_numbers;
-    let declared_space: &[u32] = &declared_numbers;
-    let row_list = &row_space[0..n];
-    let declared_list = &declared_space[0..m];
+    let mut row_numbers = [0u32; lists::ROW_ROOM];
+    let mut declared_numbers = [0u32; lists::DECLARED_ROOM];
+    let row_list = lists::unpack(rows, &mut row_numbers);
+    let declared_list = lists::unpack(declared, &mut declared_numbers);
     let accepted = schema::layout::check_tables(
         row_list,
         levels,
@@ -28,62 +25,46 @@ fn answer(
         declared_list,
         declared_names,
     );
-    words::wide(schema::said::tables_number(accepted))
+    u64::from(schema::said::tables_number(accepted))
 }
 
-fn say_answer(out: &impl Print, number: u64) -> io::Result<()> {
-    if number == 0 {
-        say::text(out, b"accepted")
-    } else {
-        say::text(out, b"refusal ")?;
-        say::number(out, number)
+// An answer in words.
+#[derive(Clone, Copy, PartialEq, Eq)]
+struct Number(u64);
+
+impl fmt::Display for Number {
+    fn fmt<W: fmt::Write>(&self, f: &mut fmt::Formatter<W>) -> fmt::Result {
+        let number = self.0;
+        if number == 0 {
+            write!(f, "accepted")
+        } else {
+            write!(f, "refusal {number}")
+        }
     }
 }
 
-fn judge(out: &impl Print, s: &[u8], expected: u64, got: u64) -> io::Result<Outcome> {
+fn judge(out: &impl Print, id: &[u8], expected: Number, got: Number) -> io::Result<Outcome> {
     if expected == got {
         return Ok(Outcome::Same);
     }
-    say::case(out, s)?;
-    say_answer(out, expected)?;
-    say::text(out, b", got ")?;
-    say_answer(out, got)?;
-    say::text(out, b"\n")?;
+    say::case(out, id)?;
+    println!(out; "{expected}, got {got}")?;
     Ok(Outcome::Differs)
 }
 
-pub fn replay(out: &impl Print, s: &[u8], at: usize) -> io::Result<Outcome> {
-    let level_count = fields::number(s, at);
-    let root_level = fields::number(s, level_count.next);
-    let rows = fields::run(s, root_level.next);
-    let names_at = fields::after_run(s, root_level.next);
-    let names = fields::run(s, names_at);
-    let declared_at = fields::after_run(s, names_at);
-    let declared = fields::run(s, declared_at);
-    let declared_names_at = fields::after_run(s, declared_at);
-    let declared_names = fields::run(s, declared_names_at);
-    let end = fields::after_run(s, declared_names_at);
-    let expected = fields::number(s, end);
-    if expected.next != s.len() {
-        return Ok(Outcome::Damaged(Fault::Layout));
-    }
-    let fault = lists::tables_fault(rows, declared);
-    match fault {
-        Fault::None => {}
-        _ => {
-            return Ok(Outcome::Damaged(fault));
-        }
-    }
-    let large_levels = level_count.value;
-    let large_root = root_level.value;
-    if 0xffff_ffff < large_levels {
-        return Ok(Outcome::Damaged(Fault::Number));
-    }
-    if 0xffff_ffff < large_root {
-        return Ok(Outcome::Damaged(Fault::Number));
-    }
-    let levels = large_levels as u32;
-    let root = large_root as u32;
+pub fn replay(out: &impl Print, case: Case<'_>) -> Result<Outcome, Stop> {
+    let mut parts = case.parts;
+    let levels = parts.number()?;
+    let root = parts.number()?;
+    let rows = parts.run()?;
+    let names = parts.run()?;
+    let declared = parts.run()?;
+    let declared_names = parts.run()?;
+    let expected = parts.number()?;
+    parts.end()?;
+    lists::check_tables(rows, declared)?;
+    let levels = u32::try_from(levels).map_err(|_| Fault::Number)?;
+    let root = u32::try_from(root).map_err(|_| Fault::Number)?;
     let got = answer(rows, levels, root, names, declared, declared_names);
-    judge(out, s, expected.value, got)
+    Ok(judge(out, case.id, Number(expected), Number(got))?)
 }

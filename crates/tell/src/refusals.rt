@@ -1,131 +1,92 @@
 // Refusals in words, on standard error: the number, what docs/REFUSALS.md says that it means (and what to do about it), and its
 // values.
 use crate::rooms::{MOST_FIELDS, MOST_IDS, PATH_BYTES, PAYLOAD_BYTES};
-use array::{ObjectArray, StructArray};
-use fastarray::FastArray;
-use words::{error, wide};
+use array::{PairRefusal, Refusal};
+use words::error;
 
-// What a number means: the table of docs/REFUSALS.md, word for word.
-fn meaning(err: &impl Print, number: u32) {
+// What a number means: the table of docs/REFUSALS.md, word for word. It goes by numbers, as that table and the crates' `said` do.
+fn meaning(number: u32) -> &'static str {
     match number {
-        1 => error::text(err, b"a bit count over 524,288"),
-        2 => error::text(
-            err,
-            b"a schema or the declared names aren't laid out as they have to be, or pass a size, or the root isn't one of the levels",
-        ),
-        3 => error::text(err, b"a lent buffer is too short"),
-        4 => error::text(err, b"a sum of two counters is over 2^64 - 1"),
-        6 => error::text(
-            err,
-            b"the bits aren't a fast-array body, or the bytes aren't as many as the bits take",
-        ),
-        7 => error::text(err, b"a read asks more bits than the window has left"),
-        8 => error::text(
-            err,
-            b"a packed number's fifth byte says that another follows",
-        ),
-        9 => error::text(err, b"a packed number's fifth byte holds more than 15"),
-        10 => error::text(err, b"a serialized integer is asked with maximum 0"),
-        11 => error::text(err, b"a vector is asked with scale 0"),
-        12 => error::text(err, b"a vector's component is a NaN or infinite"),
-        13 => error::text(
-            err,
-            b"more than 64 bits are asked in one read, or a rotation's width is neither 8 nor 16",
-        ),
-        14 => error::text(
-            err,
-            b"a reader or a movement has more bits than its bytes hold, a cursor passes its window or bytes, or a copy's target is too short",
-        ),
-        _ => error::text(err, b"a number that no refusal has"),
+        1 => "a bit count over 524,288",
+        2 =>
+            "a schema or the declared names aren't laid out as they have to be, or pass a size, or the root isn't one of the levels",
+        3 => "a lent buffer is too short",
+        4 => "a sum of two counters is over 2^64 - 1",
+        6 => "the bits aren't a fast-array body, or the bytes aren't as many as the bits take",
+        7 => "a read asks more bits than the window has left",
+        8 => "a packed number's fifth byte says that another follows",
+        9 => "a packed number's fifth byte holds more than 15",
+        10 => "a serialized integer is asked with maximum 0",
+        11 => "a vector is asked with scale 0",
+        12 => "a vector's component is a NaN or infinite",
+        13 => "more than 64 bits are asked in one read, or a rotation's width is neither 8 nor 16",
+        14 =>
+            "a reader or a movement has more bits than its bytes hold, a cursor passes its window or bytes, or a copy's target is too short",
+        _ => "a number that no refusal has",
     }
 }
 
 fn refusal(err: &impl Print, number: u32) {
-    error::text(err, b"refusal ");
-    error::number(err, wide(number));
-    error::text(err, b": ");
-    meaning(err, number);
+    let meaning = meaning(number);
+    error::say(err, format_args!("refusal {number}: {meaning}"));
 }
 
 // A need, and the room that there is for it.
 fn need(err: &impl Print, before: &[u8], needed: u32, what: &[u8], room: usize) {
     error::text(err, before);
-    error::number(err, wide(needed));
+    error::say(err, needed);
     error::text(err, what);
-    error::text(err, b" (of ");
-    error::number(err, room as u64);
-    error::text(err, b")");
+    error::say(err, format_args!(" (of {room})"));
 }
 
 // Why a struct or exact walk gives nothing; what it needs, beside what `vrf` has room for.
-pub fn unwalked(err: &impl Print, r: StructArray) {
-    let told = array::said::said(r);
-    refusal(err, told.number);
-    match r {
-        StructArray::Short(_) => {
-            need(err, b": needed ", told.leaves, b" leaves", MOST_FIELDS);
-            need(err, b", ", told.path_bytes, b" path bytes", PATH_BYTES);
-            need(
-                err,
-                b", ",
-                told.payload_bytes,
-                b" payload bytes",
-                PAYLOAD_BYTES,
-            );
-        }
-        _ => {}
+pub fn unwalked(err: &impl Print, why: Refusal) {
+    refusal(err, array::said::said(Err(why)).number);
+    if let Refusal::Short(needs) = why {
+        need(err, b": needed ", needs.leaves, b" leaves", MOST_FIELDS);
+        need(err, b", ", needs.path_bytes, b" path bytes", PATH_BYTES);
+        need(
+            err,
+            b", ",
+            needs.payload_bytes,
+            b" payload bytes",
+            PAYLOAD_BYTES,
+        );
     }
     error::text(err, b"\n");
 }
 
 // The same of an object walk.
-pub fn unpaired(err: &impl Print, r: ObjectArray) {
-    let told = array::said::pairs_said(r);
-    refusal(err, told.number);
-    match r {
-        ObjectArray::Short(_) => {
-            need(err, b": needed ", told.pairs, b" pairs", MOST_FIELDS);
-        }
-        _ => {}
+pub fn unpaired(err: &impl Print, why: PairRefusal) {
+    refusal(err, array::said::pairs_said(Err(why)).number);
+    if let PairRefusal::Short(pairs) = why {
+        need(err, b": needed ", pairs, b" pairs", MOST_FIELDS);
     }
     error::text(err, b"\n");
 }
 
 // The same of a fast-array body.
-pub fn no_body(err: &impl Print, r: FastArray) {
-    let told = fastarray::said::said(r);
+pub fn no_body(err: &impl Print, why: fastarray::Refusal) {
+    let told = fastarray::said::said(Err(why));
     refusal(err, told.number);
-    match r {
-        FastArray::Short(_, _, _) => {
-            need(err, b": needed ", told.deletes, b" deleted ids", MOST_IDS);
-            need(err, b", ", told.items, b" items", MOST_IDS);
-            need(err, b", ", told.fields, b" fields", MOST_FIELDS);
-        }
-        _ => {}
+    if let fastarray::Refusal::Short(needs) = why {
+        need(err, b": needed ", needs.deletes, b" deleted ids", MOST_IDS);
+        need(err, b", ", needs.items, b" items", MOST_IDS);
+        need(err, b", ", needs.fields, b" fields", MOST_FIELDS);
     }
     error::text(err, b"\n");
-}
-
-fn value(err: &impl Print, before: &[u8], x: u64) {
-    error::text(err, before);
-    error::number(err, x);
 }
 
 // The values of a refused read, as its number names them; `stop` is where the reading stopped.
 fn values(err: &impl Print, number: u32, first: u64, second: u64, third: u64, stop: u64) {
     match number {
-        7 => {
-            value(err, b": ", third);
-            value(err, b" bits at bit ", first);
-            value(err, b" of ", second);
-        }
-        8 => value(err, b": the number at bit ", first),
-        9 => value(err, b": the number at bit ", first),
-        12 => value(err, b": the vector that ends at bit ", stop),
-        14 => {
-            value(err, b": ", first);
-            value(err, b" bits of ", second);
-        }
+        7 => error::say(
+            err,
+            format_args!(": {third} bits at bit {first} of {second}"),
+        ),
+        8 | 9 => error::say(err, format_args!(": the number at bit {first}")),
+        12 => error::say(err, format_args!(": the vector that ends at bit {stop}")),
+        14 => error::say(err, format_args!(": {first} bits of {second}")),
         _ => {}
     }
 }

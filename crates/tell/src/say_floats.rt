@@ -3,17 +3,11 @@
 // is exact. A value of 2^53 or more has no decimals here.
 ghost use Rattle.std.specs.Prelude.{◌≤◌};
 
-use crate::say;
 use std::io;
 use words::{double_bits, single_bits};
 
 fn say_thousandths(out: &impl Print, x: u64) -> io::Result<()> {
-    let rest = x % 1000;
-    say::number(out, x / 1000)?;
-    say::text(out, b".")?;
-    say::number(out, rest / 100)?;
-    say::number(out, rest / 10 % 10)?;
-    say::number(out, rest % 10)
+    print!(out; "{}.{:03}", x / 1000, x % 1000)
 }
 
 // digits / 2^low.
@@ -39,10 +33,10 @@ fn say_float(
     requires { (fraction ≤ 4503599627370495) × (hidden ≤ 4503599627370496) × (1 ≤ bias) }
 {
     if negative {
-        say::text(out, b"-")?;
+        print!(out; "-")?;
     }
     if bias < exponent {
-        return say::text(out, b"2^53 or more");
+        return print!(out; "2^53 or more");
     }
     if exponent == 0 {
         return say_quotient(out, fraction, bias - 1);
@@ -51,13 +45,11 @@ fn say_float(
 }
 
 // A line with a name, the pattern and the value.
-pub fn named_double(out: &impl Print, name: &[u8], x: f64) -> io::Result<()> {
+pub fn named_double(out: &impl Print, name: &str, x: f64) -> io::Result<()> {
     let bits = double_bits(x);
     let fraction = bits % 0x10_0000_0000_0000;
     let exponent = bits / 0x10_0000_0000_0000 % 2048;
-    say::left(out, name, 24)?;
-    say::pattern(out, bits, 16)?;
-    say::text(out, b"  ")?;
+    print!(out; "{name:<24}{bits:016x}  ")?;
     say_float(
         out,
         0x8000_0000_0000_0000 <= bits,
@@ -66,16 +58,14 @@ pub fn named_double(out: &impl Print, name: &[u8], x: f64) -> io::Result<()> {
         exponent,
         1075,
     )?;
-    say::text(out, b"\n")
+    out.println("")
 }
 
-pub fn named_single(out: &impl Print, name: &[u8], x: f32) -> io::Result<()> {
-    let bits = say::wide(single_bits(x));
+pub fn named_single(out: &impl Print, name: &str, x: f32) -> io::Result<()> {
+    let bits = u64::from(single_bits(x));
     let fraction = bits % 0x80_0000;
     let exponent = bits / 0x80_0000 % 256;
-    say::left(out, name, 24)?;
-    say::pattern(out, bits, 8)?;
-    say::text(out, b"          ")?;
+    print!(out; "{name:<24}{bits:08x}          ")?;
     say_float(out, 0x8000_0000 <= bits, fraction, 0x80_0000, exponent, 150)?;
-    say::text(out, b"\n")
+    out.println("")
 }

@@ -1,5 +1,5 @@
 // The command line. A word that is missing, or longer than a path, counts as an empty one, which nothing here is called.
-ghost use Rattle.std.specs.Prelude.{◌≤◌, length};
+ghost use Rattle.std.specs.Prelude.{◌≤◌};
 
 use crate::file;
 use bits::sizes::LONGEST_WINDOW;
@@ -7,7 +7,7 @@ use fastarray::ChecksumMode;
 use framing::Walk;
 use geometry::{RotatorQuantization, VectorQuantization};
 use std::env::{Env, FillError};
-use tell::{levels, say};
+use tell::levels;
 
 // What is to be made of a window.
 #[derive(Clone, Copy)]
@@ -20,22 +20,8 @@ pub enum Job {
 
 #[derive(Clone, Copy)]
 pub enum Asked {
-    Usage,
     Schema,
     Window(Job),
-}
-
-// What SCALE and WIDTH say.
-#[derive(Clone, Copy)]
-enum Scale {
-    By(VectorQuantization),
-    Unknown,
-}
-
-#[derive(Clone, Copy)]
-enum Width {
-    Of(RotatorQuantization),
-    Unknown,
 }
 
 // How many bits of the file are the window.
@@ -43,17 +29,17 @@ enum Width {
 pub enum Count {
     Whole,
     First(u32),
-    // Something else than a number, or more words behind it.
-    Wrong,
 }
 
 // ---- the words
 
-// A word of the command line, to the front of the buffer, and its length.
-fn word_at(rt: &impl Env, at: usize, word: &mut [u8]) -> usize
-    ensures { result ≤ length word.new }
-{
-    rt.arg(at, word).unwrap_or(0)
+// The longest word, which a path may be.
+const WORD: usize = 4096;
+
+// A word of the command line, in the front of the room.
+fn word_at<'a>(rt: &impl Env, at: usize, room: &'a mut [u8]) -> &'a [u8] {
+    let n = rt.arg(at, room).unwrap_or(0);
+    &room[..n]
 }
 
 // How many words there are, with the program's own name.
@@ -66,99 +52,55 @@ fn word_count(rt: &impl Env) -> usize {
     usize::MAX
 }
 
-// ---- what is asked
+// ---- what is asked, or none where the usage is to be said
 
-fn walk_asked(rt: &impl Env) -> Asked {
-    let mut word = [0u8; 4096];
-    let n = word_at(rt, 2, &mut word);
-    let kind = &word[..n];
-    if say::equal(kind, b"none") {
-        return Asked::Window(Job::Array(Walk::Struct, schema::ABSENT));
-    }
-    if say::equal(kind, b"exact") {
-        return Asked::Window(Job::Array(Walk::Exact, schema::ABSENT));
-    }
-    if say::equal(kind, b"objects") {
-        return Asked::Window(Job::Array(Walk::Object, schema::ABSENT));
-    }
-    let level = levels::level_of(kind);
-    if level < schema::twelve::LEVELS {
-        return Asked::Window(Job::Array(Walk::Struct, level));
-    }
-    Asked::Usage
-}
-
-fn fast_asked(rt: &impl Env) -> Asked {
-    let mut word = [0u8; 4096];
-    let n = word_at(rt, 2, &mut word);
-    let mode = &word[..n];
-    if say::equal(mode, b"absent") {
-        return Asked::Window(Job::FastArray(ChecksumMode::Absent));
-    }
-    if say::equal(mode, b"present") {
-        return Asked::Window(Job::FastArray(ChecksumMode::Present));
-    }
-    Asked::Usage
-}
-
-fn scale_asked(rt: &impl Env) -> Scale {
-    let mut word = [0u8; 4096];
-    let n = word_at(rt, 2, &mut word);
-    let scale = &word[..n];
-    if say::equal(scale, b"1") {
-        return Scale::By(VectorQuantization::RoundWholeNumber);
-    }
-    if say::equal(scale, b"10") {
-        return Scale::By(VectorQuantization::RoundOneDecimal);
-    }
-    if say::equal(scale, b"100") {
-        return Scale::By(VectorQuantization::RoundTwoDecimals);
-    }
-    Scale::Unknown
-}
-
-fn width_asked(rt: &impl Env) -> Width {
-    let mut word = [0u8; 4096];
-    let n = word_at(rt, 3, &mut word);
-    let width = &word[..n];
-    if say::equal(width, b"8") {
-        return Width::Of(RotatorQuantization::ByteComponents);
-    }
-    if say::equal(width, b"16") {
-        return Width::Of(RotatorQuantization::ShortComponents);
-    }
-    Width::Unknown
-}
-
-fn movement_asked(rt: &impl Env) -> Asked {
-    let scale = scale_asked(rt);
-    let width = width_asked(rt);
-    match scale {
-        Scale::By(location) => match width {
-            Width::Of(rotation) => Asked::Window(Job::Movement(location, rotation)),
-            Width::Unknown => Asked::Usage,
-        },
-        Scale::Unknown => Asked::Usage,
+fn walk_asked(rt: &impl Env) -> Option<Job> {
+    let mut room = [0u8; WORD];
+    match word_at(rt, 2, &mut room) {
+        b"none" => Some(Job::Array(Walk::Struct, schema::ABSENT)),
+        b"exact" => Some(Job::Array(Walk::Exact, schema::ABSENT)),
+        b"objects" => Some(Job::Array(Walk::Object, schema::ABSENT)),
+        name => Some(Job::Array(Walk::Struct, levels::level_of(name)?)),
     }
 }
 
-pub fn command(rt: &impl Env) -> Asked {
-    let mut word = [0u8; 4096];
-    let n = word_at(rt, 1, &mut word);
-    let first = &word[..n];
-    if say::equal(first, b"walk") {
-        return walk_asked(rt);
+fn mode_asked(rt: &impl Env) -> Option<ChecksumMode> {
+    let mut room = [0u8; WORD];
+    match word_at(rt, 2, &mut room) {
+        b"absent" => Some(ChecksumMode::Absent),
+        b"present" => Some(ChecksumMode::Present),
+        _ => None,
     }
-    if say::equal(first, b"fastarray") {
-        return fast_asked(rt);
+}
+
+fn scale_asked(rt: &impl Env) -> Option<VectorQuantization> {
+    let mut room = [0u8; WORD];
+    match word_at(rt, 2, &mut room) {
+        b"1" => Some(VectorQuantization::RoundWholeNumber),
+        b"10" => Some(VectorQuantization::RoundOneDecimal),
+        b"100" => Some(VectorQuantization::RoundTwoDecimals),
+        _ => None,
     }
-    if say::equal(first, b"movement") {
-        return movement_asked(rt);
+}
+
+fn width_asked(rt: &impl Env) -> Option<RotatorQuantization> {
+    let mut room = [0u8; WORD];
+    match word_at(rt, 3, &mut room) {
+        b"8" => Some(RotatorQuantization::ByteComponents),
+        b"16" => Some(RotatorQuantization::ShortComponents),
+        _ => None,
     }
-    if say::equal(first, b"schema") && word_count(rt) == 2 {
-        return Asked::Schema;
+}
+
+pub fn command(rt: &impl Env) -> Option<Asked> {
+    let mut room = [0u8; WORD];
+    match word_at(rt, 1, &mut room) {
+        b"walk" => Some(Asked::Window(walk_asked(rt)?)),
+        b"fastarray" => Some(Asked::Window(Job::FastArray(mode_asked(rt)?))),
+        b"movement" => Some(Asked::Window(Job::Movement(scale_asked(rt)?, width_asked(rt)?))),
+        b"schema" if word_count(rt) == 2 => Some(Asked::Schema),
+        _ => None,
     }
-    Asked::Usage
 }
 
 // ---- FILE and BITS
@@ -174,52 +116,30 @@ pub fn file_place(job: Job) -> usize
     }
 }
 
-fn digit(c: u8) -> u64
-    ensures { result ≤ 255 }
-{
-    c as u64
-}
-
-// What is over 4,294,967,295 counts as that: each count over 524,288 is refused alike.
-fn clipped(x: u64) -> u64
-    ensures { result ≤ 4294967295 }
-{
-    if 0xffff_ffff < x { 0xffff_ffff } else { x }
-}
-
-fn counted(word: &[u8]) -> Count {
-    if word.len() == 0 {
-        return Count::Wrong;
+// The number of these digits. What is over 4,294,967,295 counts as that: each count over 524,288 is refused alike. std's own
+// reading of a number takes a sign, and none so large.
+fn counted(word: &[u8]) -> Option<u32> {
+    if word.is_empty() {
+        return None;
     }
-    let mut value: u64 = 0;
+    let mut value = 0u32;
     for letter in word {
-        let c = digit(*letter);
-        if c < 48 {
-            return Count::Wrong;
-        }
-        if 57 < c {
-            return Count::Wrong;
-        }
-        value = clipped(10 * value + (c - 48));
+        let digit = letter.checked_sub(b'0').filter(|digit| *digit < 10)?;
+        value = value.saturating_mul(10).saturating_add(u32::from(digit));
     }
-    Count::First(value as u32)
+    Some(value)
 }
 
-// BITS, if the word of that place is the last one or the one before it is.
-pub fn count_at(rt: &impl Env, at: usize) -> Count {
-    let words = word_count(rt);
-    if words == at {
-        return Count::Whole;
+// BITS, if the word of that place is the last one or the one before it is; none where it is no number, or words stand behind it.
+pub fn count_at(rt: &impl Env, at: usize) -> Option<Count> {
+    match word_count(rt).checked_sub(at)? {
+        0 => Some(Count::Whole),
+        1 => {
+            let mut room = [0u8; WORD];
+            Some(Count::First(counted(word_at(rt, at, &mut room))?))
+        }
+        _ => None,
     }
-    if words < at {
-        return Count::Wrong;
-    }
-    if 1 < words - at {
-        return Count::Wrong;
-    }
-    let mut word = [0u8; 4096];
-    let n = word_at(rt, at, &mut word);
-    counted(&word[..n])
 }
 
 fn bits_of(n: usize) -> u32 {
@@ -234,6 +154,5 @@ pub fn window_bits(given: Count, n: usize) -> u32 {
     match given {
         Count::Whole => bits_of(n),
         Count::First(bits) => bits,
-        Count::Wrong => 0,
     }
 }

@@ -1,10 +1,6 @@
 // A fast-array body: its header, the deleted ids, and each item with a line for each of its fields.
-ghost use Rattle.std.specs.Prelude.{◌≡◌, ◌*◌, ◌/◌, ◌≤◌, length};
-ghost use Rattle.bits.specs.Sizes.{longest_window};
-ghost use Rattle.fastarray.specs.Records.{item_words, field_words};
-
-use bitio::{BitsRead, Cursor};
-use fastarray::{ChecksumMode, Delta, FastArray};
+use bitio::Cursor;
+use fastarray::{ChecksumMode, Delta};
 use std::io;
 use tell::rooms::{MOST_FIELDS, MOST_IDS};
 use tell::{refusals, say};
@@ -14,60 +10,31 @@ const ITEM_SIZE: usize = 2;
 
 const FIELD_SIZE: usize = 3;
 
-// ---- rooms
-
 const ITEM_ROOM: usize = ITEM_SIZE * MOST_IDS;
 
 const FIELD_ROOM: usize = FIELD_SIZE * MOST_FIELDS;
 
-fn id_room() -> [i32; MOST_IDS]
-    ensures { longest_window / 32 ≡ length result }
-{
-    [0; MOST_IDS]
-}
-
-fn item_room() -> [u32; ITEM_ROOM]
-    ensures { item_words * (longest_window / 32) ≡ length result }
-{
-    [0; ITEM_ROOM]
-}
-
-fn field_room() -> [u32; FIELD_ROOM]
-    ensures { field_words * (longest_window / 16) ≡ length result }
-{
-    [0; FIELD_ROOM]
-}
-
 // ---- parts
 
-fn say_signed(out: &impl Print, name: &[u8], x: i32) -> io::Result<()> {
-    say::left(out, name, 24)?;
-    say::signed(out, x)?;
-    say::text(out, b"\n")
+// So many, or all where there are fewer.
+fn front<T>(s: &[T], n: u32) -> &[T] {
+    s.get(..n as usize).unwrap_or(s)
 }
 
 fn say_header(out: &impl Print, delta: Delta) -> io::Result<()> {
-    say_signed(out, b"key", delta.key)?;
-    say_signed(out, b"base key", delta.base)?;
-    say::named(out, b"deleted ids", say::wide(delta.deletes))?;
-    say::named(out, b"changed items", say::wide(delta.changes))?;
-    say::named(out, b"fields", say::wide(delta.fields))?;
-    say::named(out, b"padded numbers", say::wide(delta.padded))
+    println!(out; "{:<24}{}", "key", delta.key)?;
+    println!(out; "{:<24}{}", "base key", delta.base)?;
+    say::named(out, "deleted ids", u64::from(delta.deletes))?;
+    say::named(out, "changed items", u64::from(delta.changes))?;
+    say::named(out, "fields", u64::from(delta.fields))?;
+    say::named(out, "padded numbers", u64::from(delta.padded))
 }
 
-fn say_deleted(out: &impl Print, ids: &[i32], count: usize) -> io::Result<()>
-    requires { count ≤ length ids.now }
-{
-    for i in 0..count {
-        say::text(out, b"deleted ")?;
-        say::signed(out, ids[i])?;
-        say::text(out, b"\n")?;
+fn say_deleted(out: &impl Print, ids: &[i32]) -> io::Result<()> {
+    for id in ids {
+        println!(out; "deleted {id}")?;
     }
     Ok(())
-}
-
-fn at_most_eight(n: u64) -> u64 {
-    if n < 8 { n } else { 8 }
 }
 
 // The next eight bits of the window, or the n that are left.
@@ -76,8 +43,8 @@ fn say_byte(out: &impl Print, bytes: &[u8], len: u64, pos: u64, n: u64) -> io::R
     let c = Cursor { start, pos, len };
     let read = bitio::read_bits(bytes, c, n);
     match read {
-        BitsRead::Value(x, _) => say::pattern(out, x, 2),
-        BitsRead::Refused(_) => say::text(out, b"??"),
+        Ok(read) => print!(out; "{:02x}", read.value),
+        Err(_) => print!(out; "??"),
     }
 }
 
@@ -90,79 +57,52 @@ fn say_payload(
     width: u32,
 ) -> io::Result<()> {
     if width == 0 {
-        say::text(out, b"-")?;
+        print!(out; "-")?;
     }
-    let mut at = say::wide(first);
-    let end = at + say::wide(width);
-    while at < end {
-        say_byte(out, bytes, say::wide(bits), at, at_most_eight(end - at))?;
-        at += 8;
+    let start = u64::from(first);
+    let end = start + u64::from(width);
+    for at in (start..end).step_by(8) {
+        say_byte(out, bytes, u64::from(bits), at, (end - at).min(8))?;
     }
     Ok(())
 }
 
-fn say_field(out: &impl Print, bytes: &[u8], bits: u32, field: &[u32]) -> io::Result<()> {
-    let handle = say::nth(field, 0);
-    let first = say::nth(field, 1);
-    let width = say::nth(field, 2);
-    say::right(out, say::wide(handle), 10)?;
-    say::right(out, say::wide(width), 8)?;
-    say::text(out, b"  ")?;
-    say_payload(out, bytes, bits, first, width)?;
-    say::text(out, b"\n")
-}
-
-// The fields from one to before another.
 fn say_fields(
     out: &impl Print,
     bytes: &[u8],
     bits: u32,
-    fields: &[u32],
-    first: usize,
-    end: usize,
+    fields: &[[u32; FIELD_SIZE]],
 ) -> io::Result<()> {
-    let most = say::least(end, fields.len() / FIELD_SIZE);
-    if first < most {
-        say::text(out, b"    handle    bits  payload\n")?;
+    if !fields.is_empty() {
+        out.println("    handle    bits  payload")?;
     }
-    for i in first..most {
-        let at = FIELD_SIZE * i;
-        say_field(out, bytes, bits, &fields[at..])?;
+    for [handle, first, width] in fields {
+        print!(out; "{handle:>10}{width:>8}  ")?;
+        say_payload(out, bytes, bits, *first, *width)?;
+        out.println("")?;
     }
     Ok(())
 }
 
+// The items, each with its part of the fields.
 fn say_items(
     out: &impl Print,
     bytes: &[u8],
     bits: u32,
-    count: usize,
-    items: &[u32],
-    fields: &[u32],
-) -> io::Result<()>
-    requires { count ≤ length items.now / 2 }
-{
-    let mut first = 0;
-    for i in 0..count {
-        let id = say::nth(items, ITEM_SIZE * i);
-        let own = say::index(say::nth(items, ITEM_SIZE * i + 1));
-        let end = std::num::wrapping_add_usize(first, own);
-        say::text(out, b"item ")?;
-        say::signed_bits(out, id)?;
-        say::text(out, b"\n")?;
-        say_fields(out, bytes, bits, fields, first, end)?;
-        first = end;
+    items: &[[u32; ITEM_SIZE]],
+    fields: &[[u32; FIELD_SIZE]],
+) -> io::Result<()> {
+    let mut rest = fields;
+    for [id, own] in items {
+        let (own_fields, further) = rest.split_at(rest.len().min(*own as usize));
+        rest = further;
+        println!(out; "item {}", id.cast_signed())?;
+        say_fields(out, bytes, bits, own_fields)?;
     }
     Ok(())
 }
 
 // ---- the body
-
-// The bytes that so many bits take, of a file that may have more.
-fn taken(bytes: &[u8], bits: u32) -> &[u8] {
-    let size = (say::wide(bits) + 7) / 8;
-    say::front(bytes, size as usize)
-}
 
 fn say_body(
     out: &impl Print,
@@ -173,14 +113,13 @@ fn say_body(
     items: &[u32],
     fields: &[u32],
 ) -> io::Result<()> {
+    let (items, _) = items.as_chunks::<ITEM_SIZE>();
+    let (fields, _) = fields.as_chunks::<FIELD_SIZE>();
     say_header(out, delta)?;
-    let deletes = say::least(say::index(delta.deletes), ids.len());
-    say_deleted(out, ids, deletes)?;
-    let changes = say::least(say::index(delta.changes), items.len() / ITEM_SIZE);
-    say_items(out, bytes, bits, changes, items, fields)?;
-    say::text(out, b"verdict: a whole fast-array body; it takes all ")?;
-    say::number(out, say::wide(delta.used))?;
-    say::text(out, b" bits\n")
+    say_deleted(out, front(ids, delta.deletes))?;
+    say_items(out, bytes, bits, front(items, delta.changes), fields)?;
+    let used = delta.used;
+    println!(out; "verdict: a whole fast-array body; it takes all {used} bits")
 }
 
 pub fn body(
@@ -190,18 +129,19 @@ pub fn body(
     bytes: &[u8],
     bits: u32,
 ) -> io::Result<()> {
-    let mut id_space = id_room();
-    let mut item_space = item_room();
-    let mut field_space = field_room();
+    let mut id_space = [0i32; MOST_IDS];
+    let mut item_space = [0u32; ITEM_ROOM];
+    let mut field_space = [0u32; FIELD_ROOM];
     let ids: &mut [i32] = &mut id_space;
     let items: &mut [u32] = &mut item_space;
     let fields: &mut [u32] = &mut field_space;
-    let payload = taken(bytes, bits);
+    // the bytes that so many bits take, of a file that may have more
+    let payload = front(bytes, bits.div_ceil(8));
     let r = fastarray::decode_fast_array_delta(payload, bits, mode, ids, items, fields);
     match r {
-        FastArray::Decoded(delta) => say_body(out, delta, payload, bits, ids, items, fields),
-        _ => {
-            refusals::no_body(err, r);
+        Ok(delta) => say_body(out, delta, payload, bits, ids, items, fields),
+        Err(why) => {
+            refusals::no_body(err, why);
             Ok(())
         }
     }

@@ -1,68 +1,49 @@
 // The file with the window. What is wrong with it is said on standard error.
-ghost use Rattle.std.specs.Prelude.{◌≡◌, ◌/◌, length};
-ghost use Rattle.bits.specs.Sizes.{longest_window};
-
 use bits::sizes::LONGEST_WINDOW;
 use std::env::{Env, FillError};
 use std::io;
 use std::io::{Read, Seek};
 use std::rt::Files;
-use words::input::Input;
+use words::input::Unread;
 use words::{error, input};
-
-// What became of the file: so many bytes, which may be none; or it couldn't be taken, and why is said.
-#[derive(Clone, Copy)]
-pub enum Fetched {
-    Bytes(usize),
-    Failed,
-}
 
 // The bytes of the longest window.
 pub const ROOM: usize = (LONGEST_WINDOW as usize) / 8;
 
-pub fn room() -> [u8; ROOM]
-    ensures { longest_window / 8 ≡ length result }
-{
-    [0; ROOM]
-}
-
-fn complain(err: &impl Print, path: &[u8], why: &[u8]) {
+fn complain(err: &impl Print, path: &[u8], why: &str) {
     error::text(err, path);
-    error::text(err, b": ");
-    error::text(err, why);
-    error::text(err, b"\n");
+    error::say(err, format_args!(": {why}\n"));
 }
 
-// A read that failed, and why.
-fn say_unread(err: &impl Print, path: &[u8], why: io::Error) {
-    error::failed(err, path, why);
-    complain(
-        err,
-        path,
-        b"the file was not read to its end, so nothing is said of its window",
-    );
-}
-
-// The open file to the front of the buffer.
-fn read(err: &impl Print, path: &[u8], file: &mut (impl Read + Seek), buf: &mut [u8]) -> Fetched {
-    let got = input::whole(file, buf);
-    match got {
-        Input::Whole(n) => {
-            return Fetched::Bytes(n);
+// Why the file was not read.
+fn say_unread(err: &impl Print, path: &[u8], why: Unread) {
+    let words = match why {
+        Unread::Longer => "the file has more than 65536 bytes; a window has at most 524288 bits",
+        Unread::Changed => {
+            "the file's length is not that of the bytes read: it changed, or its end came early; nothing is said of its window"
         }
-        Input::Longer => complain(
-            err,
-            path,
-            b"the file has more than 65536 bytes; a window has at most 524288 bits",
-        ),
-        Input::Changed => complain(
-            err,
-            path,
-            b"the file's length is not that of the bytes read: it changed, or its end came early; nothing is said of its window",
-        ),
-        Input::Failed(why) => say_unread(err, path, why),
+        Unread::Failed(why) => {
+            error::failed(err, path, why);
+            "the file was not read to its end, so nothing is said of its window"
+        }
+    };
+    complain(err, path, words);
+}
+
+// The open file, in the front of the buffer.
+fn read<'a>(
+    err: &impl Print,
+    path: &[u8],
+    file: &mut (impl Read + Seek),
+    buf: &'a mut [u8],
+) -> Option<&'a [u8]> {
+    match input::whole(file, buf) {
+        Ok(n) => Some(&buf[..n]),
+        Err(why) => {
+            say_unread(err, path, why);
+            None
+        }
     }
-    Fetched::Failed
 }
 
 // Why there is no word to open, in the system's words: it is missing, or longer than a path.
@@ -73,18 +54,22 @@ fn no_word(why: FillError) -> io::Error {
     }
 }
 
-// The file that is named at the place, to the front of the buffer.
-pub fn fetch<R: Env + Files>(rt: &R, err: &impl Print, at: usize, buf: &mut [u8]) -> Fetched {
+// The bytes of the file that is named at the place, in the front of the buffer; they may be none. Where it couldn't be taken, why is
+// said.
+pub fn fetch<'a, R: Env + Files>(
+    rt: &R,
+    err: &impl Print,
+    at: usize,
+    buf: &'a mut [u8],
+) -> Option<&'a [u8]> {
     let mut word = [0u8; 4096];
     let path = match rt.arg(at, &mut word) {
         Ok(n) => &word[..n],
         Err(why) => {
             error::failed(err, b"FILE", no_word(why));
-            return Fetched::Failed;
+            return None;
         }
     };
-    match input::open(rt, err, path) {
-        Some(mut file) => read(err, path, &mut file, buf),
-        None => Fetched::Failed,
-    }
+    let mut file = input::open(rt, err, path)?;
+    read(err, path, &mut file, buf)
 }

@@ -12,38 +12,37 @@ mod file;
 mod movement;
 mod walk;
 
-use args::{Asked, Count, Job};
-use file::Fetched;
+use args::{Asked, Job};
 use std::env::Env;
 use std::io;
 use std::rt::Files;
-use tell::{levels, say};
-use words::error;
+use tell::levels;
+use words::{Answers, error};
 
 fn usage(err: &impl Print) {
-    error::text(err, b"usage: vrf walk KIND FILE [BITS]\n");
-    error::text(err, b"       vrf fastarray absent|present FILE [BITS]\n");
-    error::text(err, b"       vrf movement SCALE WIDTH FILE [BITS]\n");
-    error::text(err, b"       vrf schema\n");
-    error::text(
+    error::say(err, "usage: vrf walk KIND FILE [BITS]\n");
+    error::say(err, "       vrf fastarray absent|present FILE [BITS]\n");
+    error::say(err, "       vrf movement SCALE WIDTH FILE [BITS]\n");
+    error::say(err, "       vrf schema\n");
+    error::say(
         err,
-        b"KIND is none, exact, objects or a level's name, which vrf schema prints; absent or present is the checksum\n",
+        "KIND is none, exact, objects or a level's name, which vrf schema prints; absent or present is the checksum\n",
     );
-    error::text(
+    error::say(
         err,
-        b"flag of each item; SCALE is 1, 10 or 100 and WIDTH 8 or 16. The window is the first BITS bits of the file,\n",
+        "flag of each item; SCALE is 1, 10 or 100 and WIDTH 8 or 16. The window is the first BITS bits of the file,\n",
     );
-    error::text(
+    error::say(
         err,
-        b"without BITS all of it; of an empty file that is no bits. Padded numbers stand in more bytes than they need:\n",
+        "without BITS all of it; of an empty file that is no bits. Padded numbers stand in more bytes than they need:\n",
     );
-    error::text(
+    error::say(
         err,
-        b"this box's recorder build writes long forms, and nothing is damaged. A leaf's start is the bit of the\n",
+        "this box's recorder build writes long forms, and nothing is damaged. A leaf's start is the bit of the\n",
     );
-    error::text(
+    error::say(
         err,
-        b"window at which its payload stands, counted from the window's first bit, which is 0, however deep the leaf is.\n",
+        "window at which its payload stands, counted from the window's first bit, which is 0, however deep the leaf is.\n",
     );
 }
 
@@ -55,60 +54,36 @@ fn run(out: &impl Print, err: &impl Print, job: Job, bytes: &[u8], bits: u32) ->
     }
 }
 
-// The file that is named at the place, as a window.
-fn window<R: Env + Files>(
-    rt: &R,
-    out: &impl Print,
-    err: &impl Print,
-    job: Job,
-    at: usize,
-    given: Count,
-) -> io::Result<()> {
-    let mut space = file::room();
-    let room: &mut [u8] = &mut space;
-    let fetched = file::fetch(rt, err, at, room);
-    match fetched {
-        Fetched::Bytes(n) => {
-            let bytes = say::front(room, n);
-            let bits = args::window_bits(given, n);
+// The window that the command line names.
+fn window<R: Env + Files>(rt: &R, out: &impl Print, err: &impl Print, job: Job) -> io::Result<()> {
+    let at = args::file_place(job);
+    let Some(given) = args::count_at(rt, at + 1) else {
+        usage(err);
+        return Ok(());
+    };
+    let mut room = [0u8; file::ROOM];
+    match file::fetch(rt, err, at, &mut room) {
+        Some(bytes) => {
+            let bits = args::window_bits(given, bytes.len());
             run(out, err, job, bytes, bits)
         }
-        Fetched::Failed => Ok(()),
-    }
-}
-
-fn asked_window<R: Env + Files>(
-    rt: &R,
-    out: &impl Print,
-    err: &impl Print,
-    job: Job,
-) -> io::Result<()> {
-    let at = args::file_place(job);
-    let given = args::count_at(rt, at + 1);
-    match given {
-        Count::Wrong => {
-            usage(err);
-            Ok(())
-        }
-        Count::Whole => window(rt, out, err, job, at, given),
-        Count::First(_) => window(rt, out, err, job, at, given),
+        None => Ok(()),
     }
 }
 
 fn answer<R: Env + Files>(rt: &R, out: &impl Print, err: &impl Print) -> io::Result<()> {
-    let asked = args::command(rt);
-    match asked {
-        Asked::Usage => {
+    match args::command(rt) {
+        Some(Asked::Schema) => levels::list(out),
+        Some(Asked::Window(job)) => window(rt, out, err, job),
+        None => {
             usage(err);
             Ok(())
         }
-        Asked::Schema => levels::list(out),
-        Asked::Window(job) => asked_window(rt, out, err, job),
     }
 }
 
 fn main(rt: HostRuntime) {
-    let out = rt.stdout();
+    let out = Answers(rt.stdout());
     let err = rt.stderr();
     if let Err(why) = answer(&rt, &out, &err) {
         words::end_output(&err, why);

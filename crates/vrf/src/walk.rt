@@ -3,13 +3,14 @@ ghost use Rattle.std.specs.Prelude.{◌≡◌, ◌*◌, ◌/◌, ◌≤◌, leng
 ghost use Rattle.bits.specs.Sizes.{longest_window};
 ghost use Rattle.framing.specs.Records.{leaf_words, pair_words};
 
-use array::{ObjectArray, StructArray};
+use array::{Extent, PairRefusal, Refusal, Walked};
 use framing::Walk;
 use outputs::records::{LEAF_WORDS, PAIR_WORDS};
 use outputs::{LeafRecord, records};
 use std::io;
 use tell::rooms::{MOST_FIELDS, PATH_BYTES, PAYLOAD_BYTES};
 use tell::{refusals, say, verdicts};
+use words::Hex;
 
 // ---- rooms
 
@@ -17,6 +18,8 @@ use tell::{refusals, say, verdicts};
 // a stack of 2 MiB.
 
 const RECORD_ROOM: usize = LEAF_WORDS * MOST_FIELDS;
+
+// Each is made by a function of its own: a proof that has to compute with arrays so long didn't close.
 
 fn record_room() -> [u32; RECORD_ROOM]
     ensures { leaf_words * (longest_window / 16) ≡ length result }
@@ -38,27 +41,16 @@ fn payload_room() -> [u8; PAYLOAD_BYTES]
 
 // ---- leaves
 
-// The bytes that so many bits take.
-fn bytes_of(bits: u32) -> u32 {
-    if bits % 8 == 0 {
-        return bits / 8;
-    }
-    bits / 8 + 1
-}
-
-// How long the longest path of so many leaves is, at most a column.
+// How long the longest path of so many leaves is, at most a column. Here and below the loop counts: a record is read by its number.
 fn path_width(leaves: &[u32], count: usize) -> usize
     requires { count ≤ length leaves.now / leaf_words }
 {
     let mut width = 4;
     for i in 0..count {
         let leaf = records::leaf_at(leaves, i);
-        let len = say::index(leaf.path_length);
-        if width < len {
-            width = len;
-        }
+        width = width.max(leaf.path_length as usize);
     }
-    say::least(width, say::COLUMN)
+    width.min(say::COLUMN)
 }
 
 fn say_leaf(
@@ -71,12 +63,10 @@ fn say_leaf(
     let bits = leaf.payload_bits;
     let path = say::part(paths, leaf.path_start, leaf.path_length);
     say::left(out, path, width)?;
-    say::right(out, say::wide(leaf.handle), 12)?;
-    say::right(out, say::wide(bits), 8)?;
-    say::right(out, say::wide(leaf.window_start), 9)?;
-    say::text(out, b"  ")?;
-    say::hex(out, say::part(payloads, leaf.payload_start, bytes_of(bits)))?;
-    say::text(out, b"\n")
+    let handle = leaf.handle;
+    let start = leaf.window_start;
+    let payload = Hex(say::part(payloads, leaf.payload_start, bits.div_ceil(8)));
+    println!(out; "{handle:>12}{bits:>8}{start:>9}  {payload}")
 }
 
 fn say_leaves(
@@ -90,7 +80,7 @@ fn say_leaves(
 {
     let width = path_width(leaves, count);
     say::left(out, b"path", width)?;
-    say::text(out, b"      handle    bits    start  payload\n")?;
+    out.println("      handle    bits    start  payload")?;
     for i in 0..count {
         let leaf = records::leaf_at(leaves, i);
         say_leaf(out, leaf, paths, payloads, width)?;
@@ -101,19 +91,19 @@ fn say_leaves(
 fn report(
     out: &impl Print,
     err: &impl Print,
-    r: StructArray,
+    r: Result<Walked<Extent>, Refusal>,
     leaves: &[u32],
     paths: &[u8],
     payloads: &[u8],
 ) -> io::Result<()> {
     match r {
-        StructArray::Decoded(stats, judged, extent, padded) => {
-            let count = say::least(say::index(extent.leaves), leaves.len() / LEAF_WORDS);
+        Ok(walked) => {
+            let count = (walked.filled.leaves as usize).min(leaves.len() / LEAF_WORDS);
             say_leaves(out, count, leaves, paths, payloads)?;
-            verdicts::report(out, stats, judged, padded)
+            verdicts::report(out, walked.stats, walked.verdict, walked.padded)
         }
-        _ => {
-            refusals::unwalked(err, r);
+        Err(why) => {
+            refusals::unwalked(err, why);
             Ok(())
         }
     }
@@ -124,12 +114,10 @@ fn report(
 fn say_pairs(out: &impl Print, count: usize, pairs: &[u32]) -> io::Result<()>
     requires { count ≤ length pairs.now / pair_words }
 {
-    say::text(out, b"     index      object\n")?;
+    out.println("     index      object")?;
     for i in 0..count {
         let pair = records::pair_at(pairs, i);
-        say::right(out, say::wide(pair.index), 10)?;
-        say::right(out, say::wide(pair.guid), 12)?;
-        say::text(out, b"\n")?;
+        println!(out; "{:>10}{:>12}", pair.index, pair.guid)?;
     }
     Ok(())
 }
@@ -137,17 +125,17 @@ fn say_pairs(out: &impl Print, count: usize, pairs: &[u32]) -> io::Result<()>
 fn report_pairs(
     out: &impl Print,
     err: &impl Print,
-    r: ObjectArray,
+    r: Result<Walked<u32>, PairRefusal>,
     pairs: &[u32],
 ) -> io::Result<()> {
     match r {
-        ObjectArray::Decoded(stats, judged, given, padded) => {
-            let count = say::least(say::index(given), pairs.len() / PAIR_WORDS);
+        Ok(walked) => {
+            let count = (walked.filled as usize).min(pairs.len() / PAIR_WORDS);
             say_pairs(out, count, pairs)?;
-            verdicts::report(out, stats, judged, padded)
+            verdicts::report(out, walked.stats, walked.verdict, walked.padded)
         }
-        _ => {
-            refusals::unpaired(err, r);
+        Err(why) => {
+            refusals::unpaired(err, why);
             Ok(())
         }
     }
@@ -163,12 +151,12 @@ fn decode_by_levels(
     leaves: &mut [u32],
     paths: &mut [u8],
     payloads: &mut [u8],
-) -> StructArray {
+) -> Result<Walked<Extent>, Refusal> {
     let declared = [0u32; 0];
     let declared_names = [0u8; 0];
     let mut rows = [0u32; schema::twelve::ROW_NUMBERS];
     let mut names = [0u8; schema::twelve::NAME_BYTES];
-    schema::twelve::fill_schema(&mut rows, &mut names);
+    let _ = schema::twelve::fill_schema(&mut rows, &mut names);
     array::decode_struct_array(
         bytes,
         bits,
@@ -190,7 +178,7 @@ fn decode_exact(
     leaves: &mut [u32],
     paths: &mut [u8],
     payloads: &mut [u8],
-) -> StructArray {
+) -> Result<Walked<Extent>, Refusal> {
     let declared = [0u32; 0];
     let declared_names = [0u8; 0];
     array::decode_struct_array_exact(

@@ -1,17 +1,19 @@
 // Answers of a walk, ours and the recorded one.
 use array::said::{pairs_said, said};
-use array::{ArrayDecodeStats, Extent, ObjectArray, StructArray, Verdict};
+use array::{ArrayDecodeStats, Extent, PairRefusal, Refusal, Verdict, Walked};
 use framing::Walk;
-use recorded::answers::SHORT;
-use recorded::{fields, say};
-use std::io;
-use words::wide;
+use recorded::answers::{Fault, SHORT};
+use recorded::fields;
+use recorded::fields::Parts;
+use recorded::rooms::Room;
+use std::fmt;
 
-#[derive(Clone, Copy)]
+#[derive(Clone, Copy, PartialEq, Eq)]
 pub struct Answer {
     // 0 for a walk, or the refusal's number by document 01.
     pub number: u64,
-    // The seven counters, the verdict (0 clean, 1 partial, 2 empty) and the padded numbers. Of a refusal all are 0.
+    // The seven counters, the verdict (0 clean, 1 partial, 2 empty) and the padded numbers, as a case has them, which may be any
+    // numbers. Of a refusal all are 0.
     pub counts: [u64; 9],
     // What the outputs need: records, path bytes, payload bytes.
     pub records: u64,
@@ -19,18 +21,19 @@ pub struct Answer {
     pub payload_bytes: u64,
 }
 
-// What is recorded of a walk.
+// What a walk leaves in its outputs, as the case has it.
 #[derive(Clone, Copy)]
-pub struct Recorded {
+pub struct Lists<'a> {
+    pub records: &'a [u8],
+    pub paths: &'a [u8],
+    pub payloads: &'a [u8],
+}
+
+// What is recorded of a walk; of one whose outputs don't stand in the case, not these.
+#[derive(Clone, Copy)]
+pub struct Recorded<'a> {
     pub answer: Answer,
-    // Whether its outputs stand in the case: 1 or 0, and no other number is one that the case may have.
-    pub whole: u64,
-    // The runs of the records, the path bytes and the payload bytes.
-    pub records: usize,
-    pub paths: usize,
-    pub payloads: usize,
-    // The place after all of it.
-    pub end: usize,
+    pub lists: Option<Lists<'a>>,
 }
 
 fn verdict_number(v: Verdict) -> u64 {
@@ -51,7 +54,7 @@ fn counts_of(stats: ArrayDecodeStats, v: Verdict, padded: u32) -> [u64; 9] {
         stats.unconsumed_root_bits,
         stats.implicit_terminations,
         verdict_number(v),
-        wide(padded),
+        u64::from(padded),
     ]
 }
 
@@ -75,166 +78,141 @@ fn walked(counts: [u64; 9], e: Extent) -> Answer {
     answer_of(
         0,
         counts,
-        wide(e.leaves),
-        wide(e.path_bytes),
-        wide(e.payload_bytes),
+        u64::from(e.leaves),
+        u64::from(e.path_bytes),
+        u64::from(e.payload_bytes),
     )
 }
 
-fn refused(r: StructArray) -> Answer {
-    let s = said(r);
+fn refused(why: Refusal) -> Answer {
+    let told = said(Err(why));
     answer_of(
-        wide(s.number),
+        u64::from(told.number),
         [0; 9],
-        wide(s.leaves),
-        wide(s.path_bytes),
-        wide(s.payload_bytes),
+        u64::from(told.need.leaves),
+        u64::from(told.need.path_bytes),
+        u64::from(told.need.payload_bytes),
     )
 }
 
-fn refused_pairs(r: ObjectArray) -> Answer {
-    let s = pairs_said(r);
-    answer_of(wide(s.number), [0; 9], wide(s.pairs), 0, 0)
+fn refused_pairs(why: PairRefusal) -> Answer {
+    let told = pairs_said(Err(why));
+    answer_of(u64::from(told.number), [0; 9], u64::from(told.need), 0, 0)
 }
 
-// What a walk that gives this has to answer where an output is short: the refusal for its needs.
-pub fn expected(a: Answer, short: bool) -> Answer {
-    if short {
-        return answer_of(SHORT, [0; 9], a.records, a.path_bytes, a.payload_bytes);
-    }
-    a
-}
-
-pub fn of_structs(r: StructArray) -> Answer {
+pub fn of_structs(r: Result<Walked<Extent>, Refusal>) -> Answer {
     match r {
-        StructArray::Decoded(stats, v, extent, padded) => {
-            walked(counts_of(stats, v, padded), extent)
-        }
-        _ => refused(r),
+        Ok(w) => walked(counts_of(w.stats, w.verdict, w.padded), w.filled),
+        Err(why) => refused(why),
     }
 }
 
-pub fn of_objects(r: ObjectArray) -> Answer {
+pub fn of_objects(r: Result<Walked<u32>, PairRefusal>) -> Answer {
     match r {
-        ObjectArray::Decoded(stats, v, pairs, padded) => {
-            answer_of(0, counts_of(stats, v, padded), wide(pairs), 0, 0)
+        Ok(w) => {
+            let counts = counts_of(w.stats, w.verdict, w.padded);
+            answer_of(0, counts, u64::from(w.filled), 0, 0)
         }
-        _ => refused_pairs(r),
+        Err(why) => refused_pairs(why),
     }
 }
 
-// The recorded counters, verdict and padded numbers, and the place after them.
-#[derive(Clone, Copy)]
-struct Counted {
-    counts: [u64; 9],
-    next: usize,
-}
-
-fn recorded_counts(s: &[u8], at: usize) -> Counted {
-    let mut counts = [0u64; 9];
-    let mut next = at;
-    for count in counts.iter_mut() {
-        let field = fields::number(s, next);
-        *count = field.value;
-        next = field.next;
-    }
-    Counted { counts, next }
-}
-
-// What is recorded of a struct or exact walk.
-fn recorded_leaves(s: &[u8], at: usize) -> Recorded {
-    let number = fields::number(s, at);
-    let counted = recorded_counts(s, number.next);
-    let leaves = fields::number(s, counted.next);
-    let path_bytes = fields::number(s, leaves.next);
-    let payload_bytes = fields::number(s, path_bytes.next);
-    let whole = fields::number(s, payload_bytes.next);
-    let records = whole.next;
-    let paths = fields::after_run(s, records);
-    let payloads = fields::after_run(s, paths);
-    let end = if whole.value == 1 {
-        fields::after_run(s, payloads)
-    } else {
-        records
+impl<'a> Lists<'a> {
+    pub const NONE: Lists<'static> = Lists {
+        records: &[],
+        paths: &[],
+        payloads: &[],
     };
-    let counts = counted.counts;
-    let answer = answer_of(
-        number.value,
-        counts,
-        leaves.value,
-        path_bytes.value,
-        payload_bytes.value,
-    );
-    Recorded {
-        answer,
-        whole: whole.value,
-        records,
-        paths,
-        payloads,
-        end,
+
+    // How many numbers and bytes they are.
+    fn room(self) -> Room {
+        Room {
+            first: self.records.len() / 4,
+            second: self.paths.len(),
+            third: self.payloads.len(),
+        }
     }
 }
 
-// What is recorded of an object walk. Its only output is the pairs: at the end no run stands.
-fn recorded_pairs(s: &[u8], at: usize) -> Recorded {
-    let number = fields::number(s, at);
-    let counted = recorded_counts(s, number.next);
-    let pairs = fields::number(s, counted.next);
-    let records = pairs.next;
-    let end = fields::after_run(s, records);
-    let counts = counted.counts;
-    let answer = answer_of(number.value, counts, pairs.value, 0, 0);
-    Recorded {
-        answer,
-        whole: 1,
-        records,
-        paths: end,
-        payloads: end,
-        end,
+impl<'a> Recorded<'a> {
+    // What the walk needs of its outputs.
+    pub fn needs(self) -> Option<Room> {
+        self.lists.map(|lists| lists.room())
+    }
+
+    // What the walk has to give where an output is short: the refusal for its needs, and nothing in the outputs.
+    pub fn refused(self) -> Recorded<'a> {
+        let a = self.answer;
+        Recorded {
+            answer: answer_of(SHORT, [0; 9], a.records, a.path_bytes, a.payload_bytes),
+            lists: None,
+        }
+    }
+
+    // Of a struct or exact walk. Behind its needs stands whether its outputs stand there.
+    fn of_leaves(parts: &mut Parts<'a>) -> Result<Recorded<'a>, Fault> {
+        let number = parts.number()?;
+        let counts = parts.numbers()?;
+        let [records, path_bytes, payload_bytes] = parts.numbers::<3>()?;
+        let lists = if fields::flag(parts.number()?)? {
+            Some(Lists {
+                records: parts.run()?,
+                paths: parts.run()?,
+                payloads: parts.run()?,
+            })
+        } else {
+            None
+        };
+        let answer = answer_of(number, counts, records, path_bytes, payload_bytes);
+        Ok(Recorded { answer, lists })
+    }
+
+    // Of an object walk. Its only output is the pairs.
+    fn of_pairs(parts: &mut Parts<'a>) -> Result<Recorded<'a>, Fault> {
+        let number = parts.number()?;
+        let counts = parts.numbers()?;
+        let pairs = parts.number()?;
+        let lists = Some(Lists {
+            records: parts.run()?,
+            ..Lists::NONE
+        });
+        let answer = answer_of(number, counts, pairs, 0, 0);
+        Ok(Recorded { answer, lists })
+    }
+
+    // What is recorded of such a walk, the last parts of its case.
+    pub fn of(walk: Walk, parts: &mut Parts<'a>) -> Result<Recorded<'a>, Fault> {
+        let recorded = match walk {
+            Walk::Struct | Walk::Exact => Recorded::of_leaves(parts)?,
+            Walk::Object => Recorded::of_pairs(parts)?,
+        };
+        if recorded
+            .lists
+            .is_some_and(|lists| lists.records.len() % 4 != 0)
+        {
+            return Err(Fault::Layout);
+        }
+        parts.end()?;
+        Ok(recorded)
     }
 }
 
-// What is recorded of such a walk.
-pub fn recorded_walk(walk: Walk, s: &[u8], at: usize) -> Recorded {
-    match walk {
-        Walk::Struct => recorded_leaves(s, at),
-        Walk::Exact => recorded_leaves(s, at),
-        Walk::Object => recorded_pairs(s, at),
+impl fmt::Display for Answer {
+    fn fmt<W: fmt::Write>(&self, f: &mut fmt::Formatter<W>) -> fmt::Result {
+        let Answer {
+            number,
+            counts,
+            records,
+            path_bytes,
+            payload_bytes,
+        } = *self;
+        write!(f, "number {number}, counters, verdict and padded")?;
+        for count in counts {
+            write!(f, " {count}")?;
+        }
+        write!(
+            f,
+            ", needs {records} records, {path_bytes} path bytes, {payload_bytes} payload bytes"
+        )
     }
-}
-
-fn same_counts(a: [u64; 9], b: [u64; 9]) -> bool {
-    a == b
-}
-
-pub fn same(a: Answer, b: Answer) -> bool {
-    let ours = a.counts;
-    let theirs = b.counts;
-    a.number == b.number
-        && same_counts(ours, theirs)
-        && a.records == b.records
-        && a.path_bytes == b.path_bytes
-        && a.payload_bytes == b.payload_bytes
-}
-
-fn say_counts(out: &impl Print, counts: [u64; 9]) -> io::Result<()> {
-    for count in counts {
-        say::text(out, b" ")?;
-        say::number(out, count)?;
-    }
-    Ok(())
-}
-
-pub fn say_answer(out: &impl Print, a: Answer) -> io::Result<()> {
-    say::text(out, b"number ")?;
-    say::number(out, a.number)?;
-    say::text(out, b", counters, verdict and padded")?;
-    say_counts(out, a.counts)?;
-    say::text(out, b", needs ")?;
-    say::number(out, a.records)?;
-    say::text(out, b" records, ")?;
-    say::number(out, a.path_bytes)?;
-    say::text(out, b" path bytes, ")?;
-    say::number(out, a.payload_bytes)?;
-    say::text(out, b" payload bytes")
 }

@@ -1,32 +1,30 @@
 // The walk that a recorded call asks for.
 use crate::answers;
 use crate::answers::Answer;
-use crate::calls::Call;
-use array::StructArray;
-use framing::Walk;
-use recorded::{fields, lists};
+use crate::calls::{Call, Schema, Window};
+use array::{Extent, Refusal, Walked};
+use recorded::lists;
 use schema::twelve;
 
 // The struct walk by the twelve levels.
 fn walk_twelve(
-    s: &[u8],
-    call: Call,
+    root: u32,
+    window: Window<'_>,
     declared: &[u32],
+    declared_names: &[u8],
     leaves: &mut [u32],
     paths: &mut [u8],
     payloads: &mut [u8],
-) -> StructArray {
+) -> Result<Walked<Extent>, Refusal> {
     let mut rows = [0u32; schema::twelve::ROW_NUMBERS];
     let mut names = [0u8; schema::twelve::NAME_BYTES];
-    schema::twelve::fill_schema(&mut rows, &mut names);
-    let bytes = fields::run(s, call.bytes);
-    let declared_names = fields::run(s, call.declared_names);
+    let _ = schema::twelve::fill_schema(&mut rows, &mut names);
     array::decode_struct_array(
-        bytes,
-        call.bits,
+        window.bytes,
+        window.bits,
         &rows,
         twelve::LEVELS,
-        call.root,
+        root,
         &names,
         declared,
         declared_names,
@@ -38,27 +36,23 @@ fn walk_twelve(
 
 // The struct walk by the case's own table.
 fn walk_own(
-    s: &[u8],
-    call: Call,
+    schema: Schema<'_>,
+    window: Window<'_>,
     declared: &[u32],
+    declared_names: &[u8],
     leaves: &mut [u32],
     paths: &mut [u8],
     payloads: &mut [u8],
-) -> StructArray {
-    let mut row_numbers = lists::row_room();
-    let n = lists::unpack(fields::run(s, call.rows), &mut row_numbers);
-    let row_space: &[u32] = &row_numbers;
-    let rows = &row_space[0..n];
-    let bytes = fields::run(s, call.bytes);
-    let names = fields::run(s, call.names);
-    let declared_names = fields::run(s, call.declared_names);
+) -> Result<Walked<Extent>, Refusal> {
+    let mut row_numbers = [0u32; lists::ROW_ROOM];
+    let rows = lists::unpack(schema.rows, &mut row_numbers);
     array::decode_struct_array(
-        bytes,
-        call.bits,
+        window.bytes,
+        window.bits,
         rows,
-        call.levels,
-        call.root,
-        names,
+        schema.levels,
+        schema.root,
+        schema.names,
         declared,
         declared_names,
         leaves,
@@ -68,55 +62,68 @@ fn walk_own(
 }
 
 fn walk_struct(
-    s: &[u8],
-    call: Call,
+    schema: Schema<'_>,
+    window: Window<'_>,
     declared: &[u32],
+    declared_names: &[u8],
     leaves: &mut [u32],
     paths: &mut [u8],
     payloads: &mut [u8],
-) -> StructArray {
-    if call.twelve == 0 {
-        walk_own(s, call, declared, leaves, paths, payloads)
+) -> Result<Walked<Extent>, Refusal> {
+    if schema.twelve {
+        let root = schema.root;
+        walk_twelve(
+            root,
+            window,
+            declared,
+            declared_names,
+            leaves,
+            paths,
+            payloads,
+        )
     } else {
-        walk_twelve(s, call, declared, leaves, paths, payloads)
+        walk_own(
+            schema,
+            window,
+            declared,
+            declared_names,
+            leaves,
+            paths,
+            payloads,
+        )
     }
 }
 
 // The answer of the walk that is lent these outputs.
 pub fn answer(
-    s: &[u8],
-    call: Call,
+    call: Call<'_>,
     records: &mut [u32],
     paths: &mut [u8],
     payloads: &mut [u8],
 ) -> Answer {
-    let mut declared_numbers = lists::declared_room();
-    let n = lists::unpack(fields::run(s, call.declared), &mut declared_numbers);
-    let declared_space: &[u32] = &declared_numbers;
-    let declared = &declared_space[0..n];
-    let bytes = fields::run(s, call.bytes);
-    let declared_names = fields::run(s, call.declared_names);
-    let bits = call.bits;
-    let walk = call.walk;
-    match walk {
-        Walk::Struct => {
-            let r = walk_struct(s, call, declared, records, paths, payloads);
+    let mut declared_numbers = [0u32; lists::DECLARED_ROOM];
+    match call {
+        Call::Struct(schema, declared, window) => {
+            let numbers = lists::unpack(declared.numbers, &mut declared_numbers);
+            let names = declared.names;
+            let r = walk_struct(schema, window, numbers, names, records, paths, payloads);
             answers::of_structs(r)
         }
-        Walk::Exact => {
+        Call::Exact(declared, window) => {
+            let numbers = lists::unpack(declared.numbers, &mut declared_numbers);
             let r = array::decode_struct_array_exact(
-                bytes,
-                bits,
-                declared,
-                declared_names,
+                window.bytes,
+                window.bits,
+                numbers,
+                declared.names,
                 records,
                 paths,
                 payloads,
             );
             answers::of_structs(r)
         }
-        Walk::Object => {
-            let r = array::decode_object_ref_array(bytes, bits, records);
+        Call::Object(window) => {
+            let r = array::decode_object_ref_array(window.bytes, window.bits, records);
             answers::of_objects(r)
         }
     }

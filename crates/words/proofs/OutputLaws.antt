@@ -1,9 +1,7 @@
 -- What a write says of its count.
 use mathlib.Core.Path.{◌≡◌, subst}
-use Prim.Native.Nat.{ℕ, ◌≤◌}
+use Rattle.std.specs.Prelude.{ℕ, ◌≤◌, Result, Ok}
 use Rattle.words.specs.Output.{Takes}
-use Rattle.words.specs.declared.output.Turn.{Turn}
-use Rattle.words.specs.declared.output.Turn.TheVariants as turn
 
-pub took : {p : Turn} {n most : ℕ} → p ≡ turn.Took n → Takes p most → (1 ≤ n) × (n ≤ most)
-took {p} {n} {most} e m = subst (λ (u : Turn). Takes u most) e m
+pub took : {E : Type 0} {p : Result ℕ E} {n most : ℕ} → p ≡ Ok n → Takes p most → (1 ≤ n) × (n ≤ most)
+took {E} {p} {n} {most} e m = subst (λ (u : Result ℕ E). Takes u most) e m

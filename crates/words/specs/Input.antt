@@ -1,28 +1,18 @@
 -- Counts of bytes read that lie in a buffer of so many bytes.
-use Rattle.std.specs.Prelude.{ℕ, ◌≤◌}
-use Rattle.words.specs.declared.input.Turn.{Turn}
-use Rattle.words.specs.declared.input.Turn.TheVariants as turn
-use Rattle.words.specs.declared.input.Reached.{Reached}
-use Rattle.words.specs.declared.input.Reached.TheVariants as reached
-use Rattle.words.specs.declared.input.Input.{Input}
-use Rattle.words.specs.declared.input.Input.TheVariants as input
+use Rattle.std.specs.Prelude.{ℕ, ◌≤◌, Option, Some, None, Result, Ok, Err}
 
 -- One read: at least a byte, or it is told apart.
-abbrev pub Moves : Turn → ℕ → Type 0
-Moves (turn.Got n) most = (1 ≤ n) × (n ≤ most)
-Moves turn.End most = Unit {0}
-Moves (turn.Interrupted why) most = Unit {0}
-Moves (turn.Failed why) most = Unit {0}
+abbrev pub Moves : {E : Type 0} → Result (Option ℕ) E → ℕ → Type 0
+Moves (Ok (Some n)) most = (1 ≤ n) × (n ≤ most)
+Moves (Ok None) most = Unit {0}
+Moves (Err why) most = Unit {0}
 
 -- A buffer that was filled to where the file ended.
-abbrev pub Fills : Reached → ℕ → Type 0
-Fills reached.Full most = Unit {0}
-Fills (reached.Ended n) most = n ≤ most
-Fills (reached.Failed why) most = Unit {0}
+abbrev pub Fills : {E : Type 0} → Result ℕ E → ℕ → Type 0
+Fills (Ok n) most = n ≤ most
+Fills (Err why) most = Unit {0}
 
 -- A whole file.
-abbrev pub Holds : Input → ℕ → Type 0
-Holds (input.Whole n) most = n ≤ most
-Holds input.Longer most = Unit {0}
-Holds input.Changed most = Unit {0}
-Holds (input.Failed why) most = Unit {0}
+abbrev pub Holds : {E : Type 0} → Result ℕ E → ℕ → Type 0
+Holds (Ok n) most = n ≤ most
+Holds (Err why) most = Unit {0}

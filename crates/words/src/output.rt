@@ -10,69 +10,88 @@ ghost use Rattle.std.specs.Prelude.{length};
 ghost use Rattle.words.specs.Output.{Takes};
 
 use crate::error;
+use std::fmt::Display;
 use std::io;
-use std::io::ErrorKind;
+use std::io::{ErrorKind, Write};
 
-// How often a write that takes nothing is tried again.
+// How often a write that takes nothing is tried again: std's own gives up at the first that takes none.
 const TRIES: u32 = 1000000;
 
-// What one write did.
-#[derive(Drop)]
-enum Turn {
-    // So many bytes were taken, at least one.
-    Took(usize),
-    // None was: it was interrupted, or took none.
-    Nothing(io::Error),
-    Failed(io::Error),
-}
-
-fn put_some(to: &impl Print, s: &[u8]) -> Turn
+// One write: how many bytes were taken, at least one, or why none was.
+fn put_some(to: &impl Print, s: &[u8]) -> io::Result<usize>
     ensures { Takes result (length s.now) }
 {
-    match to.write_some(s) {
-        Ok(0) => Turn::Nothing(io::Error::from(ErrorKind::WriteZero)),
-        Ok(n) => Turn::Took(n),
-        Err(why) if why.kind() == ErrorKind::Interrupted => Turn::Nothing(why),
-        Err(why) => Turn::Failed(why),
+    match to.write_some(s)? {
+        0 => Err(io::Error::from(ErrorKind::WriteZero)),
+        n => Ok(n),
     }
 }
 
+// Whether another write may go through.
+fn passes(why: io::Error) -> bool {
+    matches!(why.kind(), ErrorKind::Interrupted | ErrorKind::WriteZero)
+}
+
 // Writes all of the bytes; where that was not done, why.
-fn put(to: &impl Print, s: &[u8]) -> io::Result<()> {
-    let mut done: usize = 0;
+pub fn put(to: &impl Print, s: &[u8]) -> io::Result<()> {
+    let mut rest = s;
     let mut tries = TRIES;
-    while done < s.len() {
-        match put_some(to, &s[done..]) {
-            Turn::Took(n) => {
-                done += n;
-            }
-            Turn::Nothing(why) => {
-                if tries == 0 {
-                    return Err(why);
-                }
-                tries -= 1;
-            }
-            Turn::Failed(why) => {
-                return Err(why);
-            }
+    while !rest.is_empty() {
+        match put_some(to, rest) {
+            Ok(n) => rest = &rest[n..],
+            Err(why) if passes(why) && 0 < tries => tries -= 1,
+            Err(why) => return Err(why),
         }
     }
     Ok(())
 }
 
+// The pieces of what is formatted, each written whole.
+#[derive(Drop)]
+struct Pieces<'a, P>(&'a P);
+
+impl<P: Print> Write for Pieces<'_, P> {
+    fn write(&mut self, buf: &[u8]) -> io::Result<usize> {
+        put(self.0, buf)?;
+        Ok(buf.len())
+    }
+
+    fn flush(&mut self) -> io::Result<()> {
+        Ok(())
+    }
+
+    fn write_all(&mut self, buf: &[u8]) -> io::Result<()> {
+        put(self.0, buf)
+    }
+}
+
+// Standard output, to which the programs print.
+#[derive(Drop)]
+pub struct Answers<P>(pub P);
+
+impl<P: Print> Print for Answers<P> {
+    fn print<D: Display + Drop>(&self, value: D) -> io::Result<()> {
+        Pieces(&self.0).write_fmt(value)
+    }
+
+    fn println<D: Display + Drop>(&self, value: D) -> io::Result<()> {
+        Pieces(&self.0).writeln(value)
+    }
+
+    fn write_all(&self, bytes: &[u8]) -> io::Result<()> {
+        put(&self.0, bytes)
+    }
+
+    fn write_some(&self, bytes: &[u8]) -> io::Result<usize> {
+        self.0.write_some(bytes)
+    }
+}
+
 // Said last, where a write of an answer failed.
 pub fn end_output(err: &impl Print, why: io::Error) {
     error::failed(err, b"standard output", why);
-    let _ = put(
+    error::say(
         err,
-        b"the output is not whole: a write failed, and nothing behind it was written\n",
+        "the output is not whole: a write failed, and nothing behind it was written\n",
     );
-}
-
-pub fn answer(out: &impl Print, s: &[u8]) -> io::Result<()> {
-    put(out, s)
-}
-
-pub fn error(err: &impl Print, s: &[u8]) {
-    let _ = put(err, s);
 }
