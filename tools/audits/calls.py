@@ -67,14 +67,47 @@ def call_of(name, node, head):
     return Call(name, node, tuple(parameters), returns, tuple(clauses), "".join([*behind, rest[last:]]).strip(" \n{"))
 
 
+def hidden(code, node):
+    """Whether callers can't name what a module declares: it isn't `pub`, or a module on the way to it isn't, and no `pub use` passes it on."""
+    crate, module, name = node
+    parts = module.split("::") if module else []
+    open_way = all(code.modules[crate, "::".join(parts[:k])].children.get(parts[k]) for k in range(len(parts)))
+    passed = any(code.resolve(owner, where, path) in (node, (crate, module, None)) for (owner, where), held in code.modules.items() for _, path in held.passed)
+    return not passed and not (open_way and code.item(node).public)
+
+
+def without_hidden(code, crate, module, text):
+    """The text with the traits that callers can't name, and their `impl`s, blanked: no caller reaches a function of theirs."""
+    for item in code.modules[crate, module].items.values():
+        trait = item.name.split(" for ")[0]
+        found = code.resolve(crate, module, trait) if item.kind in ("trait", "impl") else None
+        if found and found[0] == crate and found[2] and code.item(found).kind == "trait" and hidden(code, found):
+            text = text[: item.start] + re.sub(r"[^\n]", " ", text[item.start : item.end]) + text[item.end :]
+    return text
+
+
+CONVERSION = re.compile(r"^impl From<[\w:<>]+> for \w+ \{\n(?P<body>.*?)^\}", re.M | re.S)
+GIVES = re.compile(r"^    ghost from_gives = \{ λ (\w+) (\w+)\. \2 ≡ (?P<what>[^;=]+) \};\n\s*^    fn from\([^)\n]*\) -> \w+ \{$", re.M)
+
+
+def without_conversions(text):
+    """The text with each `impl From` blanked that has the function `from` alone and says by an equation what it gives."""
+    def blank(m):
+        gives = GIVES.match(m["body"])
+        told = gives and gives[2] not in re.findall(r"\w+", gives["what"]) and m["body"].count("fn ") == 1 and m["body"].count("ghost ") == 1
+        return re.sub(r"[^\n]", " ", m[0]) if told else m[0]
+    return CONVERSION.sub(blank, text)
+
+
 def all_is_read(code, crate, report):
-    """Every function, module and `pub use` of a crate is one that was found: none is indented, or made by a macro or an `impl`."""
+    """Every function, module and `pub use` of a crate is one that was found: none is indented, or made by a macro or an `impl`, but for those
+    of a trait that callers can't name, and for conversions whose answer an equation gives."""
     for (owner, module), held in code.modules.items():
         if owner != crate:
             continue
         path = code.paths[owner, module]
         text = without_comments(code.repository.text(path))
-        bare = without_clauses(text)
+        bare = without_clauses(without_conversions(without_hidden(code, crate, module, text)))
         unread = [name for name in re.findall(r"\bfn\s+(\w+)", bare) if name not in held.items or held.items[name].kind != "fn"]
         unread += [name for name in re.findall(r"\bmod\s+(\w+)", bare) if name not in held.children]
         unread += ["pub use"] * (len(re.findall(r"\bpub\s+use\b", bare)) != len(re.findall(r"^pub use ", bare, re.M)))

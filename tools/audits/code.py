@@ -1,7 +1,7 @@
 """Rattle code as text: the items of each module, what its `use` and `mod` lines name, and what a path written in it means.
 
-An item is a function, a constant or a type, called by (crate, module, name); the module of src/lib.rt and src/main.rt is "", that of
-src/a.rt is "a", that of src/a/b.rt is "a::b".
+An item is a function, a constant, a type, a trait or an `impl`, called by (crate, module, name); the module of src/lib.rt and src/main.rt
+is "", that of src/a.rt is "a", that of src/a/b.rt is "a::b". An `impl Trait for Type` is called "Trait for Type".
 """
 import re
 from dataclasses import dataclass
@@ -12,6 +12,9 @@ ITEM = re.compile(
     r"^(?P<marks>(?:#\[[^\]\n]*\]\n)*)(?P<open>pub(?:\([^)\n]*\))? )?(?:(?:extern \"C\"|unsafe|const(?= fn)) )*(?P<kind>fn|const|static|struct|enum|type) (?P<name>\w+)",
     re.M,
 )
+TRAIT = re.compile(r"^(?P<open>pub(?:\([^)\n]*\))? )?trait (?P<name>\w+)[^\n{]*\{$", re.M)
+IMPL = re.compile(r"^impl (?P<trait>\w+) for (?P<type>\w+) \{$", re.M)
+AT_TYPE = re.compile(r"(?<![\w.'])(?P<path>[A-Za-z_]\w*(?:::[A-Za-z_]\w*)*)::<(?P<type>\w+)>\(")
 USE = re.compile(r"^(?P<open>pub(?:\([^)\n]*\))? )?use (?P<path>[^;]+);", re.M)
 MOD = re.compile(r"^(?P<open>pub(?:\([^)\n]*\))? )?mod (?P<name>\w+)(?P<end>;| \{)", re.M)
 GHOST = re.compile(r"^ghost use (?P<path>[^;]+);", re.M)
@@ -105,6 +108,13 @@ def module_of(text):
         whole = plain[m.start() : end]
         head = whole.split("\n{\n", 1)[0]
         items[m["name"]] = Item(m["name"], m["kind"], m["open"] == "pub ", m.start(), end, head, whole)
+    for kind, pattern in (("trait", TRAIT), ("impl", IMPL)):
+        for m in pattern.finditer(plain):
+            stop = re.search(r"^\}", plain[m.end() :], re.M)
+            end = m.end() + (stop.end() if stop else len(plain))
+            name = m["name"] if kind == "trait" else f"{m['trait']} for {m['type']}"
+            public = kind == "trait" and m["open"] == "pub "
+            items[name] = Item(name, kind, public, m.start(), end, m[0], plain[m.start() : end])
     uses, passed = {}, []
     for m in USE.finditer(plain):
         for name, path in spread(m["path"]):
@@ -181,14 +191,32 @@ class Code:
                 return crate, module, name
         return None
 
+    def bounds(self, node):
+        """The traits of this repository that a generic function's parameters are bound by."""
+        crate, module, name = node
+        parameters = re.search(rf"\bfn {name}<([^>]*)>", self.item(node).head)
+        for word in re.findall(r"\w+", parameters[1]) if parameters else ():
+            found = self.resolve(crate, module, word)
+            if found and found[2] and self.item(found).kind == "trait":
+                yield found
+
     def mentioned(self, node):
-        """The items that an item's code names: functions that it calls, constants, types."""
+        """The items that an item's code names: functions that it calls, constants, types; where it calls one at a type, as `f::<u8>(..)`,
+        what the type's `impl` of each bound of `f` gives."""
         crate, module, _ = node
         text = without_clauses(self.item(node).text)
         for m in PATH.finditer(text):
             found = self.resolve(crate, module, m[0])
             if found and found[2] and (self.item(found).kind != "fn" or text[m.end() :].lstrip()[:1] in ("(", "<")):
                 yield found
+        for m in AT_TYPE.finditer(text):
+            found = self.resolve(crate, module, m["path"])
+            if found and found[2] and self.item(found).kind == "fn":
+                yield found
+                for owner, place, trait in self.bounds(found):
+                    given = f"{trait} for {m['type']}"
+                    if given in self.modules[owner, place].items:
+                        yield owner, place, given
 
     def clauses(self, node):
         """The propositions that an item's contract states."""

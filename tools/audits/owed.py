@@ -38,9 +38,9 @@ IN_PARTS = {
 WIDTH_OF = ("geometry", "specs/Movements", "width_of")
 ROTATION_KIND = ("exports", "specs/MoveResults", "rotation_kind_lem")
 FINITE = {
-    "VectorRead": ("FiniteAnswer", None),
-    "RotationRead": ("SoundRotationAnswer", ("width",)),
-    "MovementRead": ("SoundMovementAnswer", (WIDTH_OF, "rotation")),
+    "Result<Read<Vector>, Refusal>": ("FiniteAnswer", None),
+    "Result<Read<Rotation>, Refusal>": ("SoundRotationAnswer", ("width",)),
+    "Result<Read<Movement>, Refusal>": ("SoundMovementAnswer", (WIDTH_OF, "rotation")),
     "VrfVector": ("FiniteInC", None),
     "VrfRotation": ("SoundRotationInC", ("width",)),
     "VrfMovement": ("SoundMovementInC", (WIDTH_OF, ROTATION_KIND, "rotation")),

@@ -74,7 +74,7 @@ def body_of(text, start):
 
 
 def said_by_tell(text):
-    arms = re.findall(r'^ {8}(\d+) => error::text\(\s*err,\s*b"([^"]*)",?\s*\),', body_of(text, r"^fn meaning\("), re.M)
+    arms = re.findall(r'^ {8}(\d+) => *(?:\{?\s*)"([^"]*)"(?:\s*\}|,)', body_of(text, r"^fn meaning\("), re.M)
     return {int(n): one_line(said) for n, said in arms}
 
 

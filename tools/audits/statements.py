@@ -180,31 +180,30 @@ STATED = {
         StaysInC at r = at < 2 ^ 64 → (r.refusal ≡ 0 → ⊥) → r.position ≡ at
         """,
     ("promises", "specs/Finite"): """
-        use Rattle.std.specs.Prelude.{ℕ, ◌≡◌, true}
+        use Rattle.std.specs.Prelude.{ℕ, ◌≡◌, true, Result, Ok, Err}
         use Rattle.geometry.specs.Finite.{AllFinite, FiniteVector, AllExact, ExactRotation, SoundMovement}
-        use Rattle.geometry.specs.declared.VectorRead.{VectorRead}
-        use Rattle.geometry.specs.declared.VectorRead.TheVariants as Vec
-        use Rattle.geometry.specs.declared.RotationRead.{RotationRead}
-        use Rattle.geometry.specs.declared.RotationRead.TheVariants as R
-        use Rattle.geometry.specs.declared.MovementRead.{MovementRead}
-        use Rattle.geometry.specs.declared.MovementRead.TheVariants as M
+        use Rattle.bitio.specs.declared.Read.{Read}
+        use Rattle.geometry.specs.declared.Refusal.{Refusal}
+        use Rattle.geometry.specs.declared.Vector.{Vector}
+        use Rattle.geometry.specs.declared.Rotation.{Rotation}
+        use Rattle.geometry.specs.declared.Movement.{Movement}
         use Rattle.exports.specs.declared.VrfXyz.{VrfXyz}
         use Rattle.exports.specs.declared.VrfAngles.{VrfAngles}
         use Rattle.exports.specs.declared.VrfVector.{VrfVector}
         use Rattle.exports.specs.declared.VrfRotation.{VrfRotation}
         use Rattle.exports.specs.declared.VrfMovement.{VrfMovement}
 
-        abbrev pub FiniteAnswer : VectorRead → Type 0
-        FiniteAnswer (Vec.Value v p) = FiniteVector v
-        FiniteAnswer (Vec.Refused r) = Unit {0}
+        abbrev pub FiniteAnswer : Result (Read Vector) Refusal → Type 0
+        FiniteAnswer (Ok v) = FiniteVector v.value
+        FiniteAnswer (Err r) = Unit {0}
 
-        abbrev pub SoundRotationAnswer : (w : ℕ) → RotationRead → Type 0
-        SoundRotationAnswer w (R.Value v p) = ExactRotation w v
-        SoundRotationAnswer w (R.Refused r) = Unit {0}
+        abbrev pub SoundRotationAnswer : (w : ℕ) → Result (Read Rotation) Refusal → Type 0
+        SoundRotationAnswer w (Ok v) = ExactRotation w v.value
+        SoundRotationAnswer w (Err r) = Unit {0}
 
-        abbrev pub SoundMovementAnswer : (w : ℕ) → MovementRead → Type 0
-        SoundMovementAnswer w (M.Value m p) = SoundMovement w m
-        SoundMovementAnswer w (M.Refused r) = Unit {0}
+        abbrev pub SoundMovementAnswer : (w : ℕ) → Result (Read Movement) Refusal → Type 0
+        SoundMovementAnswer w (Ok m) = SoundMovement w m.value
+        SoundMovementAnswer w (Err r) = Unit {0}
 
         abbrev pub FiniteXyz : VrfXyz → Type 0
         FiniteXyz v = AllFinite v.x v.y v.z
@@ -228,10 +227,11 @@ STATED = {
         SoundMovementInC w r = r.refusal ≡ 0 → SoundMovementFields w r
         """,
     ("promises", "specs/Padded"): """
-        use Rattle.std.specs.Prelude.{ℕ, ◌+◌, ◌*◌, ◌≡◌, Bool, true, false}
+        use Rattle.std.specs.Prelude.{ℕ, ◌+◌, ◌*◌, ◌≡◌, Bool, true, false, Result, Ok, Err}
         use Rattle.bits.specs.Padded.{ShorterForm}
-        use Rattle.bitio.specs.declared.PackedRead.{PackedRead}
-        use Rattle.bitio.specs.declared.PackedRead.TheVariants as P
+        use Rattle.bitio.specs.declared.PackedNumber.{PackedNumber}
+        use Rattle.bitio.specs.declared.Read.{Read}
+        use Rattle.bitio.specs.declared.Refusal.{Refusal}
         use Rattle.exports.specs.declared.VrfPacked.{VrfPacked}
         use Rattle.promises.specs.Verdicts.{Exactly}
 
@@ -239,9 +239,9 @@ STATED = {
           pub took : next ≡ at + 8 * bytes
           pub shorter : Exactly (padded ≡ true) (ShorterForm value bytes)
 
-        abbrev pub PaddedAnswer : (at : ℕ) → PackedRead → Type 0
-        PaddedAnswer at (P.Value x next) = Told at x.value x.bytes next x.padded
-        PaddedAnswer at (P.Refused r) = Unit {0}
+        abbrev pub PaddedAnswer : (at : ℕ) → Result (Read PackedNumber) Refusal → Type 0
+        PaddedAnswer at (Ok x) = Told at x.value.value x.value.bytes x.next x.value.padded
+        PaddedAnswer at (Err r) = Unit {0}
 
         pub record PaddedInC (at : ℕ) (r : VrfPacked) : Type 0 where
           pub accepted : r.refusal ≡ 0 → Told at r.value r.bytes r.position r.padded
@@ -249,21 +249,17 @@ STATED = {
           pub refused_padded : (r.refusal ≡ 0 → ⊥) → r.padded ≡ false
         """,
     ("promises", "specs/PaddedCounts"): """
-        use Rattle.std.specs.Prelude.{ℕ, ◌*◌, ◌≤◌, ◌≡◌, true, List}
-        use Rattle.std.proofs.Math.Option.{some}
+        use Rattle.std.specs.Prelude.{ℕ, ◌*◌, ◌≤◌, ◌≡◌, true, List, Some, Result, Ok, Err}
         use Rattle.bits.specs.Members.{All}
         use Rattle.bits.specs.Packed.{Number}
         use Rattle.bits.specs.Padded.{is_padded, padded_among, ShorterForm}
         use Rattle.framing.specs.Events.{taken}
         use Rattle.outputs.specs.Answers.{Call, trace_of, pair_trace}
-        use Rattle.array.specs.declared.StructArray.{StructArray}
-        use Rattle.array.specs.declared.StructArray.TheVariants as structs
-        use Rattle.array.specs.declared.ObjectArray.{ObjectArray}
-        use Rattle.array.specs.declared.ObjectArray.TheVariants as objects
+        use Rattle.array.specs.Refusals.{StructArray, ObjectArray}
         use Rattle.fastarray.specs.Answers as F
         use Rattle.fastarray.specs.Body.{Body, numbers_of}
-        use Rattle.fastarray.specs.declared.FastArray.{FastArray}
-        use Rattle.fastarray.specs.declared.FastArray.TheVariants as body
+        use Rattle.fastarray.specs.declared.Delta.{Delta}
+        use Rattle.fastarray.specs.declared.Refusal.{Refusal}
         use Rattle.exports.specs.declared.VrfWalk.{VrfWalk}
         use Rattle.exports.specs.declared.VrfObjects.{VrfObjects}
         use Rattle.exports.specs.declared.VrfFastArray.{VrfFastArray}
@@ -275,26 +271,21 @@ STATED = {
           pub bounded : 16 * n ≤ bits
 
         abbrev pub CountsTaken : Call → StructArray → Type 0
-        CountsTaken call (structs.Decoded st v e p) = Counts (taken (trace_of call)) call.bits p
-        CountsTaken call structs.TooLong = Unit {0}
-        CountsTaken call structs.BrokenTables = Unit {0}
-        CountsTaken call (structs.Short e) = Unit {0}
+        CountsTaken call (Ok w) = Counts (taken (trace_of call)) call.bits w.padded
+        CountsTaken call (Err why) = Unit {0}
 
         abbrev pub CountsInPairs : (bytes : List ℕ) (bits : ℕ) → ObjectArray → Type 0
-        CountsInPairs bytes bits (objects.Decoded st v n p) = Counts (taken (pair_trace bytes bits)) bits p
-        CountsInPairs bytes bits objects.TooLong = Unit {0}
-        CountsInPairs bytes bits (objects.Short n) = Unit {0}
+        CountsInPairs bytes bits (Ok w) = Counts (taken (pair_trace bytes bits)) bits w.padded
+        CountsInPairs bytes bits (Err why) = Unit {0}
 
         pub record BodyCounts (call : F.Call) (n : ℕ) : Type 0 where
           pub body : Body
-          pub holds : F.found call ≡ some body
+          pub holds : F.found call ≡ Some body
           pub counts : Counts (numbers_of (body).items) call.bits n
 
-        abbrev pub CountsInBody : F.Call → FastArray → Type 0
-        CountsInBody call (body.Decoded d) = BodyCounts call d.padded
-        CountsInBody call body.TooLong = Unit {0}
-        CountsInBody call body.NotFastArray = Unit {0}
-        CountsInBody call (body.Short d i f) = Unit {0}
+        abbrev pub CountsInBody : F.Call → Result Delta Refusal → Type 0
+        CountsInBody call (Ok d) = BodyCounts call d.padded
+        CountsInBody call (Err e) = Unit {0}
 
         pub record CountsTakenInC (call : Call) (r : VrfWalk) : Type 0 where
           pub accepted : r.refusal ≡ 0 → Counts (taken (trace_of call)) call.bits r.padded
@@ -309,45 +300,39 @@ STATED = {
           pub refused : (r.refusal ≡ 0 → ⊥) → r.padded ≡ 0
         """,
     ("promises", "specs/PaddedMovements"): """
-        use Rattle.std.specs.Prelude.{ℕ, ◌+◌, ◌≡◌, Bool, true, false, List}
-        use Rattle.bits.specs.Packed.{packed}
+        use Rattle.std.specs.Prelude.{ℕ, ◌+◌, ◌≡◌, Bool, true, false, List, Option, None, Some, Result, Ok, Err}
+        use Rattle.bits.specs.Packed.{whole, packed}
         use Rattle.bits.specs.Padded.{once}
-        use Rattle.bits.specs.declared.Packed.TheVariants.{Whole}
         use Rattle.bitio.specs.Cursors.{window}
         use Rattle.bitio.specs.declared.Cursor.{Cursor}
-        use Rattle.geometry.specs.Parts.{at}
+        use Rattle.bitio.specs.declared.Read.{Read}
+        use Rattle.geometry.specs.Parts.{at, up_to}
         use Rattle.geometry.specs.Movements.{flags_at, pose_at, spin_at}
-        use Rattle.geometry.specs.declared.Spin.{Spin}
-        use Rattle.geometry.specs.declared.OptionalNumber.{OptionalNumber}
-        use Rattle.geometry.specs.declared.OptionalNumber.TheVariants as number
         use Rattle.geometry.specs.declared.Movement.{Movement}
-        use Rattle.geometry.specs.declared.MovementRead.{MovementRead}
-        use Rattle.geometry.specs.declared.MovementRead.TheVariants as M
+        use Rattle.geometry.specs.declared.Refusal.{Refusal}
+        use Rattle.geometry.specs.declared.Vector.{Vector}
         use Rattle.geometry.specs.declared.RotatorQuantization.{RotatorQuantization}
         use Rattle.geometry.specs.declared.VectorQuantization.{VectorQuantization}
         use Rattle.geometry.specs.declared.movements.Flags.{Flags}
-        use Rattle.geometry.specs.declared.movements.FlagsRead.TheVariants as F
         use Rattle.geometry.specs.declared.movements.Pose.{Pose}
-        use Rattle.geometry.specs.declared.movements.PoseRead.TheVariants as Q
-        use Rattle.geometry.specs.declared.movements.SpinRead.TheVariants as S
         use Rattle.exports.specs.MoveResults.{moved_result, rotation_kind_lem, location_kind_lem}
         use Rattle.exports.specs.declared.VrfMovement.{VrfMovement}
         use Rattle.promises.specs.Padded.{Told}
 
         pub record Stands (W len p value : ℕ) (padded : Bool) (q : ℕ) : Type 0 where
           pub bytes : ℕ
-          pub reads : packed W len p ≡ Whole value bytes
+          pub reads : packed W len p ≡ whole value bytes
           pub told : Told p value bytes q padded
 
-        abbrev pub MayStand : (W len p : ℕ) (flag : Bool) → OptionalNumber → (padded : Bool) (q : ℕ) → Type 0
-        MayStand W len p false number.Absent b q = (b ≡ false) × (q ≡ p)
-        MayStand W len p false (number.Present v) b q = ⊥
-        MayStand W len p true number.Absent b q = ⊥
-        MayStand W len p true (number.Present v) b q = Stands W len p v b q
+        abbrev pub MayStand : (W len p : ℕ) (flag : Bool) → Option ℕ → (padded : Bool) (q : ℕ) → Type 0
+        MayStand W len p false None b q = (b ≡ false) × (q ≡ p)
+        MayStand W len p false (Some v) b q = ⊥
+        MayStand W len p true None b q = ⊥
+        MayStand W len p true (Some v) b q = Stands W len p v b q
 
-        pub record CountsTwo (s : List ℕ) (f : Flags) (c : Cursor) (angular : Spin) (frame handle : OptionalNumber) (n next : ℕ) : Type 0 where
+        pub record CountsTwo (s : List ℕ) (f : Flags) (c : Cursor) (angular : Option Vector) (frame handle : Option ℕ) (n next : ℕ) : Type 0 where
           pub behind_spin : ℕ
-          pub spin_read : spin_at s f.physics c ≡ S.Value angular behind_spin
+          pub spin_read : spin_at s f.physics c ≡ Ok (up_to angular behind_spin)
           pub frame_padded : Bool
           pub behind_frame : ℕ
           pub frame_stands : MayStand (window s c) c.len behind_spin f.frame frame frame_padded behind_frame
@@ -358,20 +343,20 @@ STATED = {
         pub record CountsBehind (s : List ℕ) (rotation : RotatorQuantization) (location : VectorQuantization) (c : Cursor) (m : Movement) (next : ℕ) : Type 0 where
           pub flags : Flags
           pub behind_flags_lem : ℕ
-          pub flags_read : flags_at s c ≡ F.Value flags behind_flags_lem
+          pub flags_read : flags_at s c ≡ Ok (up_to flags behind_flags_lem)
           pub pose : Pose
           pub behind_pose_lem : ℕ
-          pub pose_read : pose_at s rotation location (at c behind_flags_lem) ≡ Q.Value pose behind_pose_lem
+          pub pose_read : pose_at s rotation location (at c behind_flags_lem) ≡ Ok (up_to pose behind_pose_lem)
           pub numbers : CountsTwo s flags (at c behind_pose_lem) m.angular m.frame m.handle m.padded next
 
-        abbrev pub CountsAt : (s : List ℕ) (rotation : RotatorQuantization) (location : VectorQuantization) → Cursor → MovementRead → Type 0
-        CountsAt s rotation location c (M.Value m next) = CountsBehind s rotation location c m next
-        CountsAt s rotation location c (M.Refused r) = Unit {0}
+        abbrev pub CountsAt : (s : List ℕ) (rotation : RotatorQuantization) (location : VectorQuantization) → Cursor → Result (Read Movement) Refusal → Type 0
+        CountsAt s rotation location c (Ok m) = CountsBehind s rotation location c m.value m.next
+        CountsAt s rotation location c (Err r) = Unit {0}
 
         abbrev pub first_bits : (bits : ℕ) → Cursor
         first_bits n = record { start = 0; pos = 0; len = n }
 
-        abbrev pub CountsInMovement : (bytes : List ℕ) (bits : ℕ) (rotation : RotatorQuantization) (location : VectorQuantization) → MovementRead → Type 0
+        abbrev pub CountsInMovement : (bytes : List ℕ) (bits : ℕ) (rotation : RotatorQuantization) (location : VectorQuantization) → Result (Read Movement) Refusal → Type 0
         CountsInMovement s n rotation location r = CountsAt s rotation location (first_bits n) r
 
         pub record MovementInC (bytes : List ℕ) (bits rotation location : ℕ) (r : VrfMovement) : Type 0 where
@@ -385,7 +370,7 @@ STATED = {
           pub refused : (r.refusal ≡ 0 → ⊥) → r.padded ≡ 0
         """,
     ("promises", "specs/Places"): """
-        use Rattle.std.specs.Prelude.{ℕ, ◌+◌, ◌≤◌, ◌<◌, ◌≡◌, List, length, take, drop}
+        use Rattle.std.specs.Prelude.{ℕ, ◌+◌, ◌≤◌, ◌<◌, ◌≡◌, List, length, take, drop, Ok, Err}
         use Rattle.bits.specs.Members.{StandsAt}
         use Rattle.framing.specs.Windows.{window_of}
         use Rattle.framing.specs.Events.{Leaf, leaves}
@@ -394,9 +379,7 @@ STATED = {
         use Rattle.framing.specs.Refusing.{Room}
         use Rattle.outputs.specs.Records.{leaf_number}
         use Rattle.outputs.specs.Answers.{Call, Lent, trace_of}
-        use Rattle.array.specs.Refusals.{room_in}
-        use Rattle.array.specs.declared.StructArray.{StructArray}
-        use Rattle.array.specs.declared.StructArray.TheVariants as structs
+        use Rattle.array.specs.Refusals.{StructArray, room_in}
         use Rattle.exports.specs.WalkResults.{filled_in}
         use Rattle.exports.specs.declared.VrfWalk.{VrfWalk}
 
@@ -425,10 +408,8 @@ STATED = {
           pub placed : Placed (window_of call.bytes call.bits) (trace_of call)
 
         abbrev pub PlacedLeaves : Call → StructArray → Lent → Type 0
-        PlacedLeaves call (structs.Decoded st v e p) x = LeavesFound call (room_in e) x
-        PlacedLeaves call structs.TooLong x = Unit {0}
-        PlacedLeaves call structs.BrokenTables x = Unit {0}
-        PlacedLeaves call (structs.Short e) x = Unit {0}
+        PlacedLeaves call (Ok w) x = LeavesFound call (room_in w.filled) x
+        PlacedLeaves call (Err why) x = Unit {0}
 
         abbrev pub PlacedLeavesInC : Call → VrfWalk → Lent → Type 0
         PlacedLeavesInC call r x = r.refusal ≡ 0 → LeavesFound call (filled_in r) x
@@ -528,7 +509,7 @@ STATED = {
           pub arrays : All (ArrayPlaced t) (arrays t)
         """,
     ("promises", "specs/Accounts"): """
-        use Rattle.std.specs.Prelude.{ℕ, zero, suc, ◌+◌, ◌≤◌, ◌<◌, ◌≡◌, List}
+        use Rattle.std.specs.Prelude.{ℕ, zero, suc, ◌+◌, ◌≤◌, ◌<◌, ◌≡◌, List, Ok, Err}
         use Rattle.bits.specs.Bits.{Bytes}
         use Rattle.framing.specs.Events.{Trace, raw_handle}
         use Rattle.framing.specs.Counters.{Counters, number_bits}
@@ -541,11 +522,7 @@ STATED = {
         use Rattle.outputs.specs.Records.{leaf_number}
         use Rattle.outputs.specs.Answers.{Call, Lent, trace_of, pair_trace}
         use Rattle.array.specs.Calls.{verdict_named}
-        use Rattle.array.specs.Refusals.{counters_of_lem, room_in}
-        use Rattle.array.specs.declared.StructArray.{StructArray}
-        use Rattle.array.specs.declared.StructArray.TheVariants as structs
-        use Rattle.array.specs.declared.ObjectArray.{ObjectArray}
-        use Rattle.array.specs.declared.ObjectArray.TheVariants as objects
+        use Rattle.array.specs.Refusals.{StructArray, ObjectArray, counters_of_lem, room_in}
         use Rattle.exports.specs.WalkResults.{counters_in, verdict_number_lem}
         use Rattle.exports.specs.declared.VrfWalk.{VrfWalk}
         use Rattle.exports.specs.declared.VrfObjects.{VrfObjects}
@@ -572,10 +549,8 @@ STATED = {
           pub same_start : start_of x i ≡ start_of x (suc i)
 
         abbrev pub OrderedLeaves : Call → StructArray → Lent → Type 0
-        OrderedLeaves call (structs.Decoded st v e p) x = RecordsInOrder x (room_in e).leaves
-        OrderedLeaves call structs.TooLong x = Unit {0}
-        OrderedLeaves call structs.BrokenTables x = Unit {0}
-        OrderedLeaves call (structs.Short e) x = Unit {0}
+        OrderedLeaves call (Ok w) x = RecordsInOrder x (room_in w.filled).leaves
+        OrderedLeaves call (Err why) x = Unit {0}
 
         abbrev pub OrderedLeavesInC : Call → VrfWalk → Lent → Type 0
         OrderedLeavesInC call r x = r.refusal ≡ 0 → RecordsInOrder x r.leaves
@@ -585,10 +560,8 @@ STATED = {
             Bytes call.bytes → (i : ℕ) → i < many → Copied call.bytes (start_of x i) (bits_of x i) x.payloads (payload_start_of x i)
 
         abbrev pub CopiedLeaves : Call → StructArray → Lent → Type 0
-        CopiedLeaves call (structs.Decoded st v e p) x = RecordsCopied call x (room_in e).leaves
-        CopiedLeaves call structs.TooLong x = Unit {0}
-        CopiedLeaves call structs.BrokenTables x = Unit {0}
-        CopiedLeaves call (structs.Short e) x = Unit {0}
+        CopiedLeaves call (Ok w) x = RecordsCopied call x (room_in w.filled).leaves
+        CopiedLeaves call (Err why) x = Unit {0}
 
         abbrev pub CopiedLeavesInC : Call → VrfWalk → Lent → Type 0
         CopiedLeavesInC call r x = r.refusal ≡ 0 → RecordsCopied call x r.leaves
@@ -608,18 +581,15 @@ STATED = {
         PairBitsAdd form bytes bits c v = BitsAccounted form object bits (pair_trace bytes bits) c v 0
 
         abbrev pub AccountedLeaves : Call → StructArray → Lent → Type 0
-        AccountedLeaves call (structs.Decoded st v e p) x = LeafBitsAdd verdict_named call (counters_of_lem st) v x (room_in e).leaves
-        AccountedLeaves call structs.TooLong x = Unit {0}
-        AccountedLeaves call structs.BrokenTables x = Unit {0}
-        AccountedLeaves call (structs.Short e) x = Unit {0}
+        AccountedLeaves call (Ok w) x = LeafBitsAdd verdict_named call (counters_of_lem w.stats) w.verdict x (room_in w.filled).leaves
+        AccountedLeaves call (Err why) x = Unit {0}
 
         abbrev pub AccountedLeavesInC : Call → VrfWalk → Lent → Type 0
         AccountedLeavesInC call r x = r.refusal ≡ 0 → LeafBitsAdd verdict_number_lem call (counters_in r.counters) r.verdict x r.leaves
 
         abbrev pub AccountedPairs : (bytes : List ℕ) (bits : ℕ) → ObjectArray → Type 0
-        AccountedPairs bytes bits (objects.Decoded st v n p) = PairBitsAdd verdict_named bytes bits (counters_of_lem st) v
-        AccountedPairs bytes bits objects.TooLong = Unit {0}
-        AccountedPairs bytes bits (objects.Short n) = Unit {0}
+        AccountedPairs bytes bits (Ok w) = PairBitsAdd verdict_named bytes bits (counters_of_lem w.stats) w.verdict
+        AccountedPairs bytes bits (Err why) = Unit {0}
 
         abbrev pub AccountedPairsInC : (bytes : List ℕ) (bits : ℕ) → VrfObjects → Type 0
         AccountedPairsInC bytes bits r = r.refusal ≡ 0 → PairBitsAdd verdict_number_lem bytes bits (counters_in r.counters) r.verdict
@@ -1039,7 +1009,18 @@ STATED = {
         numbers_of (x ∷ l) = x.numbers ++ numbers_of l
         """,
     ("bits", "specs/Packed"): """
-        use Rattle.std.specs.Prelude.{ℕ, ◌+◌, ◌*◌, List, [], ◌∷◌}
+        use Rattle.std.specs.Prelude.{ℕ, ◌+◌, ◌*◌, List, [], ◌∷◌, Result, Ok}
+        use Rattle.bits.specs.declared.Broken.{Broken}
+
+        pub record Whole : Type 0 where
+          pub value : ℕ
+          pub bytes : ℕ
+
+        abbrev pub Packed : Type 0
+        Packed = Result Whole Broken
+
+        abbrev pub whole : (value bytes : ℕ) → Packed
+        whole v n = Ok (record { value = v; bytes = n })
 
         pub record Number : Type 0 where
           pub start : ℕ
@@ -1065,8 +1046,7 @@ STATED = {
     ("bits", "specs/Padded"): """
         use Rattle.std.specs.Prelude.{ℕ, ◌+◌, ◌-◌, ◌*◌, ◌^◌, ◌<◌, ◌≡◌, Bool, ◌&&◌, List, ◌∷◌, ltb}
         use Rattle.std.specs.Prelude.{if◌then◌else◌}
-        use Rattle.bits.specs.Packed.{packed, Number}
-        use Rattle.bits.specs.declared.Packed.TheVariants.{Whole}
+        use Rattle.bits.specs.Packed.{whole, packed, Number}
 
         unfoldable pub padded : (value bytes : ℕ) → Bool
         padded v n = ltb 1 n && ltb v (2 ^ (7 * (n - 1)))
@@ -1086,17 +1066,15 @@ STATED = {
           pub size : ℕ
           pub place : ℕ
           pub fewer : ℕ
-          pub reads : packed window size place ≡ Whole value fewer
+          pub reads : packed window size place ≡ whole value fewer
           pub less : fewer < bytes
         """,
     ("geometry", "specs/Finite"): """
-        use Rattle.std.specs.Prelude.{ℕ, ◌^◌, ◌<◌, ◌≡◌, true, Float}
+        use Rattle.std.specs.Prelude.{ℕ, ◌^◌, ◌<◌, ◌≡◌, true, Float, Option, None, Some}
         use Rattle.std.specs.Float.Ieee.Scale.{finite}
         use Rattle.floats.specs.Numbers.{Angle}
         use Rattle.geometry.specs.declared.Vector.{Vector}
         use Rattle.geometry.specs.declared.Rotation.{Rotation}
-        use Rattle.geometry.specs.declared.Spin.{Spin}
-        use Rattle.geometry.specs.declared.Spin.TheVariants as spin
         use Rattle.geometry.specs.declared.Movement.{Movement}
 
         pub record AllFinite (x y z : Float) : Type 0 where
@@ -1120,9 +1098,9 @@ STATED = {
         abbrev pub ExactRotation : (w : ℕ) → Rotation → Type 0
         ExactRotation w v = AllExact w v.pitch v.yaw v.roll
 
-        abbrev pub FiniteSpin : Spin → Type 0
-        FiniteSpin spin.Absent = Unit {0}
-        FiniteSpin (spin.Present v) = FiniteVector v
+        abbrev pub FiniteSpin : Option Vector → Type 0
+        FiniteSpin None = Unit {0}
+        FiniteSpin (Some v) = FiniteVector v
 
         pub record SoundMovement (w : ℕ) (m : Movement) : Type 0 where
           pub finite_location : FiniteVector m.location
@@ -1136,8 +1114,7 @@ STATED = {
         use Rattle.framing.specs.Refusing.{Answer}
         use Rattle.outputs.specs.Answers.{pair_answer_of, final_pairs_of}
         use Rattle.array.specs.Calls.{PairsJudged}
-        use Rattle.array.specs.Refusals.{pairs_of}
-        use Rattle.array.specs.declared.ObjectArray.{ObjectArray}
+        use Rattle.array.specs.Refusals.{ObjectArray, pairs_of}
         use Rattle.exports.specs.WalkResults.{objects_result}
         use Rattle.exports.specs.declared.VrfObjects.{VrfObjects}
 
@@ -1266,17 +1243,15 @@ STATED = {
           pub not_empty : v ≡ form F.empty → ⊥
         """,
     ("promises", "specs/Totals"): """
-        use Rattle.std.specs.Prelude.{◌≡◌, true, false, List, ◌∷◌, ◌++◌, eqb}
+        use Rattle.std.specs.Prelude.{◌≡◌, true, false, List, ◌∷◌, ◌++◌, eqb, Ok, Err}
         use Rattle.std.proofs.Math.Option.{Option, none, some}
         use Rattle.std.specs.Prelude.{if◌then◌else◌}
         use Rattle.bits.specs.Members.{All, Reorders}
         use Rattle.framing.specs.Counters.{Counters, counted, sums, is_clean}
         use Rattle.framing.specs.Verdicts as F
         use Rattle.array.specs.Merges.{bounded}
-        use Rattle.array.specs.Refusals.{counters_of_lem}
+        use Rattle.array.specs.Refusals.{Merged, counters_of_lem}
         use Rattle.array.specs.declared.ArrayDecodeStats.{ArrayDecodeStats}
-        use Rattle.array.specs.declared.Merged.{Merged}
-        use Rattle.array.specs.declared.Merged.TheVariants as merged
         use Rattle.exports.specs.WalkResults.{counters_in, no_counters_lem}
         use Rattle.exports.specs.declared.VrfCounters.{VrfCounters}
         use Rattle.exports.specs.declared.VrfMerge.{VrfMerge}
@@ -1395,8 +1370,8 @@ STATED = {
             }
 
         abbrev pub sum_of : Merged → Option ArrayDecodeStats
-        sum_of (merged.Sum s) = some s
-        sum_of (merged.Overflow s) = none
+        sum_of (Ok s) = some s
+        sum_of (Err o) = none
 
         abbrev pub in_rattle : ReadAs ArrayDecodeStats Merged
         in_rattle = record { counts = counters_of_lem; zero = no_stats; sum_in = sum_of }

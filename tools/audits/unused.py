@@ -6,7 +6,7 @@
             (owed.py); what documents name in backquotes, a file that docs/PROMISES.md or docs/PORT.md names whole included; a law that a comment of
             its crate's definitions or code names so; what the audit and an edit's new text name
   import    a name that a `use` or `ghost use` line brings and the file doesn't have a second time; a module so brought whose names it
-            doesn't use. In code a `ghost use` serves contracts alone. `pub use` passes a name on and is not looked at
+            doesn't use. In code a `ghost use` serves contracts and ghost members alone. `pub use` passes a name on and is not looked at
   long      a line of 300 characters or more in a file of definitions or proofs; a line of a contract of over 160. `use` lines may be long
   chain     `.before` six times or more in a row, but for the line that names the place (`let at-start = c .before .. in`)
   sentence  a file of proofs/ that doesn't begin with a comment, unless it only answers `search rules`
@@ -35,13 +35,15 @@ DEEP = 6
 NAME = re.compile(r"«[^»\n]*»|[^\s(){}.;,@\"«»⌜⌝]+")
 CHAIN = re.compile(r"(?:\.before(?![^\s(){}.;,@\"«»])\s*){%d,}" % DEEP)
 NAMED = re.compile(r"^ *(?:let [\w-]+ = [\w-]+(?:\.before)+ in|[\w-]+ c = c(?:\.before)+)$")
-CLAUSE = re.compile(r"^ *(?:requires|ensures)\b[^{\n]*\{", re.M)
+CLAUSE = re.compile(r"^ *(?:(?:requires|ensures)\b[^{\n]*|(?:pub )?ghost \w+(?::| =) )\{", re.M)
 # traits of the library that may be brought for their methods alone
 TRAITS = {f"std::{path}" for path in ("env::Env", "fmt::Write", "io::BufRead", "io::Print", "io::Read", "io::Seek", "io::Write")}
 # `#[tactic(auto, using(crate::proofs::File::law), unfolding(bits::specs::Bits::field))]`
 TACTIC = re.compile(r"#!?\[tactic\((?P<said>[^\]]*)\)\]")
 CITED = re.compile(r"\b(?P<crate>\w+)::(?P<file>(?:specs|proofs)(?:::\w+)+)::(?P<name>[^\s(),:]+)")
 GHOST = re.compile(r"^ghost use (?P<path>[^;]+);\n?", re.M)
+# a ghost field of a struct, a ghost member of a trait or an impl
+MEMBER = re.compile(r"^\s+(?:pub )?ghost \w+(?:: | = )\{(?P<said>.*?)\}[,;]", re.M | re.S)
 QUOTED = re.compile(r"`([^`\n]+)`")
 PLACE = re.compile(r"(?P<crate>\w+)/(?P<file>(?:specs|proofs)/[\w/+-]+)(?:\.(?P<name>\S+))?")
 COMMENT = re.compile(r"(?:--|//) .*")
@@ -86,7 +88,7 @@ def used(name, names):
 
 
 def clauses(plain):
-    """(start, end) of each `requires` and `ensures` of a module of code."""
+    """(start, end) of each `requires`, `ensures`, ghost field and ghost member of a module of code."""
     for m in CLAUSE.finditer(plain):
         depth, at = 1, m.end()
         while depth and at < len(plain):
@@ -234,7 +236,7 @@ def brought(part):
 def idle_in_code(text, extra=""):
     """The same for a module of code, with the place and the length of each line in the text."""
     plain = code_without_comments(text)
-    held = " ".join(plain[a:b] for a, b in clauses(plain)) + " " + extra
+    held = " ".join([*(plain[a:b] for a, b in clauses(plain)), *(m["said"] for m in MEMBER.finditer(plain)), extra])
     ghosts = bare_names(held)
     for m in GHOST.finditer(plain):
         scope = File({}, {}, {}, {})

@@ -26,10 +26,12 @@ fn f(x: u64) -> u64
 }
 """,
     "crates/a/src/m.rt": f"""\
+ghost use Rattle.std.specs.Prelude.{{◌≤◌}};
 ghost use Rattle.a.specs.Words.{{answer}};
 
 pub struct Held {{
     x: u64,
+    pub ghost small: {{ x ≤ 9 }},
 }}
 
 pub fn place(x: u64) -> u64

@@ -26,7 +26,9 @@ VERDICT_NAMED = ("array", "specs/Calls", "verdict_named")
 VERDICT_NUMBER = ("exports", "specs/WalkResults", "verdict_number_lem")
 # the walk that a call of `array` is: its arguments, by their places among the call's
 WALKERS = {"struct_call": ("struct", (2, 4)), "exact_call": ("exact", (2, 3))}
-ACCEPTED = {"Decoded"}
+# an accepted answer of a call of `array`, and what a walk gives
+OK = ("library", "Rattle.std.specs.Prelude", "Ok")
+WALKED = "Result<Walked<"
 
 
 def named(meaning):
@@ -49,7 +51,7 @@ def walker_in(premise):
 class WalkShapes(Spoken):
     @property
     def in_rattle(self):
-        """Whether the call answers by an enum; else by a struct for C."""
+        """Whether the call answers by a Result; else by a struct for C."""
         return self.call.name.startswith("array::")
 
     def ends_in(self, statement, word, expected):
@@ -80,9 +82,9 @@ class WalkShapes(Spoken):
         pairs = head(arguments(rest[0])[0]) is None
         windows = (longer, n, m) if pairs else (arguments(rest[0])[0], arguments(rest[1])[0])
         if self.in_rattle:
-            (_, v, e, _), (_, w, f, _) = [[("var", name) for name in names] for names in told]
-            filled = (e, f) if pairs else (applied(ROOM_IN, e), applied(ROOM_IN, f))
-            word, expected = "PairsBegin" if pairs else "Begins", (named(VERDICT_NAMED), *windows, v, w, *filled, *ends)
+            (u,), (w,) = [[("var", name) for name in names] for names in told]
+            filled = [self.filled(of, pairs) for of in (u, w)]
+            word, expected = "PairsBegin" if pairs else "Begins", (named(VERDICT_NAMED), *windows, ("get", u, "verdict"), ("get", w, "verdict"), *filled, *ends)
         else:
             word, expected = "PairsBeginInC" if pairs else "BeginsInC", (*windows, *map(self.answer_in, found), *ends)
         self.ends_in(statement, (*OF_PREFIX, word), expected)
@@ -91,8 +93,13 @@ class WalkShapes(Spoken):
     def answer_in(self, found):
         return next(("var", v) for v in found if found[v] == ANSWER)
 
+    def filled(self, walked, pairs):
+        """What an accepted walk says that it filled."""
+        told = ("get", walked, "filled")
+        return told if pairs else applied(ROOM_IN, told)
+
     def answered(self, premise, found):
-        """The premise that an answer meets the contract; of a call that answers by an enum, the variables of an accepted one."""
+        """The premise that an answer meets the contract; of a call that answers by a Result, the variable that an accepted one gives."""
         if self.in_rattle:
             return self.accepted(premise, found)
         if not self.fits(premise, self.contract.clause.whole, found):
@@ -100,12 +107,11 @@ class WalkShapes(Spoken):
         return []
 
     def accepted(self, premise, found):
-        """The variables of an accepted answer that meets the contract, which the premise says."""
+        """The variable that an accepted answer gives, which meets the contract; the premise says so."""
         whole = self.contract.clause.whole
         place = arguments(whole).index(ANSWER)
         answer = arguments(premise)[place] if len(arguments(premise)) > place else ("var", "")
-        kind = self.code.resolve(*self.call.node[:2], self.call.returns)
-        if head(answer) is None or head(answer)[1] != kind or head(answer)[2] not in ACCEPTED or any(a[0] != "var" for a in arguments(answer)):
+        if not self.call.returns.startswith(WALKED) or head(answer) is None or head(answer)[1] != OK or [a[0] for a in arguments(answer)] != ["var"]:
             raise Wrong("its answers are not accepted ones")
         plain = list(arguments(premise))
         plain[place] = ("var", " r")
@@ -126,9 +132,9 @@ class WalkShapes(Spoken):
         pairs = head(arguments(premise)[0]) is None
         window = arguments(premise)[:2] if pairs else arguments(premise)[:1]
         if self.in_rattle:
-            stats, verdict, filled, _ = (("var", name) for name in told)
-            filled = filled if pairs else applied(ROOM_IN, filled)
-            word, expected = "CleanPairs" if pairs else "CleanLeaves", (named(VERDICT_NAMED), *window, applied(COUNTERS_OF, stats), verdict, filled, end)
+            (w,) = (("var", name) for name in told)
+            counters = applied(COUNTERS_OF, ("get", w, "stats"))
+            word, expected = "CleanPairs" if pairs else "CleanLeaves", (named(VERDICT_NAMED), *window, counters, ("get", w, "verdict"), self.filled(w, pairs), end)
         else:
             word, expected = "CleanPairsInC" if pairs else "CleanInC", (*window, self.answer_in(found), end)
         self.ends_in(statement, (*OF_CLEAN, word), expected)
@@ -154,8 +160,8 @@ class WalkShapes(Spoken):
         bits = next(("var", v) for v in found if found[v] == ("var", "bits"))
         walk = (walker_in(premise), bits)
         if told:
-            stats, verdict = (("var", v) for v in told[:2])
-            return "OnWindow", (named(VERDICT_NAMED), *walk, applied(COUNTERS_OF, stats), verdict)
+            (w,) = (("var", v) for v in told)
+            return "OnWindow", (named(VERDICT_NAMED), *walk, applied(COUNTERS_OF, ("get", w, "stats")), ("get", w, "verdict"))
         r = self.answer_in(found)
         counters = applied(COUNTERS_IN, ("get", r, "counters"))
         return "InC", (*walk, ("get", r, "refusal"), counters, ("get", r, "verdict"))
