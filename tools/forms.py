@@ -22,32 +22,31 @@ def files(commit):
 def bare(text):
     return re.sub(r"//[^\n]*", "", text)
 
+def closing(text, i):
+    """The place behind the brace that closes the one at i."""
+    d, j = 0, i
+    while j < len(text):
+        d += (text[j] == "{") - (text[j] == "}")
+        j += 1
+        if d == 0:
+            break
+    return j
+
 def blocks(text, head):
     """Each item that `head` finds, with its text up to the matching brace."""
     for m in re.finditer(head, text, re.M):
         i = text.find("{", m.end() - 1)
-        d, j = 0, i
-        while j < len(text):
-            d += (text[j] == "{") - (text[j] == "}")
-            j += 1
-            if d == 0:
-                break
+        j = closing(text, i)
         yield m, text[i + 1:j - 1], text.count("\n", 0, m.start()) + 1
 
 def functions(text):
     for m in re.finditer(r"^[ ]*(?:pub(?:\(crate\))? )?(?:unsafe )?(?:extern \"C\" )?fn (\w+)", text, re.M):
-        depth, i = 0, m.end()
         # past the clauses: the body is the first brace at the start of a line, or behind the signature
-        b = re.compile(r"^\{|\) (?:-> [^{\n]+ )?\{\s*$", re.M).search(text, i)
+        b = re.compile(r"^\{|\) (?:-> [^{\n]+ )?\{\s*$", re.M).search(text, m.end())
         if not b:
             continue
         k = text.index("{", b.start())
-        d, j = 0, k
-        while j < len(text):
-            d += (text[j] == "{") - (text[j] == "}")
-            j += 1
-            if d == 0:
-                break
+        j = closing(text, k)
         yield m.group(1), text[m.start():k], text[k:j], text.count("\n", 0, m.start()) + 1
 
 def enums(name, text):
