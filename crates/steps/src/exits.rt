@@ -4,7 +4,7 @@ ghost use Rattle.framing.specs.Walk.{tail, closing};
 ghost use Rattle.steps.specs.Paths.{LabelFits};
 ghost use Rattle.steps.specs.Tally.{world_of, played};
 ghost use Rattle.steps.specs.Steps.{Plays};
-ghost use Rattle.steps.specs.Views.{inner_of, leftover_of, exit_sink, HeadIn};
+ghost use Rattle.steps.specs.Views.{inner, inner_of, leftover_of, exit_sink, HeadIn};
 ghost use Rattle.steps.specs.Gives.{fields_stop, level_stop};
 
 use crate::Head;
@@ -33,8 +33,8 @@ fn count_left(tally: &mut Tally, inside: bool, n: u32)
 // counted (rule 3).
 fn close_level(tally: &mut Tally, piece: &Piece, at: u64, walk: Walk, inside: bool)
     requires { at ≤ piece.now.end }
-    ensures { (records paths payloads : List ℕ) → world_of tally.new records paths payloads
-        ≡ played (closing (exit_sink walk inside) (inner_of piece.now at) 0)
+    ensures { (base : ℕ) (records paths payloads : List ℕ) → world_of tally.new records paths payloads
+        ≡ played (closing (exit_sink walk inside) (inner piece.now.bytes.now base at piece.now.end) 0)
         (world_of tally.old records paths payloads) }
 {
     let rest = (piece.end - at) as u32;

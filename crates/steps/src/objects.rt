@@ -3,7 +3,7 @@ ghost use Rattle.std.specs.Prelude.{◌≡◌, ◌≤◌, ℕ, List, [], ◌∷�
 ghost use Rattle.framing.specs.Events.{pair};
 ghost use Rattle.framing.specs.Sinks.{object_field_lem};
 ghost use Rattle.steps.specs.Tally.{world_of, played};
-ghost use Rattle.steps.specs.Views.{inner_of};
+ghost use Rattle.steps.specs.Views.{inner};
 
 use crate::heads::{number_at, take_number};
 use crate::pieces::Piece;
@@ -32,8 +32,8 @@ pub fn object_field(
     records: &mut [u32],
 )
     requires { «from» ≤ piece.now.end }
-    ensures { (paths payloads : List ℕ) → world_of tally.new records.new paths payloads
-        ≡ played (object_field_lem index first (inner_of piece.now «from»))
+    ensures { (base : ℕ) (paths payloads : List ℕ) → world_of tally.new records.new paths payloads
+        ≡ played (object_field_lem index first (inner piece.now.bytes.now base «from» piece.now.end))
         (world_of tally.old records.old paths payloads) }
 {
     let end = piece.end;

@@ -13,7 +13,7 @@ close_level-requires c =
 
 pub returns-in-Closed : goal.returns-in-Closed
 returns-in-Closed c =
-    record { out = level_closed _ _ _ _ _ _ _ _ _ c.in-Closed.is (c.close_level.ensures _ _ _); kept = refl; lent = lent_counted _ _ }
+    record { out = level_closed _ _ _ _ _ _ _ _ _ c.in-Closed.is (c.close_level.ensures _ _ _ _); kept = refl; lent = lent_counted _ _ }
 
 pub returns : goal.returns
 returns c =

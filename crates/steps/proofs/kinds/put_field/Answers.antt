@@ -7,7 +7,7 @@ use Rattle.steps.proofs.kinds.put_field.Goals as goal
 use Rattle.steps.proofs.kinds.put_field.Goals.{in-Leaf, in-Deep}
 
 pub returns-in-Object : goal.returns-in-Object
-returns-in-Object c = record { out = flat_object _ _ _ _ _ _ _ _ _ c.in-Object.is (c.object_field.ensures _ _); kept = refl; lent = record { path = refl; records = refl; paths = refl; payloads = refl; records_held = search rules; paths_held = refl; payloads_held = refl } }
+returns-in-Object c = record { out = flat_object _ _ _ _ _ _ _ _ _ c.in-Object.is (c.object_field.ensures _ _ _); kept = refl; lent = record { path = refl; records = refl; paths = refl; payloads = refl; records_held = search rules; paths_held = refl; payloads_held = refl } }
 
 pub returns-in-Nothing : goal.returns-in-Nothing
 returns-in-Nothing c = record { out = flat_nothing _ _ _ _ _ _ _ _ c.in-Nothing.is; kept = refl; lent = lent_same _ }

@@ -5,28 +5,28 @@ use Rattle.steps.proofs.ObjectLaws.{object_empty, object_later, object_failed, o
 use Rattle.steps.proofs.objects.object_field.Goals as goal
 
 pub returns-then-from-end : goal.returns-then-from-end
-returns-then-from-end c = λ paths payloads. object_empty _ _ _ _ c.args.index _ _ (omega arith) c.args.first c.if-from-end.true refl
+returns-then-from-end c = λ base paths payloads. object_empty _ base _ _ c.args.index _ _ (omega arith) c.args.first c.if-from-end.true refl
 
 pub returns-then-not-first : goal.returns-then-not-first
-returns-then-not-first c = λ paths payloads.
-    object_later _ _ _ _ c.args.index _ _ (omega arith) c.if-from-end.false c.args.first (c.if-not-first.true)
+returns-then-not-first c = λ base paths payloads.
+    object_later _ base _ _ c.args.index _ _ (omega arith) c.if-from-end.false c.args.first (c.if-not-first.true)
     (count_nested _ _ _ _ _ _ c.count.ensures)
 
 pub returns-then-guid-end : goal.returns-then-guid-end
-returns-then-guid-end c = λ paths payloads.
+returns-then-guid-end c = λ base paths payloads.
     let e = sym c.in-Some.ensures in
-    object_pair _ _ _ _ c.args.index _ _ (omega arith) c.if-from-end.false c.args.first (c.if-not-first.false) _ _ e _
+    object_pair _ base _ _ c.args.index _ _ (omega arith) c.if-from-end.false c.args.first (c.if-not-first.false) _ _ e _
     c.if-guid-end.true (c.take_number.ensures c.args.records.now paths payloads) (c.put_pair.ensures paths payloads)
 
 pub returns : goal.returns
-returns c = λ paths payloads.
+returns c = λ base paths payloads.
     let e = sym c.in-Some.ensures in
-    object_longer _ _ _ _ c.args.index _ _ (omega arith) c.if-from-end.false c.args.first (c.if-not-first.false) _ _ e _
+    object_longer _ base _ _ c.args.index _ _ (omega arith) c.if-from-end.false c.args.first (c.if-not-first.false) _ _ e _
     c.if-guid-end.false (c.take_number.ensures c.args.records.now paths payloads)
     (count_error _ _ _ _ _ c.count-2.ensures)
 
 pub returns-in_default : goal.returns-in_default
-returns-in_default c = λ paths payloads.
-    object_failed _ _ _ _ c.args.index _ _ (omega arith) c.if-from-end.false c.args.first (c.if-not-first.false)
+returns-in_default c = λ base paths payloads.
+    object_failed _ base _ _ c.args.index _ _ (omega arith) c.if-from-end.false c.args.first (c.if-not-first.false)
     (sym c.in_default.ensures)
     (count_error _ _ _ _ _ c.count-in_default.ensures)
