@@ -2,7 +2,7 @@
 use Rattle.std.specs.Prelude.{if◌then◌else◌}
 use Rattle.std.proofs.Common.{◌≡◌, ℕ, Option, Some, None, zero, suc, ◌-◌, ◌<◌, Bool, true, false, eqb, List, [], ◌∷◌, sym, refl, ap, ◌∙◌, arith, ne_eqb}
 use Rattle.bits.proofs.Never.{never}
-use Rattle.schema.specs.Tables.{Tables, tables, child}
+use Rattle.schema.specs.Tables.{Tables, tables, look_ups, child}
 use Rattle.schema.specs.Labels.{label_bytes, container_label_lem, leaf_label, LabelLies, dot}
 use Rattle.schema.specs.declared.Label.{Label}
 use Rattle.schema.specs.declared.Label.TheVariants as label
@@ -49,6 +49,16 @@ unfolding LabelLies
 pool_lies rows names declared declared_names_lem (label.Declared start len) h = h
 pool_lies rows names declared declared_names_lem (label.Named start len) h = h
 pool_lies rows names declared declared_names_lem label.Plain h = tt
+
+-- what a field is depends on the rows and the declared handles: no pool of names decides it
+pub kind_tables : (s : Walk) (rows names declared declared_names_lem : List ℕ) (below lvl handle width : ℕ)
+    → kind_of s (look_ups rows declared) below lvl handle width ≡ kind_of s (tables rows names declared declared_names_lem) below lvl handle width
+unfolding kind_of leaf_label container_label_lem
+kind_tables s rows names declared declared_names_lem below lvl handle width = ap (λ (k : Kind). if gives_leaves_lem s then k else kind.Object) (go (child rows lvl handle))
+  where
+    go : (c : Option ℕ) → kind_by (look_ups rows declared) below lvl handle width c ≡ kind_by (tables rows names declared declared_names_lem) below lvl handle width c
+    go None = refl
+    go (Some lower) = refl
 
 pub kind_lies : (s : Walk) (t : Tables) (below lvl handle width : ℕ) → ((l h : ℕ) → LabelLies t (leaf_label t l h)) → ((l h : ℕ) → LabelLies t (container_label_lem t l h))
     → KindLies t (kind_of s t below lvl handle width)
