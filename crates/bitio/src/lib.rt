@@ -311,7 +311,7 @@ fn log2_of(m: u32) -> u64
     ensures small { result < 32 }
     ensures below { 2 ^ result ≤ m }
 {
-    m.ilog2() as u64
+    (31 - m.leading_zeros()) as u64
 }
 
 // An integer below `max`: its low bits, and its top bit only where `max` leaves it open.

@@ -1,11 +1,13 @@
--- `bitio::log2_of` meets its contract: the library's logarithm is the number whose power is at most m and the next one above.
-use Rattle.std.proofs.Common.{sym, arith}
-use native.Mathlib.Nat.{pow-succ'}
-use Rattle.bitio.proofs.NumberLaws.{log2_is}
+-- `bitio::log2_of` meets its contract: 31 less the leading zeros.
+use Rattle.std.proofs.Common.{arith}
+use lib.Count.{leading_top}
+use Rattle.bitio.proofs.NumberLaws.{log2_zeros}
 use Rattle.bitio.proofs.log2_of.Goals as goal
+
+pub overflow_sub-result : goal.overflow_sub-result
+overflow_sub-result c = omega (arith, log2_zeros c.args.m c.requires c.ranges.m.fits, leading_top 32 c.args.m c.requires c.ranges.m.fits)
 
 pub returns : goal.returns
 returns c =
-    let k = c.ilog2.ensures in
-    let next = pow-succ' 2 c.ilog2.result in
-    record { value = sym (log2_is _ _ k.bound k.power_le (omega (arith, next, k.next_power_gt))); small = omega arith; below = k.power_le }
+    let z = log2_zeros c.args.m c.requires c.ranges.m.fits in
+    record { value = z.0; small = omega arith; below = rw z.0 z.2 }
