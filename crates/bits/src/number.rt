@@ -80,10 +80,13 @@ fn next_byte(s: &[u8], at: u64, end: u64, taken: u64) -> Result<u64, Broken>
     Ok(byte_at(s, at))
 }
 
-// Whether a number of n bytes with this value is padded: fewer would do.
+// Whether a number of n bytes with this value is padded: fewer would do. Two bytes are the usual case of more than one.
 pub fn is_padded(value: u32, n: u64) -> bool
     requires { n ≤ most_bytes }
     ensures { result ≡ padded value n }
 {
+    if n == 2 {
+        return value < 128;
+    }
     1 < n && (value as u64) < 1 << (7 * (n - 1))
 }

@@ -10,12 +10,19 @@ use Rattle.bits.specs.Padded.{padded}
 use Rattle.bits.proofs.PaddedLaws.{one_byte, more_bytes}
 use Rattle.bits.proofs.number.is_padded.Goals as goal
 
+compared_two : (v n : ℕ) → n ≡ 2 → ltb v 128 ≡ padded v n
+compared_two v n e = sym (ap (padded v) e ∙ more_bytes v 2 (omega arith))
+
 -- the code's power, which no wrap cuts off
 power : (n : ℕ) → n ≤ 5 → (1 * 2 ^ (7 * (n - 1))) % 2 ^ 64 ≡ 2 ^ (7 * (n - 1))
 power n h = shl_exact 1 (7 * (n - 1)) 64 (omega arith) (omega arith) ∙ one-mul (2 ^ (7 * (n - 1)))
 
 compared : (v n : ℕ) → n ≤ 5 → 1 < n → ltb v ((1 * 2 ^ (7 * (n - 1))) % 2 ^ 64) ≡ padded v n
 compared v n h k = ap (ltb v) (power n h) ∙ sym (more_bytes v n k)
+
+-- one group of seven bits
+pub returns-then-n-eq2 : goal.returns-then-n-eq2
+returns-then-n-eq2 c = compared_two _ _ c.if-n-eq2.true
 
 pub returns-then-n-gt1 : goal.returns-then-n-gt1
 returns-then-n-gt1 c = compared _ _ c.requires c.if-n-gt1.true
