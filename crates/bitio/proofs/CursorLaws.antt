@@ -1,5 +1,5 @@
 -- The laws of cursors: what is good, what a bad one gets, and the window's fields as fields of the bytes.
-use Rattle.std.proofs.Common.{◌≡◌, ℕ, ◌+◌, ◌<◌, ◌≤◌, true, false, leb, List, sym, ap, ◌∙◌, subst, le-ltb, lt-ltb, le-leb, leb-false, leb-true, Result, Ok, Err}
+use Rattle.std.proofs.Common.{◌≡◌, ℕ, ◌+◌, ◌<◌, ◌≤◌, Bool, true, false, leb, List, refl, sym, ap, ◌∙◌, subst, le-ltb, lt-ltb, le-leb, leb-false, leb-true, Result, Ok, Err}
 use Rattle.std.specs.Prelude.{IsErrAnd}
 use Rattle.bits.specs.Bits.{num, field}
 use Rattle.bits.proofs.ChoiceLaws.{by_cases, and_true}
@@ -39,6 +39,13 @@ module _ (s : List ℕ) (c : Cursor) where
   unfolding window
   window_field p n h = field_field (num s) c.start c.len p n h
 
+  -- what a test of the cursor says
+  pub passed : (b : Bool) → b ≡ good s c → b ≡ true → good s c ≡ true
+  passed b e h = sym e ∙ h
+
+  pub failed : (b : Bool) → b ≡ good s c → b ≡ false → good s c ≡ false
+  failed b e h = sym e ∙ h
+
   module _ {A : Type 0} (inside : ℕ → Result A Refusal) where
     pub at_bad : good s c ≡ false → at_cursor s c inside ≡ Err (bad_cursor_lem s c)
     unfolding at_cursor
@@ -52,25 +59,33 @@ module _ (s : List ℕ) (c : Cursor) where
     pub at_holds : (E : Result A Refusal → Type 0) → ((r : Refusal) → E (Err r)) → (good s c ≡ true → E (inside (window s c))) → E (at_cursor s c inside)
     at_holds E fails holds = by_cases (good s c) (λ g. subst E (sym (at_good g)) (holds g)) (λ g. subst E (sym (at_bad g)) (fails (bad_cursor_lem s c)))
 
-  -- what the code's test of the cursor says
-  pub passed : {u : Unit {0}} → Ok u ≡ good_or_refused_lem s c → good s c ≡ true
-  passed e = by_cases (good s c) (λ g. g) (λ g. absurd (apart (sym (e ∙ at_bad (λ W. Ok tt) g))))
+    -- the way out for a bad cursor, by a test of it
+    pub bad_way : (b : Bool) (r : Refusal) → b ≡ good s c → b ≡ false → r ≡ bad_cursor_lem s c → Err r ≡ at_cursor s c inside
+    bad_way b r e h er = ap Err er ∙ sym (at_bad (failed b e h))
 
-  pub failed : {r : Refusal} → Err r ≡ good_or_refused_lem s c → (good s c ≡ false) × (r ≡ bad_cursor_lem s c)
-  failed e =
+    -- and the way on for a good one
+    pub good_way : (b : Bool) (x : Result A Refusal) → b ≡ good s c → b ≡ true → x ≡ inside (window s c) → x ≡ at_cursor s c inside
+    good_way b x e h ex = ex ∙ sym (at_good (passed b e h))
+
+  -- what the code's test of the cursor says, which answers with the refusal
+  pub ok_good : {u : Unit {0}} → Ok u ≡ good_or_refused_lem s c → good s c ≡ true
+  ok_good e = by_cases (good s c) (λ g. g) (λ g. absurd (apart (sym (e ∙ at_bad (λ W. Ok tt) g))))
+
+  pub err_bad : {r : Refusal} → Err r ≡ good_or_refused_lem s c → (good s c ≡ false) × (r ≡ bad_cursor_lem s c)
+  err_bad e =
       by_cases (good s c)
       (λ g. absurd (apart (e ∙ at_good (λ W. Ok tt) g)))
       (λ g. (g, same_refusal _ _ (e ∙ at_bad (λ W. Ok tt) g)))
 
 -- the code's way out for a bad cursor
-pub bad_way : {A : Type 0} (s : List ℕ) (c : Cursor) (inside : ℕ → Result A Refusal) (r : Refusal)
+pub err_way : {A : Type 0} (s : List ℕ) (c : Cursor) (inside : ℕ → Result A Refusal) (r : Refusal)
     → Err r ≡ good_or_refused_lem s c → at_cursor s c inside ≡ Err r
-bad_way s c inside r e = let f = failed s c e in at_bad s c inside f.0 ∙ ap Err (sym f.1)
+err_way s c inside r e = let f = err_bad s c e in sym (bad_way s c inside (good s c) r refl f.0 f.1)
 
 -- and the way on for a good one
-pub good_way : {A : Type 0} (s : List ℕ) (c : Cursor) (inside : ℕ → Result A Refusal) (u : Unit {0})
+pub ok_way : {A : Type 0} (s : List ℕ) (c : Cursor) (inside : ℕ → Result A Refusal) (u : Unit {0})
     → Ok u ≡ good_or_refused_lem s c → at_cursor s c inside ≡ inside (window s c)
-good_way s c inside u e = at_good s c inside (passed s c e)
+ok_way s c inside u e = sym (good_way s c inside (good s c) _ refl (ok_good s c e) refl)
 
 module _ {A : Type 0} (len pos n : ℕ) (enough : Result A Refusal) where
   pub asking_few : len < pos + n → asking len pos n enough ≡ Err (TooFew pos len n)
@@ -129,4 +144,4 @@ passed_on (Ok y) r h = absurd h
 passed_on (Err q) r h = ap Err h
 
 -- what the code's steps make of the definitions
-pub ruleset ways = (bad_way, good_way, few_way, enough_way, good_within, good_ends, skip_within, skip_ends, window_field, bound)
+pub ruleset ways = (err_way, ok_way, few_way, enough_way, good_within, good_ends, skip_within, skip_ends, window_field, bound)

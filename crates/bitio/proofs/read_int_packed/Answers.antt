@@ -1,6 +1,6 @@
 -- `bitio::read_int_packed` meets its contract: the window's number is one of the bytes, and each of its cases has its answer.
 use Rattle.std.proofs.Common.{◌≡◌, ℕ, ◌+◌, Bool, List, sym, ap, ◌∙◌, arith, Result, Ok, Err}
-use Rattle.bitio.proofs.CursorLaws.{good_way}
+use Rattle.bitio.proofs.CursorLaws.{ok_way}
 use Rattle.bitio.proofs.ReadLaws.{packed_here}
 use Rattle.bits.proofs.PackedLaws.{whole_within, whole_bytes, cut_within}
 use Rattle.bits.specs.Bits.{num}
@@ -25,7 +25,7 @@ told v n p e = ap (λ (b : Bool). Ok (record { value = record { value = v; bytes
 -- what was found at the cursor is what the contract names
 found_here : (s : List ℕ) (c : Cursor) (u : Unit {0}) (x : Result Found Broken) → Ok u ≡ good_or_refused_lem s c
     → x ≡ found (packed (num s) (c.start + c.len) (c.start + c.pos)) → packed_answer c.len c.pos (plain x) ≡ read_int_packed_lem s c
-found_here s c u x g e = sym (good_way s c _ u g ∙ ap (packed_answer c.len c.pos) (packed_here s c ∙ plain_found _ e))
+found_here s c u x g e = sym (ok_way s c _ u g ∙ ap (packed_answer c.len c.pos) (packed_here s c ∙ plain_found _ e))
 
 pub overflow_mul-next : goal.overflow_mul-next
 overflow_mul-next c =

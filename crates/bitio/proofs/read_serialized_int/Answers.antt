@@ -5,7 +5,7 @@ use Rattle.bitio.specs.Cursors.{window}
 use Rattle.bitio.specs.Numbers.{serialized_top, read_serialized_int_lem}
 use Rattle.bitio.specs.declared.Read.{Read}
 use Rattle.bitio.specs.declared.Refusal.{Refusal}
-use Rattle.bitio.proofs.CursorLaws.{passed_on, good_way, window_field}
+use Rattle.bitio.proofs.CursorLaws.{passed_on, ok_way, window_field}
 use Rattle.bitio.proofs.NumberLaws.{serialized_few, serialized_low, top_few, top_open}
 use Rattle.bitio.proofs.read_serialized_int.Goals as goal
 use Rattle.bitio.proofs.read_serialized_int.Goals.{After-field_of-v}
@@ -13,7 +13,7 @@ use Rattle.bitio.proofs.read_serialized_int.Goals.{After-field_of-v}
 pub returns-in_err-at : goal.returns-in_err-at
 returns-in_err-at c =
     passed_on _ _ c.from_residual-in_err-at.ensures.1
-    ∙ sym (good_way _ _ _ _ c.in_ok-good_or_refused.ensures.value
+    ∙ sym (ok_way _ _ _ _ c.in_ok-good_or_refused.ensures.value
     ∙ serialized_few _ _ _ _ _ c.if-max-eq0.false c.log2_of-width.ensures.value _ c.in_err-at.ensures.value)
 
 -- after the low bits the rest is due
@@ -22,7 +22,7 @@ rest : (c : After-field_of-v) →
     read_serialized_int_lem a.bytes.now a.c a.max
     ≡ serialized_top (window a.bytes.now a.c) a.c.len a.max c.log2_of-width.result c.field_of-v.result c.in_ok-at.at
 rest c =
-    good_way _ _ _ _ c.in_ok-good_or_refused.ensures.value
+    ok_way _ _ _ _ c.in_ok-good_or_refused.ensures.value
     ∙ serialized_low _ _ _ _ _ c.if-max-eq0.false c.log2_of-width.ensures.value _ _
     (c.field_of-v.ensures ∙ sym (window_field _ _ _ _ c.in_ok-at.ensures.within)) c.in_ok-at.ensures.value
 
