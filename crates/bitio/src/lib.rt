@@ -8,7 +8,8 @@
 mod number;
 pub mod said;
 
-ghost use Rattle.std.specs.Prelude.{◌≡◌, ◌+◌, ◌^◌, ◌<◌, ◌≤◌, OnOk, IfOk};
+ghost use Rattle.std.specs.Prelude.{◌≡◌, ◌+◌, ◌*◌, ◌^◌, ◌<◌, ◌≤◌, length, OnOk, IfOk};
+ghost use Rattle.bits.specs.Bits.{num, field};
 ghost use Rattle.bitio.specs.Cursors.{bits_of, good_or_refused_lem, asking, opened, whole_of, position_of, length_of, remaining_of, end_of, skipped, skipped_all, sub_reader_lem};
 ghost use Rattle.bitio.specs.Reads.{taken, read_lem, read_bit_lem, read_bits_lem, read_u8_lem, read_u16_lem, read_u32_lem, read_i32_lem, read_u64_lem};
 ghost use Rattle.bitio.specs.Numbers.{log2, read_int_packed_lem, read_serialized_int_lem};
@@ -314,6 +315,16 @@ fn log2_of(m: u32) -> u64
     (31 - m.leading_zeros()) as u64
 }
 
+// The bit at `at`. Compiled into its caller, where a call of `field_of` was left (measured).
+#[inline(always)]
+fn bit_at(bytes: &[u8], at: u64) -> u64
+    requires { at + 1 ≤ 8 * length bytes.now }
+    ensures { result ≡ field (num bytes.now) at 1 }
+{
+    let byte = bits::load::load_bytes(bytes, (at / 8) as usize, 1);
+    (byte >> (at % 8)) % 2
+}
+
 // An integer below `max`: its low bits, and its top bit only where `max` leaves it open.
 #[tactic(auto, using(crate::proofs::CursorLaws::ways), unfolding(crate::specs::Numbers::serialized_at, crate::specs::Numbers::serialized_top))]
 pub fn read_serialized_int(bytes: &[u8], c: Cursor, max: u32) -> Result<Read<u32>, Refusal>
@@ -334,7 +345,7 @@ pub fn read_serialized_int(bytes: &[u8], c: Cursor, max: u32) -> Result<Read<u32
         return Ok(Read { value, next: at });
     }
     let next = past(c.len, at, 1)?;
-    let bit = bits::field::field_of(bytes, start + at, 1);
+    let bit = bit_at(bytes, start + at);
     let high = bit << width;
     let value = (v + high) as u32;
     Ok(Read { value, next })

@@ -39,13 +39,13 @@ top_bit b w h = let k : b ≤ 1 = omega arith in omega (arith, mul-le-mul_right 
 pub overflow_add-value : goal.overflow_add-value
 overflow_add-value c =
     let w = c.log2_of-width.ensures in
-    let b = bound _ _ _ _ c.field_of-bit.ensures in
+    let b = bound _ _ _ _ c.bit_at-bit.ensures in
     omega (arith, b, top_bit _ c.log2_of-width.result b, bound _ _ _ _ c.field_of-v.ensures)
 
 pub overflow_cast-value-2 : goal.overflow_cast-value-2
 overflow_cast-value-2 c =
     let w = c.log2_of-width.ensures in
-    let b = bound _ _ _ _ c.field_of-bit.ensures in
+    let b = bound _ _ _ _ c.bit_at-bit.ensures in
     omega (arith, b, top_bit _ c.log2_of-width.result b, bound _ _ _ _ c.field_of-v.ensures)
 
 -- two sums of equals
@@ -56,10 +56,10 @@ same_sum v next x y e = ap (λ (k : ℕ). Ok (record { value = v + k; next = nex
 pub returns : goal.returns
 returns c =
     let w = c.log2_of-width.result in
-    let b = c.field_of-bit.result in
-    let t : b * 2 ^ w ≤ 2 ^ w = top_bit b w (bound _ _ _ _ c.field_of-bit.ensures) in
+    let b = c.bit_at-bit.result in
+    let t : b * 2 ^ w ≤ 2 ^ w = top_bit b w (bound _ _ _ _ c.bit_at-bit.ensures) in
     let k : 2 ^ w < 2 ^ 64 = omega arith in
     let e : (b * 2 ^ w) % 2 ^ 64 ≡ b * 2 ^ w = omega arith in
     same_sum c.field_of-v.result c.in_ok-next.next _ _ e
     ∙ sym (rest (goal.at.returns c).After-field_of-v ∙ top_open _ _ _ _ _ _ (omega arith) _ _
-    (c.field_of-bit.ensures ∙ sym (window_field _ _ _ _ c.in_ok-next.ensures.within)) c.in_ok-next.ensures.value)
+    (c.bit_at-bit.ensures ∙ sym (window_field _ _ _ _ c.in_ok-next.ensures.within)) c.in_ok-next.ensures.value)
