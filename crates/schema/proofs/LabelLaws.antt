@@ -1,14 +1,23 @@
--- The laws of labels: an entry that was found gives the label; and its bytes are a part of its pool.
-use mathlib.Core.Path.{◌≡◌, ap}
-use mathlib.Core.List.{List}
+-- The laws of labels: pools do not matter to which label it is; an entry that was found gives it; and its bytes are a part of its pool.
+use mathlib.Core.Path.{◌≡◌, refl, ap}
+use mathlib.Core.List.{List, []}
 use Prim.Native.Nat.{ℕ, ◌+◌, ◌≤◌}
 use lib.ListN.{length, take, drop}
 use borrow.Author.Tests.{le-leb}
-use Rattle.schema.specs.Tables.{Tables, declared_name_lem}
+use Rattle.schema.specs.Tables.{Tables, look_ups, declared_name_lem}
 use Rattle.schema.specs.Spans.{entry}
 use Rattle.schema.specs.Labels.{by_schema_lem, by_declaration_lem, container_label_lem, leaf_label, label_bytes, name_in, label_part_lem}
 use Rattle.schema.specs.declared.Entry.{Entry}
 use Rattle.schema.specs.declared.Label.TheVariants.{Declared, Named}
+
+-- what a look-up without pools gives is the label of the whole tables
+pub container_of : (t : Tables) (level handle : ℕ) → container_label_lem (look_ups t.rows []) level handle ≡ container_label_lem t level handle
+unfolding container_label_lem
+container_of t level handle = refl
+
+pub leaf_of_lem : (t : Tables) (level handle : ℕ) → leaf_label (look_ups t.rows t.declared) level handle ≡ leaf_label t level handle
+unfolding leaf_label container_label_lem
+leaf_of_lem t level handle = refl
 
 -- the label from the entry that was found
 pub container_from : (t : Tables) (level handle : ℕ) (e : Entry) → e ≡ entry t.rows level handle → by_schema_lem e.name ≡ container_label_lem t level handle

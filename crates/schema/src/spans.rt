@@ -31,8 +31,7 @@ fn with_row(span: Span, i: usize) -> Span
     Span { first, last: i + 1 }
 }
 
-// The span of each level. Compiled into its caller, so that the spans are not copied.
-#[inline(always)]
+// The span of each level.
 pub fn level_spans(rows: &[u32]) -> Spans
     ensures { result ≡ spans_of rows.now }
 {
