@@ -1,6 +1,8 @@
 // Both passes of a walk: the first is lent nothing and measures, the second writes if the outputs hold what that found, which is
 // else the Err. In an object walk the leaves are pairs.
+ghost use Rattle.std.specs.Prelude.{◌≡◌};
 ghost use Rattle.schema.specs.Tables.{tables};
+ghost use Rattle.schema.specs.Spans.{spans_of};
 ghost use Rattle.framing.specs.Sinks.{walker};
 ghost use Rattle.array.specs.Calls.{lent};
 ghost use Rattle.array.specs.Passing.{Passable, TwoPasses};
@@ -8,12 +10,28 @@ ghost use Rattle.array.specs.Passing.{Passable, TwoPasses};
 use crate::passes::{extent_of, has_room, measure, padded_of, pass, stats_of};
 use crate::verdicts::window_verdict;
 use crate::{Extent, Walked};
-use bits::sizes::LONGEST_PATH;
+use bits::sizes::{LONGEST_PATH, MAX_LEVELS};
 use framing::Walk;
-use schema::spans::level_spans;
+use schema::spans::{SPANS, Spans};
+use schema::{ROW_SIZE, Span};
 use steps::tables::{LentTables, Pools};
 use steps::tally::Tally;
 use steps::writes::Outputs;
+
+// No level has a row.
+const NO_SPANS: Spans = [Span { first: 0, last: 0 }; SPANS];
+
+// The span of each level, which `schema::spans::level_spans` gives. These are lent: given back, their 1,040 bytes are copied.
+fn fill_spans(rows: &[u32], spans: &mut Spans)
+    ensures { spans.new ≡ spans_of rows.now }
+{
+    *spans = NO_SPANS;
+    for i in 0..rows.len() / ROW_SIZE {
+        let at = rows[ROW_SIZE * i].min(MAX_LEVELS) as usize;
+        let first = if spans[at].last == 0 { i } else { spans[at].first };
+        spans[at] = Span { first, last: i + 1 };
+    }
+}
 
 pub fn two_passes(
     bytes: &[u8],
@@ -36,7 +54,8 @@ pub fn two_passes(
         result
         (lent records.new paths.new payloads.new) }
 {
-    let spans = level_spans(rows);
+    let mut spans = NO_SPANS;
+    fill_spans(rows, &mut spans);
     let looked_up = LentTables {
         rows,
         spans: &spans,
