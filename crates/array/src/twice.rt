@@ -28,7 +28,11 @@ fn fill_spans(rows: &[u32], spans: &mut Spans)
     *spans = NO_SPANS;
     for i in 0..rows.len() / ROW_SIZE {
         let at = rows[ROW_SIZE * i].min(MAX_LEVELS) as usize;
-        let first = if spans[at].last == 0 { i } else { spans[at].first };
+        let first = if spans[at].last == 0 {
+            i
+        } else {
+            spans[at].first
+        };
         spans[at] = Span { first, last: i + 1 };
     }
 }
