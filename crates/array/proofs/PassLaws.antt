@@ -17,6 +17,7 @@ use Rattle.framing.specs.Windows.{window_of}
 use Rattle.framing.specs.Events.{error, Trace}
 use Rattle.framing.specs.Walk.{level}
 use Rattle.framing.specs.Sinks.{Walker, walker, gives_leaves_lem, sink_of, object_sink, walk, walk_window}
+use Rattle.framing.specs.Counters.{counted}
 use Rattle.framing.specs.Records.{leaf_words}
 use Rattle.outputs.specs.World.{World, fresh}
 use Rattle.outputs.specs.Answers.{laid, measured_with, held_by}
@@ -97,6 +98,15 @@ measures t d u l p y et el ep ey e =
     sym (λ i. world_of d (nl i) (np i) (ny i)) ∙ e ∙ ap (played u) (starts_fresh t [] [] [] et)
 
 -- ---- what is read off a pass
+
+pub counters_in_lem : (tally : Tally) (e f t r n b i : ℕ) → e ≡ tally.elements → f ≡ tally.fields → t ≡ tally.truncations → r ≡ tally.errors
+    → n ≡ tally.nested → b ≡ tally.root → i ≡ tally.implicit → counted e f t r n b i ≡ (world_of tally [] [] []).counters
+unfolding world_of
+counters_in_lem tally e f t r n b i p₀ p₁ p₂ p₃ p₄ p₅ p₆ = λ k. counted (p₀ k) (p₁ k) (p₂ k) (p₃ k) (p₄ k) (p₅ k) (p₆ k)
+
+pub padded_in_lem : (tally : Tally) (n : ℕ) → n ≡ tally.padded → n ≡ (world_of tally [] [] []).padded
+unfolding world_of
+padded_in_lem tally n e = e
 
 module _ (k : Walker) (bytes : List ℕ) (bits : ℕ) where
   pub needs_in : (e : Extent) (tally : Tally) → world_of tally [] [] [] ≡ measuring k bytes bits

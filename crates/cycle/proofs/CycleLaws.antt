@@ -24,6 +24,7 @@ use Rattle.steps.specs.Heads.{level_head_lem, element_head_lem, field_head_lem, 
 use Rattle.steps.specs.Paths.{item_path}
 use Rattle.steps.specs.Kinds.{kind_of, KindLies}
 use Rattle.steps.specs.Lent.{tables_of, kind_at}
+use Rattle.steps.specs.Steps.{Lies}
 use Rattle.steps.specs.Gives.{fields_stop, level_stop, flat_field}
 use Rattle.steps.specs.declared.Head.{Head}
 use Rattle.steps.specs.declared.Head.TheVariants as head
@@ -296,3 +297,7 @@ pub kind_ready : {s : Spot} {p : Piece} {start plen adds : ℕ} → Ready s p st
 kind_ready {s} r handle width e =
     let t = tables_of s.tables.now in
     subst (KindLies t) (sym e) (kind_lies s.walk t s.below s.level handle width r.labels.leaf r.labels.container)
+
+-- a piece lies in its bytes from their first bit on
+pub up_to_lem : (p : Piece) → Lies p.bytes.now 0 p.end
+up_to_lem p = (omega arith, p.in_bytes, omega (arith, p.in_root))

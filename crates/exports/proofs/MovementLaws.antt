@@ -170,9 +170,12 @@ module _ (m : ℕ) where
       then_holds FitsIn (unread (read_serialized_int_lem s c 128)) _ (of_reader _ (integer s c 128)) (λ h.
       behind_header s scale (h.value % 64) (h.value / 64) (at c h.next))
 
-  rotation : (s : List ℕ) (w : ℕ) (c : Cursor) → On (rotation_at s w c)
+  rotation_of_lem : (w : ℕ) (r : Result (Read Three) Refusal) → OnReader r → On (rotation_of w r)
   unfolding rotation_of
-  rotation s w c = then_holds FitsIn (unread (three_at s (Axis w) c)) _ (of_reader _ (three s (Axis w) c)) (λ t. tt)
+  rotation_of_lem w r h = then_holds FitsIn (unread r) _ (of_reader r h) (λ t. tt)
+
+  rotation : (s : List ℕ) (w : ℕ) (c : Cursor) → On (rotation_at s w c)
+  rotation s w c = rotation_of_lem w (three_at s (Axis w) c) (three s (Axis w) c)
 
   -- ---- the parts of a movement, in a window of at most m bits
 
