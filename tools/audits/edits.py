@@ -84,3 +84,10 @@ def touched(repository, code, definitions, edit):
                 held = [d for d in definitions.files[crate, name].declarations.values() if d.start <= at < d.end]
                 found |= {("text", crate, name, d.name) for d in held}
     return found
+
+
+def begins_in(repository, edit, path, start, end):
+    """Whether the first text that an edit changes stands there."""
+    file, old, _ = edit.changes[0] if edit.changes else ("", "", "")
+    at = repository.text(path).find(old) if file == path else -1
+    return at >= 0 and start <= at + len(old) - len(old.lstrip()) < end

@@ -1,17 +1,17 @@
 """All that tools/audit looks at, in one copy of the repository."""
 from dataclasses import dataclass, field
 
-from .calls import public_calls
+from .calls import conversions, public_calls
 from .code import Code
 from .contracts import cited, contract_of, relations_exist
 from .definitions import Definitions
 from .documents import names_exist, no_machine, sections_exist, tried_exist
-from .edits import edits_of, touched
+from .edits import begins_in, edits_of, touched
 from .interface import interface_is_one
 from .merge_shapes import judged_by
 from .reach import Reach
 from .refusals import refusals_agree
-from .repository import Report, Repository
+from .repository import TESTED, Report, Repository
 from .statements import statements_stand
 from .table import DOCUMENT, hold_edits, hold_table, lists_below, row_of, stated_of, wrong_answers
 from .theorems import hold_theorems, theorems_of
@@ -54,10 +54,15 @@ def look(root):
         file = theorems.get("one", "proofs/none").split("/")[1]
         seen.rows[call.name] = row_of(call, named, f"{file}.one_{call.short}", tried)
     judged_by(seen.contracts, report)
-    for name in sorted(set(seen.edits) - set().union(*seen.tried.values())):
+    aside = {name for name, edit in seen.edits.items() if edit.crate in TESTED and any(node[0] == "code" and code.clauses(node[1:]) for node in changed[name])}
+    for conversion in conversions(code):
+        wrong = {name for name, edit in seen.edits.items() if begins_in(repository, edit, conversion.path, conversion.start, conversion.end)}
+        report.hold(wrong, f"{conversion.path}: no edit is a wrong answer of {conversion.name}")
+        aside |= wrong
+    for name in sorted(set(seen.edits) - set().union(*seen.tried.values()) - aside):
         stated = stated_of(seen.edits[name], changed[name], definitions, reach)
         report.hold(stated, f"the edit {seen.edits[name].path} touches nothing that a call or a theorem rests on")
-    seen.below = lists_below(repository.text(DOCUMENT), seen.tried, seen.edits)
+    seen.below = lists_below(repository.text(DOCUMENT), seen.tried, seen.edits, aside)
     hold_table(repository, seen.rows, seen.below, report)
     hold_edits(repository, report)
     interface_is_one(repository, report)

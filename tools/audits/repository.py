@@ -9,6 +9,8 @@ from pathlib import Path
 PUBLIC = ["bitio", "schema", "array", "fastarray", "geometry", "exports"]
 # modules of other crates that they may name too: (crate, module)
 PUBLIC_MODULES = [("bits", "digits"), ("bits", "decimal")]
+# crates whose functions tests alone are given
+TESTED = ["probes"]
 
 
 class Repository:

@@ -3,6 +3,7 @@ stands in the file; where it stands more than once the first is changed.
 """
 
 BITIO = "crates/bitio/src/lib.rt"
+ARRAY = "crates/array/src/lib.rt"
 GEOMETRY = "crates/geometry/src/lib.rt"
 EXPORTS = "crates/exports/src/lib.rt"
 CALLED = "crates/exports_c/src/lib.rt"
@@ -57,6 +58,15 @@ TRIALS = [
     ("a conversion that gives itself", GEOMETRY, "ghost from_gives = { λ r why. why ≡ Unread r };", "ghost from_gives = { λ r why. why ≡ why };", [GEOMETRY, "from"]),
     ("a conversion that does something else besides", GEOMETRY,
      "        Refusal::Unread(r)\n    }\n", "        Refusal::Unread(r)\n    }\n\n    fn width() -> u64 {\n        8\n    }\n", [GEOMETRY, "width"]),
+    ("a conversion whose wrong answer is one of another function", "edits/exports/roll_is_the_yaw.edit", "old: roll: v.roll,", "old: rotation: VrfAngles::from(m.rotation),",
+     ["crates/exports/src/moves.rt", "From<Rotation> for VrfAngles"]),
+    ("a wrong answer of what a conversion says, not of what it gives", "edits/geometry/reader_refusal_is_not_finite.edit",
+     "old:         Refusal::Unread(r)", "old:     ghost from_gives = { λ r why. why ≡ Unread r };", [GEOMETRY, "From<bitio::Refusal> for Refusal"]),
+    ("a conversion without a wrong answer", GEOMETRY, "// ---- calls\n",
+     "impl From<Cursor> for Refusal {\n    ghost from_gives = { λ c why. why ≡ NoScale };\n\n    fn from(c: Cursor) -> Refusal {\n        Refusal::NoScale\n    }\n}\n\n// ---- calls\n",
+     [GEOMETRY, "From<Cursor> for Refusal"]),
+    ("an edit of tests' functions that touches no contract", "edits/probes/number_given_stays.edit", "old: Ok(x) => value_given(x.value.into(), 0, false, x.next),", "old: use crate::{VrfProbe, VrfProbeCursor};",
+     ["edits/probes/number_given_stays.edit", "touches nothing"]),
     ("a public call that doesn't begin its line", BITIO, "// A reader of all bits.", "  pub fn left(c: Cursor) -> u64 {\n    c.len\n  }\n\n// A reader of all bits.", [BITIO, "left"]),
     # ---- theorems
     ("outside_open emptied", f"{PROOFS}/OutsideReads.antt", "opened s n ≡ opened t n", "n ≡ n", ["bitio::open", "outside_open"]),
@@ -125,6 +135,14 @@ TRIALS = [
     ("padded_read_int_packed of another place", f"{PROOFS}/Padded.antt", "r ≡ read_int_packed_lem bytes c → PaddedAnswer c.pos r", "r ≡ read_int_packed_lem bytes c → PaddedAnswer c.start r", ["bitio::read_int_packed", "padded_"]),
     ("padded_vrf_read_packed of where the read ends", f"{PROOFS}/Padded.antt", "→ PaddedInC cursor.pos r\n", "→ PaddedInC r.position r\n", ["exports::vrf_read_packed", "padded_"]),
     ("padded_vrf_read_packed behind a premise", f"{PROOFS}/Padded.antt", "→ r ≡ vrf_read_packed_lem bytes cursor → PaddedInC", "→ r ≡ vrf_read_packed_lem bytes cursor → r.padded ≡ false → PaddedInC", ["exports::vrf_read_packed", "padded_"]),
+    ("floats in an answer by an alias, without a theorem", GEOMETRY, "// ---- calls\n",
+     "pub type Placed = Result<Read<Vector>, Refusal>;\n\n// ---- calls\n\npub fn read_placed(bytes: &[u8], c: Cursor) -> Placed\n    ensures { result ≡ read_normal bytes.now c }\n{\n    read_fixed_vector_normal(bytes, c)\n}\n",
+     ["geometry::read_placed", "no finite_read_placed"]),
+    ("floats in an answer on several lines, without a theorem", GEOMETRY, "// ---- calls\n",
+     "// ---- calls\n\npub fn read_placed(\n    bytes: &[u8],\n    c: Cursor,\n) -> Result<\n    Read<crate::Vector>,\n    crate::Refusal,\n>\n    ensures { result ≡ read_normal bytes.now c }\n{\n    read_fixed_vector_normal(bytes, c)\n}\n",
+     ["geometry::read_placed", "no finite_read_placed"]),
+    ("walks that answer by an alias with parameters", ARRAY, "pub struct Walked<N> {", "pub type Walked<N> = Passed<N>;\n\npub struct Passed<N> {",
+     ["array::decode_object_ref_array", "alias with parameters"]),
     ("no theorem on padded numbers", f"{PROOFS}/Padded.antt", "pub padded_read_int_packed :", "pub padded-read-packed :", ["bitio::read_int_packed", "no padded_read_int_packed"]),
     ("numbers called padded that have no shorter form", "crates/promises/specs/Padded.antt", "Exactly (padded ≡ true) (ShorterForm value bytes)", "(ShorterForm value bytes → padded ≡ true)", ["Told", "doesn't stand"]),
     ("bytes that an answer doesn't take", "crates/promises/specs/Padded.antt", "  pub took : next ≡ at + 8 * bytes\n", "", ["Told", "doesn't stand"]),
