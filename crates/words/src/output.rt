@@ -6,30 +6,35 @@
 // line stands behind one that was lost, and no verdict behind a lost line.
 //
 // Nothing can be said of a write to standard error that fails.
-ghost use Rattle.std.specs.Prelude.{length};
+ghost use Rattle.std.specs.Prelude.{◌≡◌, ◌≤◌, length};
 ghost use Rattle.words.specs.Output.{Takes};
 
 use crate::error;
-use std::fmt::Display;
-use std::io;
-use std::io::{ErrorKind, Write};
+use std::fmt::{Display, Write};
+use std::io::ErrorKind;
+use std::{fmt, io};
 
 // How often a write that takes nothing is tried again: std's own gives up at the first that takes none.
 const TRIES: u32 = 1000000;
 
-// One write: how many bytes were taken, at least one, or why none was.
-fn put_some(to: &impl Print, s: &[u8]) -> io::Result<usize>
-    ensures { Takes result (length s.now) }
-{
-    match to.write_some(s)? {
-        0 => Err(io::Error::from(ErrorKind::WriteZero)),
-        n => Ok(n),
-    }
+// Why a write took no byte.
+#[derive(Drop)]
+enum Untaken {
+    // It was interrupted, or took none: another may go through.
+    Passing(io::Error),
+    Failed(io::Error),
 }
 
-// Whether another write may go through.
-fn passes(why: io::Error) -> bool {
-    matches!(why.kind(), ErrorKind::Interrupted | ErrorKind::WriteZero)
+// One write: how many bytes were taken, at least one, or why none was.
+fn put_some(to: &impl Print, s: &[u8]) -> Result<usize, Untaken>
+    ensures { Takes result (length s.now) }
+{
+    match to.write_some(s) {
+        Ok(0) => Err(Untaken::Passing(io::Error::from(ErrorKind::WriteZero))),
+        Ok(n) => Ok(n),
+        Err(why) if why.kind() == ErrorKind::Interrupted => Err(Untaken::Passing(why)),
+        Err(why) => Err(Untaken::Failed(why)),
+    }
 }
 
 // Writes all of the bytes; where that was not done, why.
@@ -39,43 +44,82 @@ pub fn put(to: &impl Print, s: &[u8]) -> io::Result<()> {
     while !rest.is_empty() {
         match put_some(to, rest) {
             Ok(n) => rest = &rest[n..],
-            Err(why) if passes(why) && 0 < tries => tries -= 1,
-            Err(why) => return Err(why),
+            Err(Untaken::Passing(_)) if 0 < tries => tries -= 1,
+            Err(Untaken::Passing(why)) => return Err(why),
+            Err(Untaken::Failed(why)) => return Err(why),
         }
     }
     Ok(())
 }
 
-// The pieces of what is formatted, each written whole.
+// The pieces of one formatted value, gathered: a value takes one write, or few, however many pieces the formatter makes of it.
 #[derive(Drop)]
-struct Pieces<'a, P>(&'a P);
+struct Pieces<'a, P> {
+    to: &'a P,
+    bytes: [u8; 256],
+    len: usize,
+    // What came of the writes. Behind one that failed nothing is written.
+    written: io::Result<()>,
+    ghost inside: { len ≤ 256 },
+}
 
-impl<P: Print> Write for Pieces<'_, P> {
-    fn write(&mut self, buf: &[u8]) -> io::Result<usize> {
-        put(self.0, buf)?;
-        Ok(buf.len())
+impl<'a, P: Print> Pieces<'a, P> {
+    fn none(to: &'a P) -> Pieces<'a, P> {
+        Pieces {
+            to,
+            bytes: [0; 256],
+            len: 0,
+            written: Ok(()),
+        }
     }
 
-    fn flush(&mut self) -> io::Result<()> {
-        Ok(())
+    // Writes what is gathered.
+    fn flush(&mut self) -> io::Result<()>
+        ensures { self.new.len ≡ 0 }
+    {
+        let len = self.len;
+        self.len = 0;
+        if self.written.is_ok() {
+            self.written = put(self.to, &self.bytes[..len]);
+        }
+        self.written
     }
 
-    fn write_all(&mut self, buf: &[u8]) -> io::Result<()> {
-        put(self.0, buf)
+    // Writes what is left of the value, of one too whose formatting failed.
+    fn end(mut self, formatted: fmt::Result) -> io::Result<()> {
+        self.flush()?;
+        Ok(formatted?)
     }
 }
 
-// Standard output, to which the programs print.
+impl<P: Print> Write for Pieces<'_, P> {
+    fn write_str(&mut self, s: &str) -> fmt::Result {
+        for b in s.as_bytes() {
+            if self.len == 256 {
+                self.flush().map_err(|_| fmt::Error)?;
+            }
+            self.bytes[self.len] = *b;
+            self.len += 1;
+        }
+        Ok(())
+    }
+}
+
+// Standard output, to which the programs print: what the functions that write answers are handed, so that all of it goes by `put`.
 #[derive(Drop)]
 pub struct Answers<P>(pub P);
 
 impl<P: Print> Print for Answers<P> {
     fn print<D: Display + Drop>(&self, value: D) -> io::Result<()> {
-        Pieces(&self.0).write_fmt(value)
+        let mut pieces = Pieces::none(&self.0);
+        let formatted = pieces.write(value);
+        pieces.end(formatted)
     }
 
     fn println<D: Display + Drop>(&self, value: D) -> io::Result<()> {
-        Pieces(&self.0).writeln(value)
+        let mut pieces = Pieces::none(&self.0);
+        let formatted = pieces.writeln(value);
+        pieces.end(formatted)
     }
 
     fn write_all(&self, bytes: &[u8]) -> io::Result<()> {
