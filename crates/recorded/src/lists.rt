@@ -1,4 +1,6 @@
 // Lists of u32 in a case, with the low byte first.
+ghost use Rattle.std.specs.Prelude.{◌≤◌, length};
+
 use crate::answers::Fault;
 
 // Rooms for the numbers of a table's rows and of declared names: more than document 01 accepts (512 rows of 5, 1,024 handles
@@ -19,7 +21,9 @@ pub fn check_tables(rows: &[u8], declared: &[u8]) -> Result<(), Fault> {
 }
 
 // The u32 of a list, in the front of `room`, as many as it takes.
-pub fn unpack<'a>(list: &[u8], room: &'a mut [u32]) -> &'a [u32] {
+pub fn unpack<'a>(list: &[u8], room: &'a mut [u32]) -> &'a [u32]
+    ensures { length result.now ≤ length room.old }
+{
     let (words, _) = list.as_chunks::<4>();
     let n = words.len().min(room.len());
     let front = &mut room[..n];
