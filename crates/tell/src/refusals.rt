@@ -1,7 +1,8 @@
 // Refusals in words, on standard error: the number, what docs/REFUSALS.md says that it means (and what to do about it), and its
 // values.
 use crate::rooms::{MOST_FIELDS, MOST_IDS, PATH_BYTES, PAYLOAD_BYTES};
-use array::{PairRefusal, Refusal};
+use array::{Extent, PairRefusal, Refusal, Walked};
+use fastarray::Delta;
 use words::error;
 
 // What a number means: the table of docs/REFUSALS.md, word for word. It goes by numbers, as that table and the crates' `said` do.
@@ -39,10 +40,11 @@ fn need(err: &impl Print, before: &[u8], needed: u32, what: &[u8], room: usize) 
     error::say(err, format_args!(" (of {room})"));
 }
 
-// Why a struct or exact walk gives nothing; what it needs, beside what `vrf` has room for.
-pub fn unwalked(err: &impl Print, why: Refusal) {
-    refusal(err, array::said::said(Err(why)).number);
-    if let Refusal::Short(needs) = why {
+// Why a struct or exact walk gives nothing; what it needs, beside what `vrf` has room for. These three say of an accepted answer
+// that no refusal has its number, which is 0.
+pub fn unwalked(err: &impl Print, r: Result<Walked<Extent>, Refusal>) {
+    refusal(err, array::said::said(r).number);
+    if let Err(Refusal::Short(needs)) = r {
         need(err, b": needed ", needs.leaves, b" leaves", MOST_FIELDS);
         need(err, b", ", needs.path_bytes, b" path bytes", PATH_BYTES);
         need(
@@ -57,19 +59,18 @@ pub fn unwalked(err: &impl Print, why: Refusal) {
 }
 
 // The same of an object walk.
-pub fn unpaired(err: &impl Print, why: PairRefusal) {
-    refusal(err, array::said::pairs_said(Err(why)).number);
-    if let PairRefusal::Short(pairs) = why {
+pub fn unpaired(err: &impl Print, r: Result<Walked<u32>, PairRefusal>) {
+    refusal(err, array::said::pairs_said(r).number);
+    if let Err(PairRefusal::Short(pairs)) = r {
         need(err, b": needed ", pairs, b" pairs", MOST_FIELDS);
     }
     error::text(err, b"\n");
 }
 
 // The same of a fast-array body.
-pub fn no_body(err: &impl Print, why: fastarray::Refusal) {
-    let told = fastarray::said::said(Err(why));
-    refusal(err, told.number);
-    if let fastarray::Refusal::Short(needs) = why {
+pub fn no_body(err: &impl Print, r: Result<Delta, fastarray::Refusal>) {
+    refusal(err, fastarray::said::said(r).number);
+    if let Err(fastarray::Refusal::Short(needs)) = r {
         need(err, b": needed ", needs.deletes, b" deleted ids", MOST_IDS);
         need(err, b", ", needs.items, b" items", MOST_IDS);
         need(err, b", ", needs.fields, b" fields", MOST_FIELDS);

@@ -140,8 +140,8 @@ pub fn body(
     let r = fastarray::decode_fast_array_delta(payload, bits, mode, ids, items, fields);
     match r {
         Ok(delta) => say_body(out, delta, payload, bits, ids, items, fields),
-        Err(why) => {
-            refusals::no_body(err, why);
+        Err(_) => {
+            refusals::no_body(err, r);
             Ok(())
         }
     }

@@ -102,8 +102,8 @@ fn report(
             say_leaves(out, count, leaves, paths, payloads)?;
             verdicts::report(out, walked.stats, walked.verdict, walked.padded)
         }
-        Err(why) => {
-            refusals::unwalked(err, why);
+        Err(_) => {
+            refusals::unwalked(err, r);
             Ok(())
         }
     }
@@ -134,8 +134,8 @@ fn report_pairs(
             say_pairs(out, count, pairs)?;
             verdicts::report(out, walked.stats, walked.verdict, walked.padded)
         }
-        Err(why) => {
-            refusals::unpaired(err, why);
+        Err(_) => {
+            refusals::unpaired(err, r);
             Ok(())
         }
     }
