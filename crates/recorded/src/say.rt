@@ -1,5 +1,6 @@
 // What the program prints.
 use crate::answers::Fault;
+use std::convert::AsSlice;
 use std::{fmt, io};
 use words::error;
 
@@ -28,9 +29,11 @@ impl fmt::Display for Fault {
     }
 }
 
-// A line on standard error.
-pub fn failed(err: &impl Print, why: &str) {
-    error::say(err, format_args!("replay: {why}\n"));
+// A line on standard error, of text or any bytes.
+pub fn failed(err: &impl Print, why: impl AsSlice<u8> + Drop) {
+    error::text(err, b"replay: ");
+    error::text(err, why.as_slice());
+    error::text(err, b"\n");
 }
 
 // That a read failed, and why.

@@ -1,4 +1,5 @@
 // What is printed: columns and lines with a name.
+use std::convert::AsSlice;
 use std::io;
 
 // The widest column.
@@ -11,9 +12,10 @@ pub fn left(out: &impl Print, s: &[u8], width: usize) -> io::Result<()> {
     out.write_all(&[b' '; COLUMN][..blanks])
 }
 
-// A line with a name, and a number behind it.
-pub fn named(out: &impl Print, name: &str, x: u64) -> io::Result<()> {
-    println!(out; "{name:<24}{x}")
+// A line with a name, text or any bytes, and a number behind it.
+pub fn named(out: &impl Print, name: impl AsSlice<u8> + Drop, x: u64) -> io::Result<()> {
+    left(out, name.as_slice(), 24)?;
+    out.println(x)
 }
 
 // The n bytes from a, none where they don't lie in s.

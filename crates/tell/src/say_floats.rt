@@ -3,6 +3,8 @@
 // is exact. A value of 2^53 or more has no decimals here.
 ghost use Rattle.std.specs.Prelude.{◌≤◌};
 
+use crate::say;
+use std::convert::AsSlice;
 use std::io;
 use words::{double_bits, single_bits};
 
@@ -45,11 +47,12 @@ fn say_float(
 }
 
 // A line with a name, the pattern and the value.
-pub fn named_double(out: &impl Print, name: &str, x: f64) -> io::Result<()> {
+pub fn named_double(out: &impl Print, name: impl AsSlice<u8> + Drop, x: f64) -> io::Result<()> {
     let bits = double_bits(x);
     let fraction = bits % 0x10_0000_0000_0000;
     let exponent = bits / 0x10_0000_0000_0000 % 2048;
-    print!(out; "{name:<24}{bits:016x}  ")?;
+    say::left(out, name.as_slice(), 24)?;
+    print!(out; "{bits:016x}  ")?;
     say_float(
         out,
         0x8000_0000_0000_0000 <= bits,
@@ -61,11 +64,12 @@ pub fn named_double(out: &impl Print, name: &str, x: f64) -> io::Result<()> {
     out.println("")
 }
 
-pub fn named_single(out: &impl Print, name: &str, x: f32) -> io::Result<()> {
+pub fn named_single(out: &impl Print, name: impl AsSlice<u8> + Drop, x: f32) -> io::Result<()> {
     let bits = u64::from(single_bits(x));
     let fraction = bits % 0x80_0000;
     let exponent = bits / 0x80_0000 % 256;
-    print!(out; "{name:<24}{bits:08x}          ")?;
+    say::left(out, name.as_slice(), 24)?;
+    print!(out; "{bits:08x}          ")?;
     say_float(out, 0x8000_0000 <= bits, fraction, 0x80_0000, exponent, 150)?;
     out.println("")
 }
