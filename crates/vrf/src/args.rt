@@ -1,5 +1,5 @@
 // The command line. A word that is missing, or longer than a path, counts as an empty one, which nothing here is called.
-ghost use Rattle.std.specs.Prelude.{◌≤◌};
+ghost use Rattle.std.specs.Prelude.{◌≤◌, length};
 
 use crate::file;
 use bits::sizes::LONGEST_WINDOW;
@@ -37,7 +37,9 @@ pub enum Count {
 const WORD: usize = 4096;
 
 // A word of the command line, in the front of the room.
-fn word_at<'a>(rt: &impl Env, at: usize, room: &'a mut [u8]) -> &'a [u8] {
+fn word_at<'a>(rt: &impl Env, at: usize, room: &'a mut [u8]) -> &'a [u8]
+    ensures { length result.now ≤ length room.old }
+{
     let n = rt.arg(at, room).unwrap_or(0);
     &room[..n]
 }
