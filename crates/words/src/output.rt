@@ -109,13 +109,16 @@ impl<P: Print> Write for Pieces<'_, P> {
 #[derive(Drop)]
 pub struct Answers<P>(pub P);
 
+// `print` and `println` are calls: compiled into their callers, each would have its own pieces in the caller's stack.
 impl<P: Print> Print for Answers<P> {
+    #[inline(never)]
     fn print<D: Display + Drop>(&self, value: D) -> io::Result<()> {
         let mut pieces = Pieces::none(&self.0);
         let formatted = pieces.write(value);
         pieces.end(formatted)
     }
 
+    #[inline(never)]
     fn println<D: Display + Drop>(&self, value: D) -> io::Result<()> {
         let mut pieces = Pieces::none(&self.0);
         let formatted = pieces.writeln(value);
