@@ -81,6 +81,9 @@ module _ (k j : ℕ) (y : Float) (step : HasValue y false 45 (2 ^ j)) (h : k < 6
       mul_at binary32 (round binary32 false k 1) y false false k 1 45 (2 ^ j) (zero-lt-suc 0) (pow_pos j) (round_whole binary32 false k (omega arith)) step
       ∙ ap (λ (x : ℕ). round binary32 false x (1 * 2 ^ j)) (mul_comm k 45) ∙ ap (round binary32 false (45 * k)) (one-mul (2 ^ j))
 
+  pub steps_exact : HasValue (mul binary32 (of_int binary32 (pos k)) y) false (45 * k) (2 ^ j)
+  steps_exact = subst (λ (x : Float). HasValue x false (45 * k) (2 ^ j)) (sym steps) (dyadic false (45 * k) j (omega arith) J)
+
 -- k * 360 / 2 ^ w (01, Bits and numbers) is 45 * k / 2 ^ (w - 3)
 pub angle_over : (w k : ℕ) → 3 ≤ w → round binary32 false (45 * k) (2 ^ (w - 3)) ≡ angle w k
 angle_over w k lo =
@@ -93,7 +96,7 @@ angle_over w k lo =
     back : 3 ≤ w → w ≡ (w - 3) + 3
     back h = omega arith
 
--- ---- a number of at most 24 digits over a power of 2, as the reader divides it
+-- ---- a number of at most 24 digits over a power of 2
 pub whole_over : (n j : ℕ) → n ≤ 2 ^ 24 → j ≤ 24 → div binary32 (of_int binary32 (pos n)) (of_int binary32 (pos (2 ^ j))) ≡ round binary32 false n (2 ^ j)
 unfolding of_int
 whole_over n j h J =
@@ -116,6 +119,24 @@ module _ (w k : ℕ) (lo : 3 ≤ w) (hi : w ≤ 16) (few : k < 2 ^ w) where
   -- so made, it is that angle
   pub divided_angle : Angle w k (div binary32 (of_int binary32 (pos (45 * k))) (of_int binary32 (pos (2 ^ (w - 3)))))
   divided_angle = subst (Angle w k) (sym (whole_over (45 * k) (w - 3) (omega (arith, small)) (omega arith) ∙ angle_over w k lo)) exact_angle
+
+-- one step, 360 / 2 ^ w as binary32 divides it: exactly 45 / 2 ^ (w - 3)
+step_exact : (w : ℕ) → 3 ≤ w → w ≤ 16 → HasValue (div binary32 (of_int binary32 (pos 360)) (of_int binary32 (pos (2 ^ w)))) false 45 (2 ^ (w - 3))
+step_exact w lo hi =
+    let more : 2 ^ 3 ≤ 2 ^ w = pow_mono {i = 3} {j = w} lo in
+    subst (λ (x : Float). HasValue x false 45 (2 ^ (w - 3))) (sym (whole_over 360 w (omega arith) (omega arith))) (exact_angle w 1 lo hi (omega (arith, more))).exact
+
+-- the number of steps times the step: that angle too
+pub product_angle : (w k : ℕ) → 3 ≤ w → w ≤ 16 → k < 2 ^ w
+    → Angle w k (mul binary32 (of_int binary32 (pos k)) (div binary32 (of_int binary32 (pos 360)) (of_int binary32 (pos (2 ^ w)))))
+product_angle w k lo hi few =
+    let step = div binary32 (of_int binary32 (pos 360)) (of_int binary32 (pos (2 ^ w))) in
+    let most : 2 ^ w ≤ 2 ^ 16 = pow_mono {i = w} {j = 16} hi in
+    let short : k < 65536 = omega (arith, most) in
+    record {
+      value = steps k (w - 3) step (step_exact w lo hi) short (omega arith) ∙ angle_over w k lo;
+      exact = steps_exact k (w - 3) step (step_exact w lo hi) short (omega arith);
+    }
 
 -- the angle of 0 is +0
 pub angle_zero : (angle 8 0 ≡ fin false 0 (pos 0)) × (angle 16 0 ≡ fin false 0 (pos 0))

@@ -27,13 +27,16 @@ pub fn normal_axis(k: u32) -> f64
     (((k as i32) - 32768) as f64) / 32767.0
 }
 
-// k steps of 360 / 2^W degrees: 45 k, a byte's entry in the table, over 2^(W - 3).
+// k steps of 360 / 2^W degrees. Of a byte: the table's entry, worked out, over 32.
 pub fn angle<const W: u64>(k: u32) -> f32
     requires width { (8 ≤ W) × (W ≤ 16) }
     requires steps { k < 2 ^ W }
     ensures { Angle W k result }
 {
-    (byte_angles::worked_out(k) as f32) / ((1u32 << (W - 3)) as f32)
+    if W == 8 {
+        return (byte_angles::worked_out(k) as f32) / 32.0;
+    }
+    (k as f32) * (360.0 / ((1u32 << W) as f32))
 }
 
 // The format of a float that is read as a pattern.
