@@ -120,23 +120,26 @@ module _ (w k : ℕ) (lo : 3 ≤ w) (hi : w ≤ 16) (few : k < 2 ^ w) where
   pub divided_angle : Angle w k (div binary32 (of_int binary32 (pos (45 * k))) (of_int binary32 (pos (2 ^ (w - 3)))))
   divided_angle = subst (Angle w k) (sym (whole_over (45 * k) (w - 3) (omega (arith, small)) (omega arith) ∙ angle_over w k lo)) exact_angle
 
--- one step, 360 / 2 ^ w as binary32 divides it: exactly 45 / 2 ^ (w - 3)
-step_exact : (w : ℕ) → 3 ≤ w → w ≤ 16 → HasValue (div binary32 (of_int binary32 (pos 360)) (of_int binary32 (pos (2 ^ w)))) false 45 (2 ^ (w - 3))
-step_exact w lo hi =
-    let more : 2 ^ 3 ≤ 2 ^ w = pow_mono {i = 3} {j = w} lo in
-    subst (λ (x : Float). HasValue x false 45 (2 ^ (w - 3))) (sym (whole_over 360 w (omega arith) (omega arith))) (exact_angle w 1 lo hi (omega (arith, more))).exact
+-- k steps of 360 / 2 ^ w, y being the step: their product is that angle too
+pub product_angle : (w k : ℕ) (y : Float) → 3 ≤ w → w ≤ 16 → HasValue y false 45 (2 ^ (w - 3)) → k < 65536 → Angle w k (mul binary32 (of_int binary32 (pos k)) y)
+product_angle w k y lo hi step h =
+    record { value = steps k (w - 3) y step h (omega arith) ∙ angle_over w k lo; exact = steps_exact k (w - 3) y step h (omega arith) }
 
--- the number of steps times the step: that angle too
-pub product_angle : (w k : ℕ) → 3 ≤ w → w ≤ 16 → k < 2 ^ w
-    → Angle w k (mul binary32 (of_int binary32 (pos k)) (div binary32 (of_int binary32 (pos 360)) (of_int binary32 (pos (2 ^ w)))))
-product_angle w k lo hi few =
-    let step = div binary32 (of_int binary32 (pos 360)) (of_int binary32 (pos (2 ^ w))) in
-    let most : 2 ^ w ≤ 2 ^ 16 = pow_mono {i = w} {j = 16} hi in
-    let short : k < 65536 = omega (arith, most) in
-    record {
-      value = steps k (w - 3) step (step_exact w lo hi) short (omega arith) ∙ angle_over w k lo;
-      exact = steps_exact k (w - 3) step (step_exact w lo hi) short (omega arith);
-    }
+-- k steps of w bits are k * 2 ^ (16 - w) steps of 16 bits
+module _ (w k : ℕ) (hi : w ≤ 16) (few : k < 2 ^ w) where
+  back_to_16 : w + (16 - w) ≡ 16
+  back_to_16 = omega arith
+
+  pub short_steps : k * 2 ^ (16 - w) < 65536
+  short_steps = subst (λ (x : ℕ). k * 2 ^ (16 - w) < 2 ^ x) back_to_16 (shl_lt {a = k} w (16 - w) few)
+
+  pub as_short : (r : Float) → 3 ≤ w → Angle 16 (k * 2 ^ (16 - w)) r → Angle w k r
+  as_short r lo a =
+      let q = 2 ^ (16 - w) in
+      let whole : q * 2 ^ w ≡ 65536 = mul_comm q (2 ^ w) ∙ sym (pow-add 2 w (16 - w)) ∙ ap (λ (x : ℕ). 2 ^ x) back_to_16 in
+      let cross : k * q * 360 * 2 ^ w ≡ k * 360 * 65536 = mul_assoc (k * q) 360 (2 ^ w) ∙ mul-mul-mul_comm k q 360 (2 ^ w) ∙ ap (λ (x : ℕ). k * 360 * x) whole in
+      let value : r ≡ angle w k = a.value ∙ round_same binary32 false (k * q * 360) 65536 (k * 360) (2 ^ w) (zero-lt-suc 65535) (pow_pos w) cross in
+      subst (Angle w k) (sym value) (exact_angle w k lo hi few)
 
 -- the angle of 0 is +0
 pub angle_zero : (angle 8 0 ≡ fin false 0 (pos 0)) × (angle 16 0 ≡ fin false 0 (pos 0))

@@ -30,8 +30,8 @@ pub fn entry(k: u32) -> u32
     THIRTY_SECONDS[k as usize]
 }
 
-// The table's entry without the table, for the rotation reader, and so on for steps of 16 bits: where a table is read the compiler
-// first builds it on the stack, and a rotation would take twice the time (docs/DECISIONS.md, 87).
+// The table's entry without the table, for the rotation reader: where a table is read the compiler first builds it on the
+// stack, and a rotation would take twice the time (docs/DECISIONS.md, 87).
 pub fn worked_out(k: u32) -> u32
     requires { k < 65536 }
     ensures { result ≡ thirty_seconds k }

@@ -27,7 +27,8 @@ pub fn normal_axis(k: u32) -> f64
     (((k as i32) - 32768) as f64) / 32767.0
 }
 
-// k steps of 360 / 2^W degrees. Of a byte: the table's entry, worked out, over 32.
+// k steps of 360 / 2^W degrees. Of a byte: the table's entry, worked out, over 32. Else as steps of 360 / 65,536, which k is of 16 bits;
+// the constant is written out, since a division by a number that W gives is made anew for each angle.
 pub fn angle<const W: u64>(k: u32) -> f32
     requires width { (8 ≤ W) × (W ≤ 16) }
     requires steps { k < 2 ^ W }
@@ -36,7 +37,7 @@ pub fn angle<const W: u64>(k: u32) -> f32
     if W == 8 {
         return (byte_angles::worked_out(k) as f32) / 32.0;
     }
-    (k as f32) * (360.0 / ((1u32 << W) as f32))
+    ((k << (16 - W)) as f32) * (360.0 / 65536.0)
 }
 
 // The format of a float that is read as a pattern.
