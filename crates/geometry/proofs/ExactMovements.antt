@@ -14,7 +14,7 @@ use Rattle.geometry.specs.Parts.{at, unread}
 use Rattle.geometry.specs.Vectors.{quantized_at}
 use Rattle.geometry.specs.Rotations.{rotation_at}
 use Rattle.geometry.specs.Movements.{width_of, scale_of, velocity_scale, flags_at, pose_at, spin_at, flagged_at, extras_at, movement_at, read_movement}
-use Rattle.geometry.proofs.ExactAngles.{at_width}
+use Rattle.geometry.proofs.ExactAngles.{at_short_width}
 use Rattle.geometry.proofs.FiniteVectors.{quantized_finite}
 use Rattle.geometry.proofs.PartLaws.{then_holds}
 use Rattle.geometry.specs.declared.Vector.{Vector}
@@ -82,7 +82,7 @@ module _ (s : List ℕ) (rotation : RotatorQuantization) (location : VectorQuant
       then_holds (Posed w) (λ r. tt) (quantized_at s velocity_scale (at c r.next)) _ (λ v e₃.
       record {
         location_is = quantized_finite s (scale_of location) c l e₁;
-        rotation_is = at_width w (wide_enough rotation) (not_too_wide rotation) s (at c l.next) r e₂;
+        rotation_is = at_short_width w (wide_enough rotation) (not_too_wide rotation) s (at c l.next) r e₂;
         linear_is = quantized_finite s velocity_scale (at c r.next) v e₃;
       })))
 

@@ -13,10 +13,10 @@ use Rattle.bits.specs.Bits.{field}
 use Rattle.bits.proofs.FieldLaws.{field_lt}
 use Rattle.bits.proofs.ChoiceLaws.{by_cases}
 use Rattle.bits.proofs.Never.{never}
-use Rattle.bitio.specs.Cursors.{window}
+use Rattle.bitio.specs.Cursors.{good, window, bad_cursor_lem, at_cursor, position_of}
 use Rattle.bitio.specs.Reads.{read_bit_lem, read_bits_lem, widest_read}
 use Rattle.bitio.specs.Numbers.{log2, serialized_top, serialized_at, read_serialized_int_lem}
-use Rattle.bitio.proofs.CursorLaws.{at_holds, asking_holds}
+use Rattle.bitio.proofs.CursorLaws.{at_bad, at_good, at_holds, asking_holds}
 use Rattle.bitio.proofs.NumberLaws.{log2_zeros}
 use Rattle.bitio.specs.declared.Cursor.{Cursor}
 use Rattle.bitio.specs.declared.Read.{Read}
@@ -39,6 +39,25 @@ unfolding unread
 was_read (Ok y) x e = cc
 was_read (Err r) x e = let z : ◌≡◌ {A = ℕ} 0 1 = cc in never z
 
+-- a read at a cursor that was moved to d: what the call gave is what the definition gives there
+pub come : {A : Type 0} (f : Cursor → A) {c d : Cursor} {b k : A} → c ≡ d → b ≡ f c → b ≡ k → f d ≡ k
+come f m e g = sym (ap f m) ∙ sym e ∙ g
+
+-- three parts: the first, the second or the third is refused
+module _ (s : List ℕ) (part : Part) (c : Cursor) {r : bitio.Refusal} where
+  pub first_refused : Err r ≡ part_at s part c → Err r ≡ three_at s part c
+  unfolding three_at and_then
+  first_refused e = let e' = sym e in rw e'
+
+  pub second_refused : {x : Read ℕ} → Ok x ≡ part_at s part c → Err r ≡ part_at s part (at c x.next) → Err r ≡ three_at s part c
+  unfolding three_at and_then
+  second_refused e f = let e' = sym e in let f' = sym f in rw (e', f')
+
+  pub third_refused : {x y : Read ℕ} → Ok x ≡ part_at s part c → Ok y ≡ part_at s part (at c x.next) → Err r ≡ part_at s part (at c y.next)
+      → Err r ≡ three_at s part c
+  unfolding three_at and_then
+  third_refused e f g = let e' = sym e in let f' = sym f in let g' = sym g in rw (e', f', g')
+
 -- three parts that were read
 pub three_read : (s : List ℕ) (part : Part) (c : Cursor) {x y z : Read ℕ} → Ok x ≡ part_at s part c → Ok y ≡ part_at s part (at c x.next)
     → Ok z ≡ part_at s part (at c y.next) → Ok (up_to (three x.value y.value z.value) z.next) ≡ three_at s part c
@@ -54,6 +73,10 @@ module _ (s : List ℕ) (c : Cursor) (w p : ℕ) where
   pub axis_clear : Ok (up_to false p) ≡ read_bit_lem s c → Ok (up_to 0 p) ≡ axis_at s c w
   unfolding axis_after and_then
   axis_clear e = let e' = sym e in rw e'
+
+pub axis_refused : (s : List ℕ) (c : Cursor) (w : ℕ) {r : bitio.Refusal} → Err r ≡ read_bit_lem s c → Err r ≡ axis_at s c w
+unfolding and_then
+axis_refused s c w e = let e' = sym e in rw e'
 
 -- ---- how large a number is
 abbrev pub ValueBelow : (m : ℕ) → Result (Read ℕ) bitio.Refusal → Type 0
@@ -99,6 +122,9 @@ serialized_below s m lo hi c =
     by_cases (eqb m 0) (λ e. rw e tt)
     (λ e. rw e (asking_holds c.len c.pos (log2 m) _ (ValueBelow m) (λ r. tt)
     (λ k. top_below (window s c) c.len m (log2 m) (field (window s c) c.pos (log2 m)) (c.pos + log2 m) (field_lt (window s c) c.pos (log2 m)) (log2_zeros m lo hi).2))))
+
+pub serialized_lt : (s : List ℕ) (m : ℕ) → 0 < m → m < 2 ^ 32 → (c : Cursor) {x : Read ℕ} → Ok x ≡ read_serialized_int_lem s c m → x.value < m
+serialized_lt s m lo hi c e = subst (ValueBelow m) (sym e) (serialized_below s m lo hi c)
 
 -- three numbers below m, each of which is
 abbrev AllBelow : (m : ℕ) → Result (Read Three) bitio.Refusal → Type 0
@@ -147,6 +173,10 @@ module _ (s : List ℕ) (c : Cursor) {t : Read Three} where
       (λ k. rw k (together_below w (read_bits_lem s c (3 * w))))
       (λ k. rw k (three_below s (Bits w) (2 ^ w) (bits_below s w) c)))
 
+-- the three numbers of a value
+pub below_at : {m : ℕ} {t : Three} {x y z : ℕ} → t ≡ three x y z → Below m t → (x < m) × (y < m) × (z < m)
+below_at {m} e b = let k = subst (Below m) e b in (k.below_x, k.below_y, k.below_z)
+
 -- ---- components: one read, or three
 module _ (s : List ℕ) (w : ℕ) (c : Cursor) {t : Result (Read Three) bitio.Refusal} where
   pub one_read : 3 * w ≤ 64 → t ≡ together w (read_bits_lem s c (3 * w)) → t ≡ components_at s w c
@@ -161,9 +191,38 @@ module _ (s : List ℕ) (w : ℕ) (c : Cursor) {t : Result (Read Three) bitio.Re
 pub size_is : (w : ℕ) → w ≤ 21 → (1 * 2 ^ w) % 18446744073709551616 ≡ 2 ^ w
 size_is w h = shl_exact 1 w 64 (omega arith) (omega arith) ∙ one-mul (2 ^ w)
 
+pub size_pos : (w : ℕ) → w ≤ 21 → 0 < (1 * 2 ^ w) % 18446744073709551616
+size_pos w h = rw (size_is w h) (pow_pos w)
+
 pub apart_is : (w x : ℕ) → w ≤ 21 →
     let size = (1 * 2 ^ w) % 18446744073709551616 in
     three (x % size) (x / 2 ^ w % size) (x / 2 ^ (2 * w) % size) ≡ apart w x
 unfolding field
 apart_is w x h =
     rw (size_is w h) (ap (λ (k : ℕ). three (k % 2 ^ w) (x / 2 ^ w % 2 ^ w) (x / 2 ^ (2 * w) % 2 ^ w)) (sym (div-one x)))
+
+pub together_refused : (w : ℕ) {b : Result (Read ℕ) bitio.Refusal} {r : bitio.Refusal} → b ≡ Err r → Err r ≡ together w b
+unfolding together and_then
+together_refused w g = rw g
+
+-- ---- the test of a cursor, by asking for its position
+apart_answers : {x : ℕ} {r : bitio.Refusal} → ◌≡◌ {A = Result ℕ bitio.Refusal} (Ok x) (Err r) → ◌≡◌ {A = ℕ} 0 1
+apart_answers e = cc
+
+same_refusal : {r q : bitio.Refusal} → ◌≡◌ {A = Result ℕ bitio.Refusal} (Err r) (Err q) → r ≡ q
+same_refusal e = cc
+
+module _ (s : List ℕ) (c : Cursor) {A : Type 0} (inside : Result A bitio.Refusal) {m : Result ℕ bitio.Refusal} (e : m ≡ position_of s c) where
+  pub past_test : {n : ℕ} {x : Result A bitio.Refusal} → m ≡ Ok n → x ≡ inside → x ≡ at_cursor s c (λ W. inside)
+  past_test g k =
+      by_cases (good s c)
+      (λ t. k ∙ sym (at_good s c (λ W. inside) t))
+      (λ t. never (apart_answers (sym g ∙ e ∙ at_bad s c (λ W. Ok c.pos) t)))
+
+  pub at_test : {r : bitio.Refusal} → m ≡ Err r → Err r ≡ at_cursor s c (λ W. inside)
+  at_test {r} g =
+      by_cases (good s c)
+      (λ t. never (apart_answers (sym (at_good s c (λ W. Ok c.pos) t) ∙ sym e ∙ g)))
+      (λ t.
+      let q : r ≡ bad_cursor_lem s c = same_refusal (sym g ∙ e ∙ at_bad s c (λ W. Ok c.pos) t) in
+      ap Err q ∙ sym (at_bad s c (λ W. inside) t))
