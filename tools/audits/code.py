@@ -218,6 +218,14 @@ class Code:
                     if given in self.modules[owner, place].items:
                         yield owner, place, given
 
+    def answering_bodies(self, crate):
+        """(path, where it starts, where it ends) of the body of each function of a crate that has an `ensures`."""
+        for (owner, module), path in self.paths.items():
+            for item in self.modules[owner, module].items.values() if owner == crate else ():
+                ends = [end for _, _, _, end in clauses_in(item.text)]
+                if item.kind == "fn" and ends and "ensures" in item.text[: ends[-1]]:
+                    yield path, item.start + ends[-1], item.end
+
     def clauses(self, node):
         """The propositions that an item's contract states."""
         text = self.item(node).text

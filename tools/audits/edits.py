@@ -4,6 +4,8 @@ its file once, and it touches the items and declarations that these texts stand 
 """
 from dataclasses import dataclass
 
+from .code import without_comments
+
 FOLDERS = ["crates/*/must-fail/*.edit", "edits/*/*.edit"]
 
 
@@ -86,8 +88,12 @@ def touched(repository, code, definitions, edit):
     return found
 
 
-def begins_in(repository, edit, path, start, end):
-    """Whether the first text that an edit changes stands there."""
-    file, old, _ = edit.changes[0] if edit.changes else ("", "", "")
-    at = repository.text(path).find(old) if file == path else -1
-    return at >= 0 and start <= at + len(old) - len(old.lstrip()) < end
+def stays_in(repository, edit, path, start, end):
+    """Whether every text that an edit changes stands there, none of them in a comment."""
+    plain = without_comments(repository.text(path))
+
+    def stands(file, old):
+        at = plain.find(old) if file == path else -1
+        return at >= 0 and start <= at + len(old) - len(old.lstrip()) < end
+
+    return bool(edit.changes) and all(stands(file, old) for file, old, _ in edit.changes)

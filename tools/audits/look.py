@@ -6,7 +6,7 @@ from .code import Code
 from .contracts import cited, contract_of, relations_exist
 from .definitions import Definitions
 from .documents import names_exist, no_machine, sections_exist, tried_exist
-from .edits import begins_in, edits_of, touched
+from .edits import edits_of, stays_in, touched
 from .interface import interface_is_one
 from .merge_shapes import judged_by
 from .reach import Reach
@@ -54,9 +54,12 @@ def look(root):
         file = theorems.get("one", "proofs/none").split("/")[1]
         seen.rows[call.name] = row_of(call, named, f"{file}.one_{call.short}", tried)
     judged_by(seen.contracts, report)
-    aside = {name for name, edit in seen.edits.items() if edit.crate in TESTED and any(node[0] == "code" and code.clauses(node[1:]) for node in changed[name])}
+    aside = {
+        name for name, edit in seen.edits.items() if edit.crate in TESTED
+        and any(stays_in(repository, edit, *body) for body in code.answering_bodies(edit.crate))
+    }
     for conversion in conversions(code):
-        wrong = {name for name, edit in seen.edits.items() if begins_in(repository, edit, conversion.path, conversion.start, conversion.end)}
+        wrong = {name for name, edit in seen.edits.items() if stays_in(repository, edit, conversion.path, conversion.start, conversion.end)}
         report.hold(wrong, f"{conversion.path}: no edit is a wrong answer of {conversion.name}")
         aside |= wrong
     for name in sorted(set(seen.edits) - set().union(*seen.tried.values()) - aside):

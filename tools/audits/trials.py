@@ -67,6 +67,10 @@ TRIALS = [
      [GEOMETRY, "From<Cursor> for Refusal"]),
     ("an edit of tests' functions that touches no contract", "edits/probes/number_given_stays.edit", "old: Ok(x) => value_given(x.value.into(), 0, false, x.next),", "old: use crate::{VrfProbe, VrfProbeCursor};",
      ["edits/probes/number_given_stays.edit", "touches nothing"]),
+    ("an edit of what tests' functions promise", "edits/probes/number_given_stays.edit", "old: Ok(x) => value_given(x.value.into(), 0, false, x.next),",
+     "old: MatchResult a (λ x. NumberGiven (T.converts x.value) x.next result)", ["edits/probes/number_given_stays.edit", "touches nothing"]),
+    ("a wrong answer of a conversion that turns what it says too", "edits/geometry/reader_refusal_is_not_finite.edit",
+     "old:         Refusal::Unread(r)", "old: why ≡ Unread r\nnew: why ≡ NotFinite 0\nold:         Refusal::Unread(r)", [GEOMETRY, "From<bitio::Refusal> for Refusal"]),
     ("a public call that doesn't begin its line", BITIO, "// A reader of all bits.", "  pub fn left(c: Cursor) -> u64 {\n    c.len\n  }\n\n// A reader of all bits.", [BITIO, "left"]),
     # ---- theorems
     ("outside_open emptied", f"{PROOFS}/OutsideReads.antt", "opened s n ≡ opened t n", "n ≡ n", ["bitio::open", "outside_open"]),

@@ -13,11 +13,12 @@ use Rattle.bits.specs.TwosComplement.{twos}
 use Rattle.bits.proofs.TwosLaws.{twos_bound}
 use Rattle.floats.proofs.Finite.{quotient_finite}
 use Rattle.bitio.specs.Reads.{read_bits_lem}
+use Rattle.bitio.specs.Numbers.{read_serialized_int_lem}
 use Rattle.bitio.specs.declared.Cursor.{Cursor}
 use Rattle.bitio.specs.declared.Read.{Read}
 use Rattle.bitio.specs.declared.Refusal as bitio
 use Rattle.geometry.specs.Parts.{at, and_then, unread, three_at, components_at, Below}
-use Rattle.geometry.specs.Vectors.{components, checked, vector_of, integer_over, divisor, vector_behind, quantized_at}
+use Rattle.geometry.specs.Vectors.{components, checked, vector_of, integer_over, divisor, vector_behind, header_maximum, quantized_at}
 use Rattle.geometry.proofs.RoomLaws.{power_maximum}
 use Rattle.geometry.specs.declared.Vector.{Vector}
 use Rattle.geometry.specs.declared.Refusal.{Refusal}
@@ -104,9 +105,12 @@ pub integers_read : (w d : ℕ) {r : Result (Read Three) bitio.Refusal} {t : Rea
 integers_read w d {t = t} lo hi D E b e ev = ap Ok ev ∙ vector_read (integer_over w d) e (integers_checked w d t lo hi D E b)
 
 -- ---- a header is seven bits
+header_bits_lem : (s : List ℕ) (c : Cursor) → read_serialized_int_lem s c header_maximum ≡ read_bits_lem s c 7
+header_bits_lem s c = power_maximum s c 7 (omega arith)
+
 pub by_seven_bits : (s : List ℕ) (scale : ℕ) (c : Cursor)
     → quantized_at s scale c ≡ and_then (unread (read_bits_lem s c 7)) (λ h. vector_behind s scale (h.value % 64) (h.value / 64) (at c h.next))
 unfolding quantized_at
 by_seven_bits s scale c =
     ap (λ (r : Result (Read ℕ) bitio.Refusal). and_then (unread r) (λ h. vector_behind s scale (h.value % 64) (h.value / 64) (at c h.next)))
-    (power_maximum s c 7 (omega arith))
+    (header_bits_lem s c)
