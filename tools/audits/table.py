@@ -42,7 +42,7 @@ def by_crate(names):
 
 def lists_below(text, tried, edits, aside):
     """What stands below the table: the edits that the document names nowhere else, and those that no call rests on, among them those of
-    conversions and of what tests are given."""
+    conversions and of functions of tests and of programs."""
     m = SECTION.search(text)
     elsewhere = set(re.findall(r"\w+", text[: m.start()] + text[m.end() :] if m else text))
     shown = {name for held in tried.values() for name in held[:2]}
@@ -50,7 +50,7 @@ def lists_below(text, tried, edits, aside):
     besides = [name for name in sorted(reached - shown) if name.split("/")[1] not in elsewhere]
     beyond, apart = sorted(set(edits) - reached - aside), sorted(aside - reached)
     below = f"\nEdits of what some call rests on, besides: {by_crate(besides)}.\n" if besides else ""
-    below += f"\nEdits of conversions (`From`) that callers can make, and of functions that tests are given: {by_crate(apart)}.\n" if apart else ""
+    below += f"\nEdits of conversions (`From`) that callers can make, and of functions of tests and of programs: {by_crate(apart)}.\n" if apart else ""
     return below + (f"\nEdits of definitions that no call rests on, but a theorem does: {by_crate(beyond)}.\n" if beyond else "")
 
 
