@@ -14,6 +14,8 @@ ITEM = re.compile(
 )
 TRAIT = re.compile(r"^(?P<open>pub(?:\([^)\n]*\))? )?trait (?P<name>\w+)[^\n{]*\{$", re.M)
 IMPL = re.compile(r"^impl (?P<trait>\w+) for (?P<type>\w+) \{$", re.M)
+GIVEN = re.compile(r"^impl\b[^\n{]*\bfor\b[^\n{]*\{$", re.M)
+METHOD = re.compile(r"^    (?:[a-z]+ )*fn \w+.*?^    \}$", re.M | re.S)
 AT_TYPE = re.compile(r"(?<![\w.'])(?P<path>[A-Za-z_]\w*(?:::[A-Za-z_]\w*)*)::<(?P<type>\w+)>\(")
 USE = re.compile(r"^(?P<open>pub(?:\([^)\n]*\))? )?use (?P<path>[^;]+);", re.M)
 MOD = re.compile(r"^(?P<open>pub(?:\([^)\n]*\))? )?mod (?P<name>\w+)(?P<end>;| \{)", re.M)
@@ -219,12 +221,20 @@ class Code:
                         yield owner, place, given
 
     def answering_bodies(self, crate):
-        """(path, where it starts, where it ends) of the body of each function of a crate that has an `ensures`."""
+        """(path, where it starts, where it ends) of the body of each function of a crate that has an `ensures`, and of each method
+        that it gives for a trait, which says what its methods owe."""
         for (owner, module), path in self.paths.items():
-            for item in self.modules[owner, module].items.values() if owner == crate else ():
+            if owner != crate:
+                continue
+            for item in self.modules[owner, module].items.values():
                 ends = [end for _, _, _, end in clauses_in(item.text)]
                 if item.kind == "fn" and ends and "ensures" in item.text[: ends[-1]]:
                     yield path, item.start + ends[-1], item.end
+            plain = without_comments(self.repository.text(path))
+            for m in GIVEN.finditer(plain):
+                for method in METHOD.finditer(plain, m.end(), plain.index("\n}", m.end())):
+                    ends = [end for _, _, _, end in clauses_in(method[0])]
+                    yield path, method.start() + (ends[-1] if ends else method[0].index("{")), method.end()
 
     def clauses(self, node):
         """The propositions that an item's contract states."""

@@ -9,8 +9,8 @@ from pathlib import Path
 PUBLIC = ["bitio", "schema", "array", "fastarray", "geometry", "exports"]
 # modules of other crates that they may name too: (crate, module)
 PUBLIC_MODULES = [("bits", "digits"), ("bits", "decimal")]
-# crates whose functions no caller outside is given: those of tests and of programs
-TESTED = ["probes", "recorded", "vrf"]
+# crates of which nothing is promised to callers: those of tests and of programs
+TESTED = ["probes", "recorded", "vrf", "words"]
 
 
 class Repository:

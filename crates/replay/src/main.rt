@@ -73,7 +73,7 @@ use std::io;
 use std::io::{Read, Seek};
 use std::rt::Files;
 use walked::trials;
-use words::{Answers, input};
+use words::{Gathered, input};
 
 // How far the replay has come.
 #[derive(Clone, Copy)]
@@ -207,7 +207,7 @@ fn run_named<R: Files>(rt: &R, out: &impl Print, err: &impl Print, path: &[u8]) 
 }
 
 fn main(rt: HostRuntime) {
-    let out = Answers(rt.stdout());
+    let out = Gathered(rt.stdout());
     let err = rt.stderr();
     let mut path = [0u8; 4096];
     match rt.arg(1, &mut path) {

@@ -17,7 +17,7 @@ use std::env::Env;
 use std::io;
 use std::rt::Files;
 use tell::levels;
-use words::{Answers, error};
+use words::{Gathered, error};
 
 fn usage(err: &impl Print) {
     error::say(err, "usage: vrf walk KIND FILE [BITS]\n");
@@ -83,7 +83,7 @@ fn answer<R: Env + Files>(rt: &R, out: &impl Print, err: &impl Print) -> io::Res
 }
 
 fn main(rt: HostRuntime) {
-    let out = Answers(rt.stdout());
+    let out = Gathered(rt.stdout());
     let err = rt.stderr();
     if let Err(why) = answer(&rt, &out, &err) {
         words::end_output(&err, why);

@@ -7,11 +7,13 @@
 
 use std::fmt;
 
+mod answers;
 pub mod error;
 pub mod input;
 mod output;
 
-pub use output::{Answers, end_output};
+pub use answers::Answers;
+pub use output::{Gathered, end_output};
 
 // Bytes in hex, or `-` for none.
 #[derive(Clone, Copy)]

@@ -107,10 +107,10 @@ impl<P: Print> Write for Pieces<'_, P> {
 
 // Standard output, to which the programs print: what the functions that write answers are handed, so that all of it goes by `put`.
 #[derive(Drop)]
-pub struct Answers<P>(pub P);
+pub struct Gathered<P>(pub P);
 
 // `print` and `println` are calls: compiled into their callers, each would have its own pieces in the caller's stack.
-impl<P: Print> Print for Answers<P> {
+impl<P: Print> Print for Gathered<P> {
     #[inline(never)]
     fn print<D: Display + Drop>(&self, value: D) -> io::Result<()> {
         let mut pieces = Pieces::none(&self.0);
